@@ -1,0 +1,103 @@
+-- Laws of marks: what the code's stores note, what a mark resumes, and where the operation due is sought.
+use mathlib.Core.Path.{_≡_, refl, sym, ap, _∙_}
+use mathlib.Core.Bool.{cond}
+use mathlib.Core.List.{List, [], _∷_}
+use Prim.Native.Nat.{ℕ, zero, suc, _+_, _*_, _-_, _<_, _≤_}
+use native.Mathlib.Nat.{add-sub-of-le}
+use native.Mathlib.Numerals.{add-one}
+use native.Mathlib.Omega.{arith}
+use lib.Dec.{leb}
+use lib.ListN.{length, getD, set, drop, length-set}
+use lib.Seq.{length-sets, getD-set-same, getD-set-other, drop-drop}
+use borrow.Author.Count.{below-more}
+use borrow.Author.Tests.{le-leb, lt-leb, leb-true}
+use Rattle.words.proofs.Stores.{sets-before}
+use Rattle.journal.specs.declared.marks.Place.{Place}
+use Rattle.journal.specs.declared.stride.Position.{Position}
+use Rattle.journal.specs.Journal.{entries}
+use Rattle.journal.specs.Reportable.{chosen}
+use Rattle.journal.specs.Marks.{count, Resumes, Marked, sought}
+use Rattle.journal.specs.Scanning.{Reached, Noted, kept, added}
+use Rattle.journal.proofs.Choice.{choose}
+
+-- ---- marks noted
+
+-- the code's two stores note a place, for `note`
+pub noted-stores : (m : List ℕ) (n : ℕ) (p : Position) → n < 64 → Noted m n p (set (set m (2 * n) (p .at)) (2 * n + 1) (p .counts)) (n + 1)
+noted-stores m n p h = rw (add-one (2 * n)) (added h)
+
+-- noting keeps the length, which `marked-note` asks for at the scan's next note
+pub noted-length : (m : List ℕ) (n : ℕ) (p : Position) (m′ : List ℕ) (r : ℕ) → Noted m n p m′ r → length m′ ≡ length m
+noted-length m n p m′ r kept = refl
+noted-length m n p m′ r (added h) = length-sets m (2 * n) (p .at ∷ p .counts ∷ [])
+
+-- no marks are true marks: the scan's start
+pub marked-none : (row j m : List ℕ) → Marked row j m 0
+marked-none row j m = record { few = omega arith; each = λ i code h. absurd (omega arith) }
+
+-- a place that the scan came to resumes the list of each opcode
+reached-resumes : (row j : List ℕ) (p : Position) (code : ℕ) → Reached row j p → 1 ≤ code → code ≤ 3 → Resumes row j code (count code (p .counts)) (p .at) 0
+reached-resumes row j p code r a b = record { inside = r .inside; same = r .before code a b .rest }
+
+-- the marks stay true when such a place is noted: the scan's turn
+pub marked-note : (row j m : List ℕ) (n : ℕ) (p : Position) (m′ : List ℕ) (r : ℕ) → length m ≡ 128 → Reached row j p → Marked row j m n → Noted m n p m′ r → Marked row j m′ r
+marked-note row j m n p m′ r l reached marked kept = marked
+marked-note row j m n p m′ r l reached marked (added h) =
+    let first = set m (2 * n) (p .at) in
+    let new = set first (suc (2 * n)) (p .counts) in
+    let at-is : getD new (2 * n) 0 ≡ p .at = getD-set-other first (suc (2 * n)) (2 * n) (p .counts) 0 (λ e. omega arith) ∙ getD-set-same m (2 * n) (p .at) 0 (omega arith) in
+    let counts-is : getD new (suc (2 * n)) 0 ≡ p .counts = getD-set-same first (suc (2 * n)) (p .counts) 0 (simp length-set (omega arith)) in
+    let old : (k : ℕ) → k < 2 * n → getD new k 0 ≡ getD m k 0 = sets-before (p .at ∷ p .counts ∷ []) m (2 * n) in
+    record {
+      few = omega arith;
+      each = λ i code q. below-more (λ (k : ℕ). 1 ≤ code → code ≤ 3 → Resumes row j code (count code (getD new (2 * k + 1) 0)) (getD new (2 * k) 0) 0) n
+          (λ k g. rw (old (2 * k) (omega arith), old (2 * k + 1) (omega arith)) (marked .each k code g))
+          (rw (add-one (2 * n), at-is, counts-is) (λ a b. reached-resumes row j p code reached a b)) i q;
+    }
+
+-- ---- the mark sought
+
+module _ (m : List ℕ) (code k : ℕ) where
+  -- the number of operations before a mark, and the place that the mark gives
+  abbrev before : ℕ → ℕ
+  before n = count code (getD m (2 * n + 1) 0)
+
+  abbrev mark : ℕ → Place
+  mark n = record { at = getD m (2 * n) 0; skip = k - before n }
+
+  -- the last of the marks is the one, or it is passed over
+  turn : (n : ℕ) → 0 < n → sought m n code k ≡ cond (leb (before (n - 1)) k) (mark (n - 1)) (sought m (n - 1) code k)
+  unfolding sought
+  turn zero h = absurd (omega arith)
+  turn (suc n) h = let e : suc n - 1 ≡ n = omega arith in rw e
+
+  -- the two ways of a turn of `seek`, which reads the number b before the mark
+  pub sought-here : (n b : ℕ) → 0 < n → b ≡ before (n - 1) → b ≤ k → sought m n code k ≡ record { at = getD m (2 * (n - 1)) 0; skip = k - b }
+  sought-here n b h e g = turn n h ∙ rw (← e, le-leb b k g)
+
+  pub sought-earlier : (n b : ℕ) → 0 < n → b ≡ before (n - 1) → k < b → sought m n code k ≡ sought m (n - 1) code k
+  sought-earlier n b h e g = turn n h ∙ rw (← e, lt-leb b k g)
+
+  -- and its end, with no marks left
+  pub sought-start : (n : ℕ) → n ≤ 0 → sought m n code k ≡ record { at = 0; skip = k }
+  unfolding sought
+  sought-start zero h = refl
+  sought-start (suc n) h = absurd (omega arith)
+
+-- a place that resumes a list from a number on resumes it from a later one
+later : (row j : List ℕ) (code n k at : ℕ) → Resumes row j code n at 0 → n ≤ k → Resumes row j code k at (k - n)
+later row j code n k at r h =
+    let all = chosen row code (entries j) in
+    record {
+      inside = r .inside;
+      same = ap (λ (i : ℕ). drop i all) (sym (add-sub-of-le h)) ∙ sym (drop-drop (k - n) n all) ∙ ap (drop (k - n)) (r .same);
+    }
+
+-- what is sought resumes the list of the opcode from number k on, for the writer that starts there
+pub sought-resumes : (row j m : List ℕ) (n code k : ℕ) → Marked row j m n → 1 ≤ code → code ≤ 3 → Resumes row j code k (sought m n code k .at) (sought m n code k .skip)
+unfolding sought
+sought-resumes row j m zero code k marked a b = record { inside = omega arith; same = refl }
+sought-resumes row j m (suc n) code k marked a b =
+    choose (leb (before m code k n) k) (λ (p : Place). Resumes row j code k (p .at) (p .skip))
+    (λ t. later row j code _ k _ (marked .each n code (omega arith) a b) (leb-true _ k t))
+    (λ _. sought-resumes row j m n code k (record { few = omega arith; each = λ i c h. marked .each i c (omega arith) }) a b)

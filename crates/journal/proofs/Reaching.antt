@@ -1,0 +1,148 @@
+-- A scan going on: past a record, past four of the same header, at a bad record, at the end.
+use mathlib.Core.Path.{_≡_, refl, sym, ap, ap₂, _∙_}
+use mathlib.Core.Bool.{Bool, true, false, cond, _&&_, and-false}
+use mathlib.Core.List.{List, [], _∷_}
+use Prim.Native.Nat.{ℕ, _+_, _-_, _*_, _/_, _%_, _^_, _<_, _≤_}
+use native.Mathlib.Nat.{div-one, div-div-eq-div-mul, mod-eq-of-lt}
+use native.Mathlib.Omega.{arith}
+use lib.Dec.{leb, eqb}
+use lib.ListN.{length, drop}
+use borrow.Author.Tests.{le-leb, lt-leb}
+use Rattle.records.specs.Records.{sizeOf, firstRecord, records, whole, allGood, wellFormedBy}
+use Rattle.records.proofs.Steps.{good-step, bad-step, none-good}
+use Rattle.journal.specs.declared.scanning.Judgement.{Judgement}
+use Rattle.journal.specs.declared.scanning.Judgement.the-variants.{Malformed, Counted}
+use Rattle.journal.specs.declared.stride.Position.{Position}
+use Rattle.journal.specs.declared.stride.Step.{Step}
+use Rattle.journal.specs.declared.stride.Step.the-variants.{Bad, Upto}
+use Rattle.journal.specs.Journal.{goodRecord, wellFormed, entries, entryOf}
+use Rattle.journal.specs.Reportable.{reports, chosen, judgementOf}
+use Rattle.journal.specs.Marks.{count}
+use Rattle.journal.specs.Scanning.{Before, Reached, Went, Judged, headed, fourHeaded, Known, unpacked}
+use Rattle.journal.proofs.Choice.{each-code}
+use Rattle.journal.proofs.Entries.{one-if, before-step, before-none, before-all}
+use Rattle.journal.proofs.Judging.{four, judged-size, judged-fits, judged-light, judged-adds}
+
+-- ---- packed counts
+
+-- the lowest 21 bits of a sum, and the rest, where the lowest do not pass their width
+digit-sum : (p q : ℕ) → p % 2097152 + q % 2097152 < 2097152 → ((p + q) % 2097152 ≡ p % 2097152 + q % 2097152) × ((p + q) / 2097152 ≡ p / 2097152 + q / 2097152)
+digit-sum p q h = (omega arith, omega arith)
+
+third : (p : ℕ) → p / 4398046511104 ≡ p / 2097152 / 2097152
+third p = sym (div-div-eq-div-mul p 2097152 2097152)
+
+-- a sum of packed counts counts the sums, where no count passes its 21 bits
+module _ (p q : ℕ) (a : count 1 p + count 1 q < 2097152) (b : count 2 p + count 2 q < 2097152) (c : count 3 p + count 3 q < 2097152) where
+  low-bits : p % 2097152 + q % 2097152 < 2097152
+  low-bits = rw (div-one p, div-one q) at a
+
+  count-first : count 1 (p + q) ≡ count 1 p + count 1 q
+  count-first = rw (div-one (p + q), div-one p, div-one q) (digit-sum p q low-bits .0)
+
+  rest-first : (p + q) / 2097152 ≡ p / 2097152 + q / 2097152
+  rest-first = digit-sum p q low-bits .1
+
+  count-second : count 2 (p + q) ≡ count 2 p + count 2 q
+  count-second = rw rest-first (digit-sum (p / 2097152) (q / 2097152) b .0)
+
+  rest-second : (p + q) / 2097152 / 2097152 ≡ p / 2097152 / 2097152 + q / 2097152 / 2097152
+  rest-second = rw rest-first (digit-sum (p / 2097152) (q / 2097152) b .1)
+
+  count-third : count 3 (p + q) ≡ count 3 p + count 3 q
+  count-third = rw (third (p + q), third p, third q, rest-second) (digit-sum (p / 2097152 / 2097152) (q / 2097152 / 2097152) (rw (third p, third q) at c) .0)
+
+  pub count-sum : (code : ℕ) → 1 ≤ code → code ≤ 3 → count code (p + q) ≡ count code p + count code q
+  count-sum = each-code (λ (k : ℕ). count k (p + q) ≡ count k p + count k q) count-first count-second count-third
+
+-- packed counts of which the highest is small have room for one operation more
+packed-more : (p w n : ℕ) → p < 9223372036854775808 → count 3 p ≤ n → n ≤ 1048576 → w ≤ 4398046511104 → p + w < 9223372036854775808
+packed-more p w n h c l k =
+    let top : p / 4398046511104 < 2097152 = omega arith in
+    let same : count 3 p ≡ p / 4398046511104 = mod-eq-of-lt top in
+    let low : p / 4398046511104 ≤ 1048576 = omega arith in
+    sum p w (p / 4398046511104) low (omega arith) k
+  where
+    sum : (p w x : ℕ) → x ≤ 1048576 → p < (x + 1) * 4398046511104 → w ≤ 4398046511104 → p + w < 9223372036854775808
+    sum p w x a b c = omega arith
+
+abbrev pub position : ℕ → ℕ → Position
+position at counts = record { at = at; counts = counts }
+
+pub reached-none : (row j : List ℕ) → Reached row j (position 0 0)
+reached-none row j =
+    record {
+      inside = omega arith;
+      good = refl;
+      before = each-code (λ (k : ℕ). Before row j 0 k (count k 0)) (before-none row j 1) (before-none row j 2) (before-none row j 3);
+      few = omega arith;
+      packed = omega arith;
+    }
+
+module _ (row j : List ℕ) (at counts : ℕ) (small : length j ≤ 1048576) (t : Reached row j (position at counts)) where
+  -- past a good record
+  pub reached-step : (size weight : ℕ) → at < length j → Judged row j at size weight → Reached row j (position (at + size) (counts + weight))
+  reached-step size weight h g =
+      let light = judged-light row j at size weight g in
+      let f = t .few in
+      let sums : (code : ℕ) → 1 ≤ code → code ≤ 3 → count code (counts + weight) ≡ count code counts + count code weight = count-sum counts weight (omega arith) (omega arith) (omega arith) in
+      let fits = judged-fits row j at size weight g in
+      let large = judged-size row j at size weight g in
+      record {
+        inside = omega arith;
+        good = t .good ∙ good-step goodRecord j at h (g .good) ∙ ap (λ (n : ℕ). allGood goodRecord (records (drop (at + n) j))) (g .size-is);
+        before = λ code a b. rw (sums code a b, judged-adds row j at size weight g code a b, ← g .size-is) (before-step row j at code (count code counts) h (t .before code a b));
+        few = omega (arith, sums 1 (omega arith) (omega arith), sums 2 (omega arith) (omega arith), sums 3 (omega arith) (omega arith));
+        packed = packed-more counts weight at (t .packed) (omega arith) (omega (arith, t .inside)) (light .1);
+      }
+
+  -- at a bad one
+  pub reached-bad : at < length j → (whole (firstRecord (drop at j)) && goodRecord (firstRecord (drop at j))) ≡ false → wellFormed j ≡ false
+  unfolding wellFormed wellFormedBy
+  reached-bad h e = simp (t .good ∙ bad-step goodRecord j at h e, and-false)
+
+  -- at the end
+  pub reached-end : length j ≤ at → Counted (unpacked counts) ≡ judgementOf row j
+  unfolding judgementOf wellFormed wellFormedBy
+  reached-end h =
+      let all : (code : ℕ) → 1 ≤ code → code ≤ 3 → count code counts ≡ length (chosen row code (entries j)) = λ code a b. before-all row j at code (count code counts) h (t .before code a b) in
+      rw (le-leb (length j) 1048576 small, t .good, none-good goodRecord j at h, ← all 1 (omega arith) (omega arith), ← all 2 (omega arith) (omega arith), ← all 3 (omega arith) (omega arith))
+
+pub oversized : (row j : List ℕ) → 1048576 < length j → wellFormed j ≡ false
+unfolding wellFormed wellFormedBy
+oversized row j h = rw (lt-leb (length j) 1048576 h)
+
+pub malformed : (row j : List ℕ) → wellFormed j ≡ false → Malformed ≡ judgementOf row j
+unfolding judgementOf
+malformed row j h = rw h
+
+-- past four records of a known header
+module _ (row j : List ℕ) (low high size weight : ℕ) (small : length j ≤ 1048576) (k : Known row j low high size weight) where
+  reached-same : (at counts : ℕ) → at + size ≤ length j → headed j low high at ≡ true → Reached row j (position at counts) → Reached row j (position (at + size) (counts + weight))
+  reached-same at counts r e t = reached-step row j at counts small t size weight (omega (arith, k .large)) (k .here at r e)
+
+  pub reached-four : (at counts : ℕ) → at + 4 * size ≤ length j
+      → fourHeaded j low high size at ≡ true
+      → Reached row j (position at counts) → Reached row j (position (at + 4 * size) (counts + 4 * weight))
+  reached-four at counts r e t =
+      let q = four (headed j low high at) (headed j low high (at + size)) (headed j low high (at + 2 * size)) (headed j low high (at + 3 * size)) e in
+      let s₂ : at + size + size ≡ at + 2 * size = omega arith in
+      let s₃ : at + size + size + size ≡ at + 3 * size = omega arith in
+      let s₄ : at + size + size + size + size ≡ at + 4 * size = omega arith in
+      let w₄ : counts + weight + weight + weight + weight ≡ counts + 4 * weight = omega arith in
+      let t₁ = reached-same at counts (omega arith) (q .0) t in
+      let t₂ = reached-same (at + size) _ (omega arith) (q .1) t₁ in
+      let t₃ = reached-same (at + size + size) _ (omega arith) (ap (headed j low high) s₂ ∙ q .2) t₂ in
+      let t₄ = reached-same (at + size + size + size) _ (omega arith) (ap (headed j low high) s₃ ∙ q .3) t₃ in
+      rw (s₄, w₄) at t₄
+
+-- what a step gave
+pub went-lower : (row j : List ℕ) (a b : ℕ) (s : Step) → a ≤ b → Went row j b s → Went row j a s
+went-lower row j a b Bad h w = w
+went-lower row j a b (Upto p) h w = (w .0, omega (arith, w .1))
+
+pub went-bad : (row j : List ℕ) (end : ℕ) (s : Step) → s ≡ Bad → Went row j end s → wellFormed j ≡ false
+went-bad row j end s e w = rw e at w
+
+pub went-upto : (row j : List ℕ) (end : ℕ) (s : Step) (p : Position) → s ≡ Upto p → Went row j end s → Reached row j p × (end ≤ p .at)
+went-upto row j end s p e w = rw e at w

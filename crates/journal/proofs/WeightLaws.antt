@@ -1,0 +1,49 @@
+-- Laws for the weights table: what one weight is, and the table as it is filled.
+use mathlib.Core.Path.{_≡_, _∙_}
+use mathlib.Core.Bool.{cond}
+use mathlib.Core.List.{List}
+use Prim.Native.Nat.{ℕ, zero, suc, _+_, _*_, _-_, _/_, _%_, _^_, _<_, _≤_}
+use native.Mathlib.Nat.{mul-zero, mul-one}
+use native.Mathlib.Omega.{arith}
+use lib.Dec.{eqb}
+use lib.ListN.{length, getD, set, length-set}
+use lib.Seq.{getD-set-same, getD-set-other}
+use borrow.Author.Count.{below-more}
+use Rattle.journal.specs.Scope.{holds}
+use Rattle.journal.specs.Scanning.{weightOf, Weights}
+
+-- a weight times a bit is the choice by the bit
+bit-chooses : (w bit : ℕ) → bit < 2 → w * bit ≡ cond (eqb bit 1) w 0
+bit-chooses w zero h = mul-zero w
+bit-chooses w (suc zero) h = mul-one w
+bit-chooses w (suc (suc n)) h = absurd (omega arith)
+
+-- what `weight` computes, from the set's bit of the kind
+pub weight-is : (set kind w : ℕ) → w ≡ 2097152 ^ (kind - 1) * (set / 2 ^ (kind - 1) % 2) → w ≡ cond (holds set kind) (2097152 ^ (kind - 1)) 0
+weight-is set kind w e = e ∙ bit-chooses (2097152 ^ (kind - 1)) (set / 2 ^ (kind - 1) % 2) (omega arith)
+
+-- the table, filled below a place: the invariant of `weights_of`
+pub record Filled (row table : List ℕ) (i : ℕ) : Type 0 where
+  pub size : length table ≡ 64
+  pub low : 16 ≤ i
+  pub high : i ≤ 64
+  pub each : (k : ℕ) → k < i → 16 ≤ k → getD table k 0 ≡ weightOf row (k / 16) (k % 16)
+
+-- a turn of its loop
+pub filled-next : (row table : List ℕ) (i w : ℕ) → Filled row table i → i < 64 → w ≡ weightOf row (i / 16) (i % 16) → Filled row (set table i w) (i + 1)
+filled-next row table i w f h e =
+    record {
+      size = simp length-set (f .size);
+      low = omega arith;
+      high = omega arith;
+      each = below-more (λ (k : ℕ). 16 ≤ k → getD (set table i w) k 0 ≡ weightOf row (k / 16) (k % 16)) i
+          (λ k l g. getD-set-other table i k w 0 (λ q. omega arith) ∙ f .each k l g)
+          (λ g. getD-set-same table i w 0 (omega arith) ∙ e);
+    }
+
+-- the table's entry of a good record
+pub weight-at : (row table : List ℕ) (kind node : ℕ) → Weights row table → 1 ≤ kind → kind ≤ 3 → node ≤ 14 → getD table (16 * kind + node) 0 ≡ weightOf row kind node
+weight-at row table kind node w l h n =
+    let k : (16 * kind + node) / 16 ≡ kind = omega arith in
+    let m : (16 * kind + node) % 16 ≡ node = omega arith in
+    rw (k, m) at (w (16 * kind + node) (omega arith) (omega arith))

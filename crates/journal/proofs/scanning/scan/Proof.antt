@@ -1,0 +1,89 @@
+-- `scanning::scan` meets its contract.
+use mathlib.Core.Path.{_≡_, refl, sym, ap, _∙_}
+use Prim.Native.Nat.{ℕ, _+_, _-_, _≤_}
+use native.Mathlib.Omega.{arith}
+use lib.ListN.{length}
+use borrow.Author.Needs.{needs}
+use denote.Ref.{now}
+use Rattle.journal.specs.Claims.{WellFormedCases, SizeLimit}
+use Rattle.journal.proofs.Claims.{well-formed-cases, size-limit}
+use Rattle.journal.proofs.MarkLaws.{marked-none, marked-note, noted-length}
+use Rattle.journal.proofs.Reaching.{position, reached-none, reached-end, oversized, malformed, went-bad, went-upto}
+use Rattle.journal.specs.Marks.{Marked}
+use Rattle.journal.specs.Scanning.{Reached}
+use Rattle.journal.specs.declared.scanning.Counts.{Counts}
+use Rattle.journal.specs.declared.scanning.Judgement.the-variants.{Counted}
+use Rattle.journal.proofs.scanning.scan.Statement.{statement}
+use Rattle.journal.proofs.scanning.scan.Tie as tie
+
+rules : WellFormedCases × SizeLimit
+rules = (well-formed-cases, size-limit)
+
+abbrev Inv-loop : tie.InvT-loop
+Inv-loop j row marks₀ noted₀ weights at₀ counts₀ marks noted at counts = Reached row j (position at counts) × Marked row j marks noted × (length marks ≡ 128)
+
+abbrev μ-loop : tie.MeasureT-loop
+μ-loop j row marks₀ noted₀ weights at₀ counts₀ marks noted at counts = length j - at
+
+returns : tie.Need-returns Inv-loop μ-loop
+returns c = ((malformed _ _ (oversized (now (c .before .before .args .row)) (now (c .before .before .args .j)) (c .if1 .taken)), marked-none _ _ _), rules)
+
+weights-of-requires : tie.Need-weights-of-requires Inv-loop μ-loop
+weights-of-requires c κs = search needs
+
+loop-holds : tie.Need-loop-holds Inv-loop μ-loop
+loop-holds c = (reached-none _ _, marked-none _ _ _, refl)
+
+note-requires : tie.Need-note-requires Inv-loop μ-loop
+note-requires c κs = c .before .before .loop .inv .1 .few
+
+-- the marks after one was offered
+marks-then : (c : tie.After-note Inv-loop μ-loop) → Marked (now (c .before .before .before .before .before .before .before .args .row)) (now (c .before .before .before .before .before .before .before .args .j)) (c .note .last .0) (c .note .result)
+marks-then c = marked-note (now (c .before .before .before .before .before .before .before .args .row)) (now (c .before .before .before .before .before .before .before .args .j)) _ _ _ _ _ (c .before .before .before .loop .inv .2) (c .before .before .before .loop .inv .0) (c .before .before .before .loop .inv .1) (c .note .ensures)
+
+-- where the scan stands after a step
+turn : (c : tie.After-known-told Inv-loop μ-loop) → Reached (now (c .before .before .before .before .before .before .before .before .before .before .before .before .args .row)) (now (c .before .before .before .before .before .before .before .before .before .before .before .before .args .j)) (c .before .step .given .0 .0) × (c .before .before .before .before .before .before .before .before .loop .at + 1 ≤ c .before .step .given .0 .0 .at)
+turn c = went-upto (now (c .before .before .before .before .before .before .before .before .before .before .before .before .args .row)) (now (c .before .before .before .before .before .before .before .before .before .before .before .before .args .j)) _ _ _ (c .before .step .given .1) (c .before .before .before .stride .ensures)
+
+stride-requires : tie.Need-stride-requires Inv-loop μ-loop
+stride-requires c κs = (c .before .before .before .before .loop .inv .0, c .before .before .before .before .before .weights-of .ensures, c .before .before .before .loop-test .taken, c .before .before .before .before .before .before .if1 .left)
+
+enum-told : tie.Need-enum-told Inv-loop μ-loop
+enum-told c = search needs
+
+returns-2 : tie.Need-returns-2 Inv-loop μ-loop
+returns-2 c = ((malformed _ _ (went-bad (now (c .before .before .before .before .before .before .before .before .before .before .before .args .row)) (now (c .before .before .before .before .before .before .before .before .before .before .before .args .j)) _ _ (c .enum-told .given .1) (c .before .before .stride .ensures)), marks-then (c .before .before .before .before)), rules)
+
+enum-known-step : tie.Need-enum-known-step Inv-loop μ-loop
+enum-known-step c = search needs
+
+loop-less : tie.Need-loop-less Inv-loop μ-loop
+loop-less c = omega (arith, turn c .1)
+
+loop-again : tie.Need-loop-again Inv-loop μ-loop
+loop-again c = (turn c .0, marks-then (c .before .before .before .before .before), noted-length _ _ _ _ _ (c .before .before .before .before .before .note .ensures) ∙ c .before .before .before .before .before .before .before .before .loop .inv .2)
+
+counts-of-requires : tie.Need-counts-of-requires Inv-loop μ-loop
+counts-of-requires c κs = search needs
+
+returns-3 : tie.Need-returns-3 Inv-loop μ-loop
+returns-3 c = ((ap Counted (c .counts-of .ensures) ∙ reached-end (now (c .before .before .before .before .before .before .args .row)) (now (c .before .before .before .before .before .before .args .j)) (c .before .before .loop .at) _ (c .before .before .before .before .if1 .left) (c .before .before .loop .inv .0) (c .before .loop-test .left), c .before .before .loop .inv .1), rules)
+
+pub scan-spec : {M : Type 1} → statement M
+scan-spec =
+    tie.close
+    (tie.spec
+    Inv-loop
+    μ-loop
+    returns
+    weights-of-requires
+    loop-holds
+    note-requires
+    stride-requires
+    enum-told
+    returns-2
+    enum-known-step
+    loop-less
+    loop-again
+    counts-of-requires
+    returns-3)

@@ -1,0 +1,72 @@
+-- Claims about the journal's rules, cited by the contract of `scan`.
+use Prim.Native.Nat.{ℕ, _≤_, _<_}
+use mathlib.Core.Path.{_≡_}
+use mathlib.Core.Bool.{Bool, true, false, _&&_, Bool·beq}
+use mathlib.Core.List.{List, [], _∷_, _++_}
+use lib.Dec.{T}
+use lib.ListN.{length}
+use Rattle.records.specs.Records.{records, allGood}
+use Rattle.journal.specs.Journal.{goodRecord, wellFormed}
+
+-- a record of this length, kind and node type, with an operand 42 and, in eight bytes of operands, a second one
+abbrev pub short : ℕ → ℕ → ℕ → List ℕ
+short len kind node = len ∷ 0 ∷ kind ∷ 0 ∷ node ∷ 0 ∷ 42 ∷ 0 ∷ 0 ∷ 0 ∷ []
+
+abbrev pub long : ℕ → ℕ → ℕ → List ℕ
+long len kind node = short len kind node ++ (5 ∷ 0 ∷ 0 ∷ 16 ∷ [])
+
+-- each rule of a well-formed journal from both sides
+pub record Case : Type 0 where
+  pub journal : List ℕ
+  pub good : Bool
+
+abbrev pub yes : List ℕ → Case
+yes j = record { journal = j; good = true }
+
+abbrev pub no : List ℕ → Case
+no j = record { journal = j; good = false }
+
+abbrev pub cases : List Case
+cases =
+    -- "An empty buffer is well formed."
+    yes []
+    -- "kinds 1 (delete) and 2 (update) .., length 8; kind 3 (add) .., length 12"
+    ∷ yes (short 8 1 10)
+    ∷ yes (short 8 2 10)
+    ∷ yes (long 12 3 10)
+    ∷ no (short 8 0 10)
+    ∷ no (short 8 3 10)
+    ∷ no (short 8 4 10)
+    ∷ no (long 12 1 10)
+    ∷ no (long 12 2 10)
+    ∷ no (long 12 4 10)
+    -- "Node types: 1 root, .. 14 memory-utilization instrumentation."
+    ∷ yes (short 8 1 1)
+    ∷ yes (short 8 1 14)
+    ∷ no (short 8 1 0)
+    ∷ no (short 8 1 15)
+    -- the length, the kind and the node type are two bytes each
+    ∷ no (8 ∷ 1 ∷ 1 ∷ 0 ∷ 10 ∷ 0 ∷ 42 ∷ 0 ∷ 0 ∷ 0 ∷ [])
+    ∷ no (8 ∷ 0 ∷ 1 ∷ 1 ∷ 10 ∷ 0 ∷ 42 ∷ 0 ∷ 0 ∷ 0 ∷ [])
+    ∷ no (8 ∷ 0 ∷ 1 ∷ 0 ∷ 10 ∷ 1 ∷ 42 ∷ 0 ∷ 0 ∷ 0 ∷ [])
+    -- "Records fill the buffer exactly."
+    ∷ yes (short 8 1 10 ++ (long 12 3 10 ++ short 8 2 5))
+    ∷ no (short 8 1 10 ++ (8 ∷ []))
+    ∷ no (short 8 1 10 ++ (8 ∷ 0 ∷ 1 ∷ 0 ∷ 10 ∷ 0 ∷ 42 ∷ 0 ∷ 0 ∷ []))
+    ∷ no (short 12 3 10)
+    ∷ no (0 ∷ [])
+    ∷ no (0 ∷ 0 ∷ [])
+    -- a bad record is not made good by those after it
+    ∷ no (short 8 9 10 ++ short 8 1 10)
+    ∷ []
+
+abbrev pub agree : List Case → Bool
+agree [] = true
+agree (c ∷ cs) = Bool·beq (wellFormed (c .journal)) (c .good) && agree cs
+
+abbrev pub WellFormedCases : Type 0
+WellFormedCases = T (agree cases)
+
+-- 01: "Journal, at most 1,048,576 bytes", ".. or an oversized buffer is malformed."
+abbrev pub SizeLimit : Type 0
+SizeLimit = (j : List ℕ) → allGood goodRecord (records j) ≡ true → (length j ≤ 1048576 → wellFormed j ≡ true) × (1048576 < length j → wellFormed j ≡ false)

@@ -1,0 +1,56 @@
+-- The journal's records (document 01, "Journal and inventory").
+use Prim.Native.Nat.{ℕ}
+use mathlib.Core.Bool.{Bool, cond, _&&_, _||_}
+use mathlib.Core.List.{List, [], _∷_, map}
+use lib.Dec.{leb, eqb}
+use Rattle.words.specs.Numbers.{le16, le32}
+use Rattle.records.specs.Records.{lengthOf, kindOf, records, wellFormedBy}
+use Rattle.journal.specs.declared.operation.Operation.{Operation}
+use Rattle.journal.specs.declared.operation.Operation.the-variants.{Delete, Update, Add}
+
+abbrev pub within : ℕ → ℕ → ℕ → Bool
+within a b n = leb a n && leb n b
+
+-- 01: "kinds 1 (delete) and 2 (update) hold a two-byte node type and a phandle, length 8; kind 3 (add) holds node type, parent phandle and drc-index, length 12."
+unfoldable pub goodFrame : ℕ → ℕ → Bool
+goodFrame len kind = (eqb kind 1 && eqb len 8) || ((eqb kind 2 && eqb len 8) || (eqb kind 3 && eqb len 12))
+
+unfoldable pub nodeType : List ℕ → ℕ
+nodeType r = le16 r 4
+
+-- 01: "Any other kind, length, node type or flag .. is malformed.", "Node types: 1 root, .. 14 memory-utilization instrumentation."
+unfoldable pub goodRecord : List ℕ → Bool
+goodRecord r = goodFrame (lengthOf r) (kindOf r) && within 1 14 (nodeType r)
+
+-- 01: "Journal, at most 1,048,576 bytes", "Records fill the buffer exactly."
+unfoldable pub wellFormed : List ℕ → Bool
+wellFormed j = wellFormedBy goodRecord j
+
+-- 01: "An operation is an opcode (1 delete, 2 update, 3 add) with its operands: the phandle, or for an addition the parent phandle and the drc-index."
+abbrev pub opcode : Operation → ℕ
+opcode (Delete p) = 1
+opcode (Update p) = 2
+opcode (Add p i) = 3
+
+abbrev pub operands : Operation → List ℕ
+operands (Delete p) = p ∷ []
+operands (Update p) = p ∷ []
+operands (Add p i) = p ∷ i ∷ []
+
+-- the operation of a record
+unfoldable pub operationOf : List ℕ → Operation
+operationOf r =
+    cond (eqb (kindOf r) 1) (Delete (le32 r 6))
+    (cond (eqb (kindOf r) 2) (Update (le32 r 6))
+    (Add (le32 r 6) (le32 r 10)))
+
+-- a journal's operations, each with its node type
+pub record Entry : Type 0 where
+  pub node : ℕ
+  pub operation : Operation
+
+abbrev pub entryOf : List ℕ → Entry
+entryOf r = record { node = nodeType r; operation = operationOf r }
+
+unfoldable pub entries : List ℕ → List Entry
+entries j = map entryOf (records j)

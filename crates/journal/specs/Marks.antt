@@ -1,0 +1,33 @@
+-- Marks that a scan notes, from which the operation due is found without a walk from the journal's start.
+use Prim.Native.Nat.{ℕ, zero, suc, _+_, _*_, _-_, _/_, _%_, _^_, _≤_, _<_}
+use mathlib.Core.Path.{_≡_}
+use mathlib.Core.Bool.{Bool, cond}
+use mathlib.Core.List.{List}
+use lib.Dec.{leb}
+use lib.ListN.{length, getD, drop}
+use Rattle.journal.specs.declared.marks.Place.{Place}
+use Rattle.journal.specs.Journal.{entries}
+use Rattle.journal.specs.Reportable.{chosen}
+
+-- Three counts in one number, 21 bits for each opcode.
+abbrev pub count : ℕ → ℕ → ℕ
+count code packed = packed / 2097152 ^ (code - 1) % 2097152
+
+-- From this place of the journal on, after `skip` operations of the opcode, stands what the list holds from number k on.
+pub record Resumes (row j : List ℕ) (code k at skip : ℕ) : Type 0 where
+  pub inside : at ≤ length j
+  pub same : drop k (chosen row code (entries j)) ≡ drop skip (chosen row code (entries (drop at j)))
+
+-- A mark is two numbers, a place and the packed counts of what the row reports before it. Of n marks each resumes the list of every opcode.
+pub record Marked (row j marks : List ℕ) (n : ℕ) : Type 0 where
+  pub few : n ≤ 64
+  pub each : (i code : ℕ) → i < n → 1 ≤ code → code ≤ 3 → Resumes row j code (count code (getD marks (2 * i + 1) 0)) (getD marks (2 * i) 0) 0
+
+-- Where to look for operation number k of an opcode: from the last of n marks with no more than k before it, or from the start.
+unfoldable pub sought : List ℕ → ℕ → ℕ → ℕ → Place
+sought marks zero code k = record { at = 0; skip = k }
+sought marks (suc n) code k =
+    let earlier = sought marks n code k in
+    let before = count code (getD marks (2 * n + 1) 0) in
+    let here : Place = record { at = getD marks (2 * n) 0; skip = k - before } in
+    cond (leb before k) here earlier

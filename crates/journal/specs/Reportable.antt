@@ -1,0 +1,41 @@
+-- The reportable list of a journal (document 01, "What each scope reports"), and what a scan tells of it.
+use Prim.Native.Nat.{ℕ, _+_}
+use mathlib.Core.Bool.{Bool, cond, _&&_}
+use mathlib.Core.List.{List, [], _∷_, _++_}
+use lib.Dec.{eqb}
+use lib.ListN.{length, getD}
+use Rattle.journal.specs.declared.operation.Operation.{Operation}
+use Rattle.journal.specs.declared.scanning.Counts.{Counts}
+use Rattle.journal.specs.declared.scanning.Judgement.{Judgement}
+use Rattle.journal.specs.declared.scanning.Judgement.the-variants.{Malformed, Counted}
+use Rattle.journal.specs.Journal.{Entry, opcode, operands, entries, wellFormed}
+use Rattle.journal.specs.Scope.{holds}
+
+-- a row reports an entry under an opcode
+unfoldable pub reports : List ℕ → ℕ → Entry → Bool
+reports row code e = eqb (opcode (e .operation)) code && holds (getD row (e .node) 0) code
+
+-- 01: "Records that the scope doesn't report are passed over.", "Equal records stay as separate operations."
+-- The operations of an opcode that a row reports, in journal order.
+unfoldable pub chosen : List ℕ → ℕ → List Entry → List Operation
+chosen row code [] = []
+chosen row code (e ∷ es) =
+    let rest = chosen row code es in
+    let more = e .operation ∷ rest in
+    cond (reports row code e) more rest
+
+-- 01: "The reportable list is all reportable deletes in journal order, then updates, then additions."
+unfoldable pub reportable : List ℕ → List ℕ → List Operation
+reportable row j = chosen row 1 (entries j) ++ (chosen row 2 (entries j) ++ chosen row 3 (entries j))
+
+-- The number of operand words that operations fill.
+unfoldable pub operandWords : List Operation → ℕ
+operandWords [] = 0
+operandWords (o ∷ os) = length (operands o) + operandWords os
+
+-- What a scan tells: the journal is malformed, or how many operations of each opcode a row reports of it.
+abbrev pub countsOf : List ℕ → List ℕ → Counts
+countsOf row j = record { deletes = length (chosen row 1 (entries j)); updates = length (chosen row 2 (entries j)); additions = length (chosen row 3 (entries j)) }
+
+unfoldable pub judgementOf : List ℕ → List ℕ → Judgement
+judgementOf row j = cond (wellFormed j) (Counted (countsOf row j)) Malformed

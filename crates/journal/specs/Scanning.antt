@@ -1,0 +1,81 @@
+-- Terms of the contracts of the scan's private functions; no public promise cites them.
+use Prim.Native.Nat.{ℕ, _+_, _*_, _-_, _/_, _%_, _^_, _≤_, _<_}
+use mathlib.Core.Path.{_≡_}
+use mathlib.Core.Bool.{Bool, true, false, cond, _&&_}
+use mathlib.Core.List.{List, [], _∷_}
+use lib.Dec.{leb, eqb}
+use lib.ListN.{length, getD, drop}
+use lib.Seq.{sets}
+use Rattle.words.specs.Numbers.{le16, le32}
+use Rattle.records.specs.Records.{kindOf, sizeOf, firstRecord, records, whole, allGood}
+use Rattle.journal.specs.declared.scanning.Counts.{Counts}
+use Rattle.journal.specs.declared.stride.Found.{Found}
+use Rattle.journal.specs.declared.stride.Found.the-variants.{Bad, Good}
+use Rattle.journal.specs.declared.stride.Position.{Position}
+use Rattle.journal.specs.declared.stride.Step.{Step}
+use Rattle.journal.specs.declared.stride.Step.the-variants as step
+use Rattle.journal.specs.Journal.{within, goodFrame, goodRecord, wellFormed, entryOf, entries}
+use Rattle.journal.specs.Scope.{holds}
+use Rattle.journal.specs.Reportable.{reports, chosen}
+use Rattle.journal.specs.Marks.{count}
+
+-- a record of this length, kind and node type is good where so many bytes are left
+abbrev pub goodAt : ℕ → ℕ → ℕ → ℕ → Bool
+goodAt left len kind node = leb (len + 2) left && (goodFrame len kind && within 1 14 node)
+
+-- n operations of an opcode stand before a place
+pub record Before (row j : List ℕ) (at code n : ℕ) : Type 0 where
+  pub number : length (chosen row code (entries j)) ≡ n + length (chosen row code (entries (drop at j)))
+  pub rest : drop n (chosen row code (entries j)) ≡ chosen row code (entries (drop at j))
+
+-- a scan has come to a place over good records alone, and has counted what the row reports of them
+pub record Reached (row j : List ℕ) (p : Position) : Type 0 where
+  pub inside : p .at ≤ length j
+  pub good : allGood goodRecord (records j) ≡ allGood goodRecord (records (drop (p .at) j))
+  pub before : (code : ℕ) → 1 ≤ code → code ≤ 3 → Before row j (p .at) code (count code (p .counts))
+  pub few : count 1 (p .counts) + count 2 (p .counts) + count 3 (p .counts) ≤ p .at
+  pub packed : p .counts < 9223372036854775808
+
+-- what a step along the journal gives: a bad record, or a position at or behind an end
+abbrev pub Went : List ℕ → List ℕ → ℕ → Step → Type 0
+Went row j end step.Bad = wellFormed j ≡ false
+Went row j end (step.Upto p) = Reached row j p × (end ≤ p .at)
+
+-- what a good record adds to the packed counts
+abbrev pub weightOf : List ℕ → ℕ → ℕ → ℕ
+weightOf row kind node = cond (holds (getD row node 0) kind) (2097152 ^ (kind - 1)) 0
+
+abbrev pub Weights : List ℕ → List ℕ → Type 0
+Weights row table = (i : ℕ) → 16 ≤ i → i < 64 → getD table i 0 ≡ weightOf row (i / 16) (i % 16)
+
+-- a good record of this size stands at a place, and adds this weight
+pub record Judged (row j : List ℕ) (at size weight : ℕ) : Type 0 where
+  pub size-is : sizeOf (drop at j) ≡ size
+  pub good : (whole (firstRecord (drop at j)) && goodRecord (firstRecord (drop at j))) ≡ true
+  pub weight-is : weight ≡ weightOf row (kindOf (drop at j)) (le16 j (at + 4))
+
+abbrev pub FoundAt : List ℕ → List ℕ → ℕ → Found → Type 0
+FoundAt row j at Bad = (whole (firstRecord (drop at j)) && goodRecord (firstRecord (drop at j))) ≡ false
+FoundAt row j at (Good size weight) = Judged row j at size weight
+
+-- the six bytes of a record's length, kind and node type, as two numbers that share the kind
+unfoldable pub headed : List ℕ → ℕ → ℕ → ℕ → Bool
+headed j low high at = eqb (le32 j at) low && eqb (le32 j (at + 2)) high
+
+abbrev pub fourHeaded : List ℕ → ℕ → ℕ → ℕ → ℕ → Bool
+fourHeaded j low high size at = headed j low high at && (headed j low high (at + size) && (headed j low high (at + 2 * size) && headed j low high (at + 3 * size)))
+
+-- wherever this header stands and the size fits, there is such a record
+pub record Known (row j : List ℕ) (low high size weight : ℕ) : Type 0 where
+  pub large : 10 ≤ size
+  pub small : size ≤ 14
+  pub narrow : weight ≤ 4398046511104
+  pub here : (at : ℕ) → at + size ≤ length j → headed j low high at ≡ true → Judged row j at size weight
+
+-- the marks after p was offered as the next one
+pub data Noted (marks : List ℕ) (n : ℕ) (p : Position) : List ℕ → ℕ → Type 0 where
+  kept : Noted marks n p marks n
+  added : n < 64 → Noted marks n p (sets marks (2 * n) (p .at ∷ p .counts ∷ [])) (n + 1)
+
+abbrev pub unpacked : ℕ → Counts
+unpacked packed = record { deletes = count 1 packed; updates = count 2 packed; additions = count 3 packed }

@@ -1,0 +1,17 @@
+// The journal: its records, the scope table, the reportable list, and the scan that judges and counts in one pass.
+mod marks;
+mod operation;
+mod scanning;
+mod scope;
+mod stride;
+mod weights;
+
+pub use marks::Place;
+pub use marks::seek;
+pub use operation::Operation;
+pub use scanning::Counts;
+pub use scanning::Judgement;
+pub use scanning::Scanned;
+pub use scanning::scan;
+pub use scope::Row;
+pub use scope::scope_row;

@@ -1,0 +1,64 @@
+// Marks: places that a scan came to, with the packed counts of what stands before them.
+ghost use mathlib.Core.Path.{_≡_};
+ghost use mathlib.Core.List.{[], _∷_};
+ghost use Prim.Native.Nat.{_+_, _*_, _≤_};
+ghost use lib.ListN.{length};
+ghost use Rattle.journal.specs.Marks.{count, sought};
+ghost use Rattle.journal.specs.Scanning.{Noted};
+use crate::stride::Position;
+
+// A place of the journal, and how many operations of an opcode are passed over from there.
+pub struct Place {
+    pub at: usize,
+    pub skip: usize,
+}
+
+// The count of an opcode in packed counts.
+pub fn count_of(code: usize, packed: u64) -> usize
+    requires { ⌜ (1 ≤ code) × (code ≤ 3) ⌝ }
+    ensures { λ r. ⌜ r ≡ count code packed ⌝ }
+{
+    if code == 1 {
+        return (packed % 2097152) as usize;
+    }
+    if code == 2 {
+        return (packed / 2097152 % 2097152) as usize;
+    }
+    (packed / 4398046511104 % 2097152) as usize
+}
+
+// The next mark is stored where one is due: one for each 16,384 bytes, 64 at most. Gives the number of marks.
+pub fn note(marks: &mut [u64; 128], noted: usize, p: Position) -> usize
+    requires { ⌜ noted ≤ 64 ⌝ }
+    ensures { λ r. ⌜ Noted (now (marks .entry)) noted p (now (marks .exit)) r ⌝ }
+{
+    if 64 <= noted {
+        return noted;
+    }
+    if p.at < 16384 * noted {
+        return noted;
+    }
+    let i = 2 * noted;
+    marks[i] = p.at as u64;
+    marks[i + 1] = p.counts;
+    noted + 1
+}
+
+// Where to look for operation number k of an opcode, by the marks.
+pub fn seek(marks: &[u64; 128], noted: usize, code: usize, k: usize) -> Place
+    requires { ⌜ (noted ≤ 64) × (1 ≤ code) × (code ≤ 3) ⌝ }
+    ensures { λ r. ⌜ r ≡ sought (now (marks .entry)) noted code k ⌝ }
+{
+    let mut n = noted;
+    while 0 < n {
+        n -= 1;
+        let before = count_of(code, marks[2 * n + 1]);
+        if before <= k {
+            return Place {
+                at: marks[2 * n] as usize,
+                skip: k - before,
+            };
+        }
+    }
+    Place { at: 0, skip: k }
+}

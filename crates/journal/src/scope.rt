@@ -1,0 +1,57 @@
+// The scope table.
+ghost use mathlib.Core.Path.{_≡_};
+ghost use Prim.Native.Nat.{_<_};
+ghost use mathlib.Core.Bool.{true};
+ghost use mathlib.Core.List.{[]};
+ghost use lib.ListN.{getD};
+ghost use Rattle.journal.specs.Scope.{rows, scopeRow};
+
+// One row for each scope that has one, by node type from 0 to 14: negative scopes, scope 1, scope 2.
+// An entry is the set of opcodes that the scope reports of the type: 1 delete, 2 update, 4 add, added up.
+const ROWS: [[u8; 15]; 3] = [
+    [0, 0, 0, 0, 0, 2, 0, 0, 2, 2, 7, 7, 7, 7, 7],
+    [0, 2, 2, 2, 2, 2, 7, 2, 2, 7, 7, 7, 7, 7, 7],
+    [0, 0, 0, 2, 0, 0, 0, 0, 0, 0, 0, 0, 0, 0, 0],
+];
+
+// A scope's row; a scope with none is not valid, and reports nothing.
+pub struct Row {
+    pub valid: bool,
+    pub sets: [u8; 15],
+}
+
+fn row_at(number: usize) -> [u8; 15]
+    requires { ⌜ number < 3 ⌝ }
+    ensures { λ r. ⌜ r ≡ getD rows number [] ⌝ }
+{
+    ROWS[number]
+}
+
+fn valid_row(number: usize) -> Row
+    requires { ⌜ number < 3 ⌝ }
+    ensures { λ r. ⌜ (r .valid ≡ true) × (r .sets ≡ getD rows number []) ⌝ }
+{
+    Row {
+        valid: true,
+        sets: row_at(number),
+    }
+}
+
+// The row of a scope.
+pub fn scope_row(scope: u32) -> Row
+    ensures { λ r. ⌜ r ≡ scopeRow scope ⌝ }
+{
+    if 2147483648 <= scope {
+        return valid_row(0);
+    }
+    if scope == 1 {
+        return valid_row(1);
+    }
+    if scope == 2 {
+        return valid_row(2);
+    }
+    Row {
+        valid: false,
+        sets: [0; 15],
+    }
+}

@@ -1,0 +1,167 @@
+// Steps along a journal: records of the same header four at a time, others one at a time with no branch on their kind.
+ghost use mathlib.Core.Path.{_≡_};
+ghost use Prim.Native.Nat.{_+_, _*_, _<_, _≤_};
+ghost use lib.ListN.{length};
+ghost use Rattle.journal.specs.Scanning.{goodAt, headed, fourHeaded, FoundAt, Reached, Known, Went, Weights};
+use records::Frame;
+
+// A place of the journal, and the packed counts of what stands before it.
+pub struct Position {
+    pub at: usize,
+    pub counts: u64,
+}
+
+// What a step along the journal gives: a bad record was met, or the scan stands further on.
+pub enum Step {
+    Bad,
+    Upto(Position),
+}
+
+// Whether a record of this frame and node type is good where `left` bytes are left.
+fn is_good(left: usize, frame: Frame, node: u16) -> bool
+    requires { ⌜ 2 ≤ left ⌝ }
+    ensures { λ r. ⌜ r ≡ goodAt left (frame .length) (frame .kind) node ⌝ }
+{
+    if node < 1 {
+        return false;
+    }
+    if 14 < node {
+        return false;
+    }
+    let kind = frame.kind;
+    if kind < 1 {
+        return false;
+    }
+    if 3 < kind {
+        return false;
+    }
+    if frame.length != 8 + (kind + 1) / 4 * 4 {
+        return false;
+    }
+    frame.length as usize <= left - 2
+}
+
+// What stands at a place: no good record, or one of this size that adds this weight to the counts.
+pub enum Found {
+    Bad,
+    Good(usize, u64),
+}
+
+// The record at a place.
+fn record_at(j: &[u8], row: &[u8; 15], weights: &[u64; 64], at: usize) -> Found
+    requires { ⌜ Weights (now row) (now weights) × (at ≤ length (now j)) ⌝ }
+    ensures { λ r. ⌜ FoundAt (now (row .entry)) (now (j .entry)) at r ⌝ }
+{
+    let left = j.len() - at;
+    if left < 10 {
+        return Found::Bad;
+    }
+    let frame = records::read_frame(j, at);
+    let node = words::read_le16(j, at + 4);
+    if !is_good(left, frame, node) {
+        return Found::Bad;
+    }
+    let weight = weights[16 * (frame.kind as usize) + node as usize];
+    Found::Good(records::record_size(frame), weight)
+}
+
+// Whether the record at a place has this header.
+fn has_header(j: &[u8], at: usize, low: u32, high: u32) -> bool
+    requires { ⌜ at + 6 ≤ length (now j) ⌝ }
+    ensures { λ r. ⌜ r ≡ headed (now (j .entry)) low high at ⌝ }
+{
+    let first = words::read_le32(j, at);
+    let second = words::read_le32(j, at + 2);
+    first == low && second == high
+}
+
+// Whether four records of a size, from a place on, have this header.
+fn four_headers(j: &[u8], at: usize, size: usize, low: u32, high: u32) -> bool
+    requires { ⌜ (at + (3 * size + 6) ≤ length (now j)) × (size ≤ 14) ⌝ }
+    ensures { λ r. ⌜ r ≡ fourHeaded (now (j .entry)) low high size at ⌝ }
+{
+    let a = has_header(j, at, low, high);
+    let b = has_header(j, at + size, low, high);
+    let c = has_header(j, at + 2 * size, low, high);
+    let d = has_header(j, at + 3 * size, low, high);
+    a && (b && (c && d))
+}
+
+// Past the records of a known header, four at a time, up to a limit.
+fn past_same(
+    j: &[u8],
+    row: &[u8; 15],
+    from: Position,
+    low: u32,
+    high: u32,
+    size: usize,
+    weight: u64,
+    limit: usize,
+) -> Position
+    requires { ⌜ Reached (now row) (now j) from × Known (now row) (now j) low high size weight × (limit ≤ length (now j)) × (length (now j) ≤ 1048576) ⌝ }
+    ensures { λ r. ⌜ Reached (now (row .entry)) (now (j .entry)) r × (from .at ≤ r .at) ⌝ }
+{
+    let mut at = from.at;
+    let mut counts = from.counts;
+    let four = 4 * size;
+    while at + four <= limit {
+        if !four_headers(j, at, size, low, high) {
+            break;
+        }
+        counts += 4 * weight;
+        at += four;
+    }
+    Position { at, counts }
+}
+
+// Past records one at a time, up to an end: the step is the record's own length, and one sum counts all three opcodes.
+fn past_each(j: &[u8], row: &[u8; 15], weights: &[u64; 64], from: Position, end: usize) -> Step
+    requires { ⌜ Reached (now row) (now j) from × Weights (now row) (now weights) × (end ≤ length (now j)) × (length (now j) ≤ 1048576) ⌝ }
+    ensures { λ r. ⌜ Went (now (row .entry)) (now (j .entry)) end r ⌝ }
+{
+    let mut at = from.at;
+    let mut counts = from.counts;
+    while at < end {
+        let found = record_at(j, row, weights, at);
+        match found {
+            Found::Bad => {
+                return Step::Bad;
+            }
+            Found::Good(size, weight) => {
+                at += size;
+                counts += weight;
+            }
+        }
+    }
+    Step::Upto(Position { at, counts })
+}
+
+// A place after `at`, at most `by` bytes on and not past the end.
+fn near(at: usize, by: usize, end: usize) -> usize
+    requires { ⌜ (at < end) × (0 < by) ⌝ }
+    ensures { λ r. ⌜ (at < r) × (r ≤ end) ⌝ }
+{
+    if end - at < by {
+        return end;
+    }
+    at + by
+}
+
+// Past a record and more: those of the same header behind it, then others one at a time.
+pub fn stride(j: &[u8], row: &[u8; 15], weights: &[u64; 64], from: Position) -> Step
+    requires { ⌜ Reached (now row) (now j) from × Weights (now row) (now weights) × (from .at < length (now j)) × (length (now j) ≤ 1048576) ⌝ }
+    ensures { λ r. ⌜ Went (now (row .entry)) (now (j .entry)) (from .at + 1) r ⌝ }
+{
+    let at = from.at;
+    let found = record_at(j, row, weights, at);
+    match found {
+        Found::Bad => Step::Bad,
+        Found::Good(size, weight) => {
+            let low = words::read_le32(j, at);
+            let high = words::read_le32(j, at + 2);
+            let limit = near(at, 16384, j.len());
+            let same = past_same(j, row, from, low, high, size, weight, limit);
+            past_each(j, row, weights, same, near(at, 1024, j.len()))
+        }
+    }
+}

@@ -1,0 +1,47 @@
+// What a good record adds to the counts of the three opcodes, all in one number.
+ghost use mathlib.Core.Path.{_≡_};
+ghost use mathlib.Core.Bool.{cond};
+ghost use Prim.Native.Nat.{_-_, _^_, _<_, _≤_};
+ghost use lib.ListN.{getD};
+ghost use Rattle.journal.specs.Scope.{holds};
+ghost use Rattle.journal.specs.Scanning.{Weights};
+
+// The set of a node type; none past the row's end.
+fn set_of(row: &[u8], node: usize) -> u8
+    ensures { λ r. ⌜ r ≡ getD (now (row .entry)) node 0 ⌝ }
+{
+    if row.len() <= node {
+        return 0;
+    }
+    row[node]
+}
+
+// One operation of a kind, where the set holds it.
+fn weight(set: u8, kind: usize) -> u64
+    requires { ⌜ (1 ≤ kind) × (kind ≤ 3) ⌝ }
+    ensures { λ r. ⌜ r ≡ cond (holds set kind) (2097152 ^ (kind - 1)) 0 ⌝ }
+{
+    if kind == 1 {
+        return (set % 2) as u64;
+    }
+    if kind == 2 {
+        return 2097152 * ((set / 2 % 2) as u64);
+    }
+    4398046511104 * ((set / 4 % 2) as u64)
+}
+
+// The weights of a row.
+pub type WeightTable = [u64; 64];
+
+// The weights of a row: that of a kind and a node type stands at 16 times the kind and the type.
+pub fn weights_of(row: &[u8; 15]) -> WeightTable
+    ensures { λ r. ⌜ Weights (now (row .entry)) r ⌝ }
+{
+    let mut table: [u64; 64] = [0; 64];
+    let mut i: usize = 16;
+    while i < 64 {
+        table[i] = weight(set_of(row, i % 16), i / 16);
+        i += 1;
+    }
+    table
+}

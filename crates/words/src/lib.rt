@@ -1,0 +1,13 @@
+// Numbers in bytes: big-endian 16, 32 and 64 bits, little-endian 16 and 32 bits.
+mod join;
+mod reading;
+mod storing;
+mod zero;
+
+pub use reading::read_be16;
+pub use reading::read_be32;
+pub use reading::read_be64;
+pub use reading::read_le16;
+pub use reading::read_le32;
+pub use storing::store_be32;
+pub use zero::is_zero;
