@@ -27,6 +27,10 @@ module _ (j : List ℕ) (at : ℕ) where
 abbrev pub one-if : Bool → ℕ
 one-if b = cond b 1 0
 
+pub one-if-le : (b : Bool) → one-if b ≤ 1
+one-if-le true = omega arith
+one-if-le false = omega arith
+
 module _ (row : List ℕ) (code : ℕ) (e : Entry) (es : List Entry) where
   pub chosen-yes : reports row code e ≡ true → chosen row code (e ∷ es) ≡ e .operation ∷ chosen row code es
   unfolding chosen

@@ -20,7 +20,7 @@ use Rattle.journal.specs.Journal.{within, goodFrame, nodeType, goodRecor
 use Rattle.journal.specs.Scope.{holds}
 use Rattle.journal.specs.Reportable.{reports}
 use Rattle.journal.specs.Marks.{count}
-use Rattle.journal.specs.Scanning.{goodAt, weightOf, Judged, FoundAt, headed, Known}
+use Rattle.journal.specs.Scanning.{goodAt, weightOf, Judged, FoundAt, Known}
 use Rattle.journal.proofs.Choice.{choose, and-left, and-right, each-code}
 use Rattle.journal.proofs.Entries.{one-if}
 
@@ -193,54 +193,55 @@ module _ (row j : List ℕ) (at size weight : ℕ) (g : Judged row j at size wei
   pub judged-light : (count 1 weight + count 2 weight + count 3 weight ≤ 1) × (weight ≤ 4398046511104)
   judged-light = rw (g .weight-is) (weight-light row (kindOf (drop at j)) (le 2 j (at + 4)) (frame-here .low) (frame-here .high))
 
-  pub judged-adds : (code : ℕ) → 1 ≤ code → code ≤ 3 → count code weight ≡ one-if (reports row code (entryOf (here j at)))
+  -- whether the row reports it, by its kind and node type
+  pub judged-reports : (code : ℕ) → reports row code (entryOf (here j at)) ≡ (eqb (kindOf (drop at j)) code && holds (getD row (le 2 j (at + 4)) 0) code)
   unfolding reports
-  judged-adds code l h =
+  judged-reports code =
       let f = frame-here in
       let op : opcode (operationOf (here j at)) ≡ kindOf (drop at j) = opcode-kind (here j at) (kindOf (drop at j)) (record-kind j at (omega (arith, f .large))) (f .low) (f .high) in
-      rw (g .weight-is, op, node-here j at (omega (arith, f .large))) (weight-adds row (kindOf (drop at j)) (le 2 j (at + 4)) (f .low) (f .high) code l h)
+      rw (op, node-here j at (omega (arith, f .large)))
+
+  pub judged-node : le 2 j (at + 4) ≤ 14
+  judged-node = node-high (length j - at) (lengthOf (drop at j)) (kindOf (drop at j)) (le 2 j (at + 4)) good-is
+
+  pub judged-adds : (code : ℕ) → 1 ≤ code → code ≤ 3 → count code weight ≡ one-if (reports row code (entryOf (here j at)))
+  judged-adds code l h = rw (g .weight-is, judged-reports code) (weight-adds row (kindOf (drop at j)) (le 2 j (at + 4)) (frame-here .low) (frame-here .high) code l h)
 
 -- ---- a header
 
-module _ (a b c d : ℕ) (p : a < 65536) (q : c < 65536) (h : a + 65536 * b ≡ c + 65536 * d) where
-  upper : b ≡ d
-  upper = omega arith
+-- numbers of two bytes and the rest behind them are equal where the whole is
+module _ (j : List ℕ) (bytes : Bytes j) (w at i : ℕ) (h : le (2 + w) j i ≡ le (2 + w) j at) where
+  split-two : le 2 j i + 65536 * le w j (i + 2) ≡ le 2 j at + 65536 * le w j (at + 2)
+  split-two = sym (le-split 2 w j i) ∙ h ∙ le-split 2 w j at
 
-  lower : a ≡ c
-  lower = omega (arith, upper)
+  behind-two : le w j (i + 2) ≡ le w j (at + 2)
+  behind-two = omega (arith, split-two, le-below j bytes 2 i, le-below j bytes 2 at)
 
--- two equal numbers of four bytes have equal halves
-halves : (j : List ℕ) → Bytes j → (at i : ℕ) → le 4 j i ≡ le 4 j at → (le 2 j i ≡ le 2 j at) × (le 2 j (i + 2) ≡ le 2 j (at + 2))
-halves j bytes at i e =
-    let h : le 2 j i + 65536 * le 2 j (i + 2) ≡ le 2 j at + 65536 * le 2 j (at + 2) = sym (le-split 2 2 j i) ∙ e ∙ le-split 2 2 j at in
-    let a = le-below j bytes 2 i in
-    let b = le-below j bytes 2 at in
-    (lower _ _ _ _ a b h, upper _ _ _ _ a b h)
+  first-two : le 2 j i ≡ le 2 j at
+  first-two = omega (arith, split-two, behind-two)
 
 module _ (row j : List ℕ) (bytes : Bytes j) (at size weight : ℕ) (g : Judged row j at size weight) where
-  again : (i : ℕ) → i + size ≤ length j → headed j (le 4 j at) (le 4 j (at + 2)) i ≡ true → Judged row j i size weight
-  unfolding headed
+  again : (i : ℕ) → i + size ≤ length j → le 6 j i ≡ le 6 j at → Judged row j i size weight
   again i r h =
-      let x = halves j bytes at i (eqb-true (le 4 j i) (le 4 j at) (and-left _ (eqb (le 4 j (i + 2)) (le 4 j (at + 2))) h)) in
-      let y = halves j bytes (at + 2) (i + 2) (eqb-true (le 4 j (i + 2)) (le 4 j (at + 2)) (and-right (eqb (le 4 j i) (le 4 j at)) _ h)) in
-      let len : lengthOf (drop at j) ≡ lengthOf (drop i j) = length-at j at ∙ sym (length-at j i ∙ x .0) in
-      let kind : kindOf (drop at j) ≡ kindOf (drop i j) = kind-at j at ∙ sym (kind-at j i ∙ x .1) in
-      let node : le 2 j (at + 4) ≡ le 2 j (i + 4) = ap (le 2 j) (sym (add-assoc at 2 2)) ∙ sym (y .1) ∙ ap (le 2 j) (add-assoc i 2 2) in
+      let four = behind-two j bytes 4 at i h in
+      let len : lengthOf (drop at j) ≡ lengthOf (drop i j) = length-at j at ∙ sym (length-at j i ∙ first-two j bytes 4 at i h) in
+      let kind : kindOf (drop at j) ≡ kindOf (drop i j) = kind-at j at ∙ sym (kind-at j i ∙ first-two j bytes 2 (at + 2) (i + 2) four) in
+      let node : le 2 j (at + 4) ≡ le 2 j (i + 4) = ap (le 2 j) (sym (add-assoc at 2 2)) ∙ sym (behind-two j bytes 2 (at + 2) (i + 2) four) ∙ ap (le 2 j) (add-assoc i 2 2) in
       rw (g .size-is) at
       (judged row j i (lengthOf (drop at j)) (kindOf (drop at j)) (le 2 j (at + 4)) weight len kind node
       (good-again (length j - at) (length j - i) (lengthOf (drop at j)) (kindOf (drop at j)) (le 2 j (at + 4)) (good-is row j at size weight g) (omega (arith, g .size-is))) (g .weight-is))
 
-  pub known : Known row j (le 4 j at) (le 4 j (at + 2)) size weight
+  pub known : Known row j (le 6 j at) size weight
   known =
       let s = judged-size row j at size weight g in
       record { large = s .0; small = s .1; narrow = judged-light row j at size weight g .1; here = again }
 
--- four tests in a row
-pub four : (a b c d : Bool) → (a && (b && (c && d))) ≡ true → (a ≡ true) × (b ≡ true) × (c ≡ true) × (d ≡ true)
-four a b c d t =
-    let u = and-right a _ t in
-    let v = and-right b _ u in
-    (and-left a _ t, and-left b _ u, and-left c _ v, and-right c _ v)
+-- four equal headers
+pub four-equal : (a b c d h : ℕ) → (eqb a h && (eqb b h && (eqb c h && eqb d h))) ≡ true → (a ≡ h) × (b ≡ h) × (c ≡ h) × (d ≡ h)
+four-equal a b c d h t =
+    let u = and-right (eqb a h) _ t in
+    let v = and-right (eqb b h) _ u in
+    (eqb-true a h (and-left _ _ t), eqb-true b h (and-left _ _ u), eqb-true c h (and-left _ _ v), eqb-true d h (and-right (eqb c h) _ v))
 
 -- what was found in code
 pub found-bad : (row j : List ℕ) (at : ℕ) (f : Found) → f ≡ Bad → FoundAt row j at f → (whole (here j at) && goodRecord (here j at)) ≡ false

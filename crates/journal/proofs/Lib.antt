@@ -5,3 +5,4 @@ pub mod Reaching
 pub mod WeightLaws
 pub mod MarkLaws
 pub mod Claims
+pub mod Walks

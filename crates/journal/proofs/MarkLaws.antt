@@ -37,7 +37,12 @@ marked-none row j m = record { few = omega arith; each = λ i code h. absurd (om
 
 -- a place that the scan came to resumes the list of each opcode
 reached-resumes : (row j : List ℕ) (p : Position) (code : ℕ) → Reached row j p → 1 ≤ code → code ≤ 3 → Resumes row j code (count code (p .counts)) (p .at) 0
-reached-resumes row j p code r a b = record { inside = r .inside; same = r .before code a b .rest }
+reached-resumes row j p code r a b = record {
+  inside = r .inside;
+  sound = λ w. sym (r .good) ∙ w;
+  number = omega (arith, r .before code a b .number);
+  same = r .before code a b .rest;
+}
 
 -- the marks stay true when such a place is noted: the scan's turn
 pub marked-note : (row j m : List ℕ) (n : ℕ) (p : Position) (m′ : List ℕ) (r : ℕ) → length m ≡ 128 → Reached row j p → Marked row j m n → Noted m n p m′ r → Marked row j m′ r
@@ -90,13 +95,15 @@ later row j code n k at r h =
     let all = chosen row code (entries j) in
     record {
       inside = r .inside;
+      sound = r .sound;
+      number = omega (arith, r .number);
       same = ap (λ (i : ℕ). drop i all) (sym (add-sub-of-le h)) ∙ sym (drop-drop (k - n) n all) ∙ ap (drop (k - n)) (r .same);
     }
 
 -- what is sought resumes the list of the opcode from number k on, for the writer that starts there
 pub sought-resumes : (row j m : List ℕ) (n code k : ℕ) → Marked row j m n → 1 ≤ code → code ≤ 3 → Resumes row j code k (sought m n code k .at) (sought m n code k .skip)
 unfolding sought
-sought-resumes row j m zero code k marked a b = record { inside = omega arith; same = refl }
+sought-resumes row j m zero code k marked a b = record { inside = omega arith; sound = λ w. w; number = omega arith; same = refl }
 sought-resumes row j m (suc n) code k marked a b =
     choose (leb (before m code k n) k) (λ (p : Place). Resumes row j code k (p .at) (p .skip))
     (λ t. later row j code _ k _ (marked .each n code (omega arith) a b) (leb-true _ k t))

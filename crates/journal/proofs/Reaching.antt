@@ -8,6 +8,7 @@ use native.Mathlib.Omega.{arith}
 use lib.Dec.{leb, eqb}
 use lib.ListN.{length, drop}
 use borrow.Author.Tests.{le-leb, lt-leb}
+use Rattle.words.specs.Numbers.{le}
 use Rattle.records.specs.Records.{sizeOf, firstRecord, records, whole, allGood, wellFormedBy}
 use Rattle.records.proofs.Steps.{good-step, bad-step, none-good}
 use Rattle.journal.specs.declared.scanning.Judgement.{Judgement}
@@ -18,10 +19,10 @@ use Rattle.journal.specs.declared.stride.Step.the-variants.{Bad, Upto}
 use Rattle.journal.specs.Journal.{goodRecord, wellFormed, entries, entryOf}
 use Rattle.journal.specs.Reportable.{reports, chosen, judgementOf}
 use Rattle.journal.specs.Marks.{count}
-use Rattle.journal.specs.Scanning.{Before, Reached, Went, Judged, headed, fourHeaded, Known, unpacked}
+use Rattle.journal.specs.Scanning.{Before, Reached, Went, Judged, fourHeaded, Known, unpacked}
 use Rattle.journal.proofs.Choice.{each-code}
 use Rattle.journal.proofs.Entries.{one-if, before-step, before-none, before-all}
-use Rattle.journal.proofs.Judging.{four, judged-size, judged-fits, judged-light, judged-adds}
+use Rattle.journal.proofs.Judging.{four-equal, judged-size, judged-fits, judged-light, judged-adds}
 
 -- ---- packed counts
 
@@ -117,23 +118,21 @@ unfolding judgementOf
 malformed row j h = rw h
 
 -- past four records of a known header
-module _ (row j : List ℕ) (low high size weight : ℕ) (small : length j ≤ 1048576) (k : Known row j low high size weight) where
-  reached-same : (at counts : ℕ) → at + size ≤ length j → headed j low high at ≡ true → Reached row j (position at counts) → Reached row j (position (at + size) (counts + weight))
+module _ (row j : List ℕ) (header size weight : ℕ) (small : length j ≤ 1048576) (k : Known row j header size weight) where
+  reached-same : (at counts : ℕ) → at + size ≤ length j → le 6 j at ≡ header → Reached row j (position at counts) → Reached row j (position (at + size) (counts + weight))
   reached-same at counts r e t = reached-step row j at counts small t size weight (omega (arith, k .large)) (k .here at r e)
 
-  pub reached-four : (at counts : ℕ) → at + 4 * size ≤ length j
-      → fourHeaded j low high size at ≡ true
-      → Reached row j (position at counts) → Reached row j (position (at + 4 * size) (counts + 4 * weight))
+  pub reached-four : (at counts : ℕ) → at + 4 * size ≤ length j → fourHeaded j header size at ≡ true → Reached row j (position at counts) → Reached row j (position (at + 4 * size) (counts + 4 * weight))
   reached-four at counts r e t =
-      let q = four (headed j low high at) (headed j low high (at + size)) (headed j low high (at + 2 * size)) (headed j low high (at + 3 * size)) e in
+      let q = four-equal (le 6 j at) (le 6 j (at + size)) (le 6 j (at + 2 * size)) (le 6 j (at + 3 * size)) header e in
       let s₂ : at + size + size ≡ at + 2 * size = omega arith in
       let s₃ : at + size + size + size ≡ at + 3 * size = omega arith in
       let s₄ : at + size + size + size + size ≡ at + 4 * size = omega arith in
       let w₄ : counts + weight + weight + weight + weight ≡ counts + 4 * weight = omega arith in
       let t₁ = reached-same at counts (omega arith) (q .0) t in
       let t₂ = reached-same (at + size) _ (omega arith) (q .1) t₁ in
-      let t₃ = reached-same (at + size + size) _ (omega arith) (ap (headed j low high) s₂ ∙ q .2) t₂ in
-      let t₄ = reached-same (at + size + size + size) _ (omega arith) (ap (headed j low high) s₃ ∙ q .3) t₃ in
+      let t₃ = reached-same (at + size + size) _ (omega arith) (ap (le 6 j) s₂ ∙ q .2) t₂ in
+      let t₄ = reached-same (at + size + size + size) _ (omega arith) (ap (le 6 j) s₃ ∙ q .3) t₃ in
       rw (s₄, w₄) at t₄
 
 -- what a step gave

@@ -1,9 +1,9 @@
 -- Laws for the weights table: what one weight is, and the table as it is filled.
-use mathlib.Core.Path.{_≡_, _∙_}
+use mathlib.Core.Path.{_≡_, sym, _∙_}
 use mathlib.Core.Bool.{cond}
 use mathlib.Core.List.{List}
 use Prim.Native.Nat.{ℕ, zero, suc, _+_, _*_, _-_, _/_, _%_, _^_, _<_, _≤_}
-use native.Mathlib.Nat.{mul-zero, mul-one}
+use native.Mathlib.Nat.{mul-zero, mul-one, one-mul}
 use native.Mathlib.Omega.{arith}
 use lib.Dec.{eqb}
 use lib.ListN.{length, getD, set, length-set}
@@ -17,6 +17,10 @@ bit-chooses : (w bit : ℕ) → bit < 2 → w * bit ≡ cond (eqb bit 1) w 0
 bit-chooses w zero h = mul-zero w
 bit-chooses w (suc zero) h = mul-one w
 bit-chooses w (suc (suc n)) h = absurd (omega arith)
+
+-- the bit of an opcode in a set
+pub bit-is : (set code : ℕ) → set / 2 ^ (code - 1) % 2 ≡ cond (holds set code) 1 0
+bit-is set code = sym (one-mul (set / 2 ^ (code - 1) % 2)) ∙ bit-chooses 1 (set / 2 ^ (code - 1) % 2) (omega arith)
 
 -- what `weight` computes, from the set's bit of the kind
 pub weight-is : (set kind w : ℕ) → w ≡ 2097152 ^ (kind - 1) * (set / 2 ^ (kind - 1) % 2) → w ≡ cond (holds set kind) (2097152 ^ (kind - 1)) 0

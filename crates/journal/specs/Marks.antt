@@ -1,21 +1,25 @@
 -- Marks that a scan notes, from which the operation due is found without a walk from the journal's start.
 use Prim.Native.Nat.{ℕ, zero, suc, _+_, _*_, _-_, _/_, _%_, _^_, _≤_, _<_}
 use mathlib.Core.Path.{_≡_}
-use mathlib.Core.Bool.{Bool, cond}
+use mathlib.Core.Bool.{true, cond}
 use mathlib.Core.List.{List}
 use lib.Dec.{leb}
 use lib.ListN.{length, getD, drop}
 use Rattle.journal.specs.declared.marks.Place.{Place}
-use Rattle.journal.specs.Journal.{entries}
+use Rattle.records.specs.Records.{records, allGood}
+use Rattle.journal.specs.Journal.{goodRecord, entries}
 use Rattle.journal.specs.Reportable.{chosen}
 
 -- Three counts in one number, 21 bits for each opcode.
 abbrev pub count : ℕ → ℕ → ℕ
 count code packed = packed / 2097152 ^ (code - 1) % 2097152
 
--- From this place of the journal on, after `skip` operations of the opcode, stands what the list holds from number k on.
+-- From this place of the journal on, where a record begins, the list of an opcode holds after `skip` operations what it holds of
+-- the whole journal from number k on.
 pub record Resumes (row j : List ℕ) (code k at skip : ℕ) : Type 0 where
   pub inside : at ≤ length j
+  pub sound : allGood goodRecord (records j) ≡ true → allGood goodRecord (records (drop at j)) ≡ true
+  pub number : length (chosen row code (entries j)) + skip ≡ k + length (chosen row code (entries (drop at j)))
   pub same : drop k (chosen row code (entries j)) ≡ drop skip (chosen row code (entries (drop at j)))
 
 -- A mark is two numbers, a place and the packed counts of what the row reports before it. Of n marks each resumes the list of every opcode.

@@ -6,7 +6,7 @@ use mathlib.Core.List.{List, [], _∷_}
 use lib.Dec.{leb, eqb}
 use lib.ListN.{length, getD, drop}
 use lib.Seq.{sets}
-use Rattle.words.specs.Numbers.{le16, le32}
+use Rattle.words.specs.Numbers.{le, le16}
 use Rattle.records.specs.Records.{kindOf, sizeOf, firstRecord, records, whole, allGood}
 use Rattle.journal.specs.declared.scanning.Counts.{Counts}
 use Rattle.journal.specs.declared.stride.Found.{Found}
@@ -58,19 +58,16 @@ abbrev pub FoundAt : List ℕ → List ℕ → ℕ → Found → Type 0
 FoundAt row j at Bad = (whole (firstRecord (drop at j)) && goodRecord (firstRecord (drop at j))) ≡ false
 FoundAt row j at (Good size weight) = Judged row j at size weight
 
--- the six bytes of a record's length, kind and node type, as two numbers that share the kind
-unfoldable pub headed : List ℕ → ℕ → ℕ → ℕ → Bool
-headed j low high at = eqb (le32 j at) low && eqb (le32 j (at + 2)) high
-
-abbrev pub fourHeaded : List ℕ → ℕ → ℕ → ℕ → ℕ → Bool
-fourHeaded j low high size at = headed j low high at && (headed j low high (at + size) && (headed j low high (at + 2 * size) && headed j low high (at + 3 * size)))
+-- the six bytes of a record's length, kind and node type, as one number, at four places a size apart
+abbrev pub fourHeaded : List ℕ → ℕ → ℕ → ℕ → Bool
+fourHeaded j header size at = eqb (le 6 j at) header && (eqb (le 6 j (at + size)) header && (eqb (le 6 j (at + 2 * size)) header && eqb (le 6 j (at + 3 * size)) header))
 
 -- wherever this header stands and the size fits, there is such a record
-pub record Known (row j : List ℕ) (low high size weight : ℕ) : Type 0 where
+pub record Known (row j : List ℕ) (header size weight : ℕ) : Type 0 where
   pub large : 10 ≤ size
   pub small : size ≤ 14
   pub narrow : weight ≤ 4398046511104
-  pub here : (at : ℕ) → at + size ≤ length j → headed j low high at ≡ true → Judged row j at size weight
+  pub here : (at : ℕ) → at + size ≤ length j → le 6 j at ≡ header → Judged row j at size weight
 
 -- the marks after p was offered as the next one
 pub data Noted (marks : List ℕ) (n : ℕ) (p : Position) : List ℕ → ℕ → Type 0 where

@@ -4,10 +4,9 @@ mod operation;
 mod scanning;
 mod scope;
 mod stride;
+mod walking;
 mod weights;
 
-pub use marks::Place;
-pub use marks::seek;
 pub use operation::Operation;
 pub use scanning::Counts;
 pub use scanning::Judgement;
@@ -15,3 +14,6 @@ pub use scanning::Scanned;
 pub use scanning::scan;
 pub use scope::Row;
 pub use scope::scope_row;
+pub use walking::Passed;
+pub use walking::find;
+pub use walking::pass;

@@ -2,7 +2,8 @@
 ghost use mathlib.Core.Path.{_≡_};
 ghost use Prim.Native.Nat.{_+_, _*_, _<_, _≤_};
 ghost use lib.ListN.{length};
-ghost use Rattle.journal.specs.Scanning.{goodAt, headed, fourHeaded, FoundAt, Reached, Known, Went, Weights};
+ghost use Rattle.words.specs.Numbers.{le};
+ghost use Rattle.journal.specs.Scanning.{goodAt, fourHeaded, FoundAt, Reached, Known, Went, Weights};
 use records::Frame;
 
 // A place of the journal, and the packed counts of what stands before it.
@@ -65,26 +66,24 @@ fn record_at(j: &[u8], row: &[u8; 15], weights: &[u64; 64], at: usize) -> Found
     Found::Good(records::record_size(frame), weight)
 }
 
-// Whether the record at a place has this header.
-fn has_header(j: &[u8], at: usize, low: u32, high: u32) -> bool
-    requires { ⌜ at + 6 ≤ length (now j) ⌝ }
-    ensures { λ r. ⌜ r ≡ headed (now (j .entry)) low high at ⌝ }
+// The six bytes of a record's length, kind and node type as one number.
+fn header_at(j: &[u8], at: usize) -> u64
+    requires { ⌜ at + 8 ≤ length (now j) ⌝ }
+    ensures { λ r. ⌜ r ≡ le 6 (now (j .entry)) at ⌝ }
 {
-    let first = words::read_le32(j, at);
-    let second = words::read_le32(j, at + 2);
-    first == low && second == high
+    words::read_le64(j, at) % 281474976710656
 }
 
 // Whether four records of a size, from a place on, have this header.
-fn four_headers(j: &[u8], at: usize, size: usize, low: u32, high: u32) -> bool
-    requires { ⌜ (at + (3 * size + 6) ≤ length (now j)) × (size ≤ 14) ⌝ }
-    ensures { λ r. ⌜ r ≡ fourHeaded (now (j .entry)) low high size at ⌝ }
+fn four_headers(j: &[u8], at: usize, size: usize, header: u64) -> bool
+    requires { ⌜ (at + (3 * size + 8) ≤ length (now j)) × (size ≤ 14) ⌝ }
+    ensures { λ r. ⌜ r ≡ fourHeaded (now (j .entry)) header size at ⌝ }
 {
-    let a = has_header(j, at, low, high);
-    let b = has_header(j, at + size, low, high);
-    let c = has_header(j, at + 2 * size, low, high);
-    let d = has_header(j, at + 3 * size, low, high);
-    a && (b && (c && d))
+    let a = header_at(j, at);
+    let b = header_at(j, at + size);
+    let c = header_at(j, at + 2 * size);
+    let d = header_at(j, at + 3 * size);
+    a == header && (b == header && (c == header && d == header))
 }
 
 // Past the records of a known header, four at a time, up to a limit.
@@ -92,20 +91,19 @@ fn past_same(
     j: &[u8],
     row: &[u8; 15],
     from: Position,
-    low: u32,
-    high: u32,
+    header: u64,
     size: usize,
     weight: u64,
     limit: usize,
 ) -> Position
-    requires { ⌜ Reached (now row) (now j) from × Known (now row) (now j) low high size weight × (limit ≤ length (now j)) × (length (now j) ≤ 1048576) ⌝ }
+    requires { ⌜ Reached (now row) (now j) from × Known (now row) (now j) header size weight × (limit ≤ length (now j)) × (length (now j) ≤ 1048576) ⌝ }
     ensures { λ r. ⌜ Reached (now (row .entry)) (now (j .entry)) r × (from .at ≤ r .at) ⌝ }
 {
     let mut at = from.at;
     let mut counts = from.counts;
     let four = 4 * size;
     while at + four <= limit {
-        if !four_headers(j, at, size, low, high) {
+        if !four_headers(j, at, size, header) {
             break;
         }
         counts += 4 * weight;
@@ -157,11 +155,10 @@ pub fn stride(j: &[u8], row: &[u8; 15], weights: &[u64; 64], from: Position) -> 
     match found {
         Found::Bad => Step::Bad,
         Found::Good(size, weight) => {
-            let low = words::read_le32(j, at);
-            let high = words::read_le32(j, at + 2);
+            let header = header_at(j, at);
             let limit = near(at, 16384, j.len());
-            let same = past_same(j, row, from, low, high, size, weight, limit);
-            past_each(j, row, weights, same, near(at, 1024, j.len()))
+            let same = past_same(j, row, from, header, size, weight, limit);
+            past_each(j, row, weights, same, near(at, 4096, j.len()))
         }
     }
 }

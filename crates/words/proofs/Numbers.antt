@@ -2,7 +2,7 @@
 use mathlib.Core.Path.{_≡_, refl, ap, ap₂, _∙_, sym}
 use mathlib.Core.List.{List, [], _∷_, _++_}
 use Prim.Native.Nat.{ℕ, zero, suc, _+_, _*_, _/_, _%_, _^_, _<_, _≤_}
-use native.Mathlib.Nat.{add-assoc, add-zero, zero-add, add-suc, suc-add, mul-le-mul-right, mod-one, pow-succ', one-le-pow}
+use native.Mathlib.Nat.{add-assoc, add-zero, zero-add, add-suc, suc-add, mul-le-mul-right, mod-one, mod-eq-of-lt, add-mul-mod-self-left, pow-succ', one-le-pow}
 use lib.Arith.{mod-mul}
 use lib.Pow.{pow-add}
 use native.Mathlib.Numerals.{towards-suc}
@@ -91,6 +91,10 @@ module _ (s : List ℕ) (bytes : Bytes s) where
   unfolding le
   le-below zero at = omega arith
   le-below (suc w) at = omega (arith, le-below w (suc at), bytes at, pow-succ' 256 w)
+
+  -- the lower bytes of a number are its remainder
+  pub le-low : (v w at : ℕ) → le (v + w) s at % 256 ^ v ≡ le v s at
+  le-low v w at = rw (le-split v w s at, add-mul-mod-self-left (le v s at) (256 ^ v) (le w s (at + v))) (mod-eq-of-lt (le-below v at))
 
 -- reading the bytes of a number gives it back, up to its width
 pub be-bytes : (w v : ℕ) (r : List ℕ) → be w (beBytes w v ++ r) 0 ≡ v % 256 ^ w

@@ -32,6 +32,9 @@ le16 s at = le 2 s at
 abbrev pub le32 : List ℕ → ℕ → ℕ
 le32 s at = le 4 s at
 
+abbrev pub le64 : List ℕ → ℕ → ℕ
+le64 s at = le 8 s at
+
 -- the w bytes of a number, the highest first
 unfoldable pub beBytes : ℕ → ℕ → List ℕ
 beBytes zero v = []
@@ -46,3 +49,11 @@ wordBytes (w ∷ ws) = beBytes 4 w ++ wordBytes ws
 unfoldable pub zeros : List ℕ → Bool
 zeros [] = true
 zeros (b ∷ bs) = eqb b 0 && zeros bs
+
+-- the RTAS words of a list of bytes; a rest of fewer than four bytes is left out
+unfoldable pub words : List ℕ → List ℕ
+words [] = []
+words (a ∷ []) = []
+words (a ∷ b ∷ []) = []
+words (a ∷ b ∷ c ∷ []) = []
+words (a ∷ b ∷ c ∷ d ∷ l) = be 4 (a ∷ b ∷ c ∷ d ∷ []) 0 ∷ words l

@@ -1,4 +1,4 @@
-// Numbers in bytes: big-endian 16, 32 and 64 bits, little-endian 16 and 32 bits.
+// Numbers in bytes: big-endian 16, 32 and 64 bits, little-endian 16, 32 and 64 bits.
 mod join;
 mod reading;
 mod storing;
@@ -9,5 +9,6 @@ pub use reading::read_be32;
 pub use reading::read_be64;
 pub use reading::read_le16;
 pub use reading::read_le32;
+pub use reading::read_le64;
 pub use storing::store_be32;
 pub use zero::is_zero;

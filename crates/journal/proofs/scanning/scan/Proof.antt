@@ -5,10 +5,10 @@ use native.Mathlib.Omega.{arith}
 use lib.ListN.{length}
 use borrow.Author.Needs.{needs}
 use denote.Ref.{now}
-use Rattle.journal.specs.Claims.{WellFormedCases, SizeLimit}
 use Rattle.journal.proofs.Claims.{well-formed-cases, size-limit}
 use Rattle.journal.proofs.MarkLaws.{marked-none, marked-note, noted-length}
 use Rattle.journal.proofs.Reaching.{position, reached-none, reached-end, oversized, malformed, went-bad, went-upto}
+use Rattle.journal.specs.Claims.{WellFormedCases, SizeLimit}
 use Rattle.journal.specs.Marks.{Marked}
 use Rattle.journal.specs.Scanning.{Reached}
 use Rattle.journal.specs.declared.scanning.Counts.{Counts}

@@ -12,10 +12,10 @@ use Rattle.journal.proofs.stride.past_same.Statement.{statement}
 use Rattle.journal.proofs.stride.past_same.Tie as tie
 
 abbrev Inv-loop : tie.InvT-loop
-Inv-loop j row low high size weight limit at₀ counts₀ four at counts = Reached row j (position at counts) × (at₀ ≤ at) × (four ≡ 4 * size)
+Inv-loop j row header size weight limit at₀ counts₀ four at counts = Reached row j (position at counts) × (at₀ ≤ at) × (four ≡ 4 * size)
 
 abbrev μ-loop : tie.MeasureT-loop
-μ-loop j row low high size weight limit at₀ counts₀ four at counts = limit - at
+μ-loop j row header size weight limit at₀ counts₀ four at counts = limit - at
 
 mul-four : tie.Need-mul-four Inv-loop μ-loop
 mul-four c = omega (arith, c .before .pre .1 .small)
@@ -32,7 +32,7 @@ four-headers-requires c κs = (omega (arith, c .before .before .before .pre .1 .
 -- past four records
 turn : (c : tie.Else1 Inv-loop μ-loop) → Reached (now (c .before .before .before .before .before .args .row)) (now (c .before .before .before .before .before .args .j)) (position (c .before .before .before .loop .at + 4 * c .before .before .before .before .before .args .size) (c .before .before .before .loop .counts + 4 * c .before .before .before .before .before .args .weight))
 turn c =
-    reached-four (now (c .before .before .before .before .before .args .row)) (now (c .before .before .before .before .before .args .j)) (c .before .before .before .before .before .args .low) (c .before .before .before .before .before .args .high) (c .before .before .before .before .before .args .size) (c .before .before .before .before .before .args .weight) (c .before .before .before .before .before .pre .3) (c .before .before .before .before .before .pre .1) (c .before .before .before .loop .at) (c .before .before .before .loop .counts)
+    reached-four (now (c .before .before .before .before .before .args .row)) (now (c .before .before .before .before .before .args .j)) (c .before .before .before .before .before .args .header) (c .before .before .before .before .before .args .size) (c .before .before .before .before .before .args .weight) (c .before .before .before .before .before .pre .3) (c .before .before .before .before .before .pre .1) (c .before .before .before .loop .at) (c .before .before .before .loop .counts)
     (omega arith) (sym (c .before .four-headers .ensures) ∙ not-false _ (c .if1 .left)) (c .before .before .before .loop .inv .0)
 
 mul-counts : tie.Need-mul-counts Inv-loop μ-loop

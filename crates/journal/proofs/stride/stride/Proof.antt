@@ -23,28 +23,18 @@ enum-known-found c = search needs
 judged : (c : tie.After-known-told) → Judged (now (c .before .before .before .before .before .args .row)) (now (c .before .before .before .before .before .args .j)) (c .before .before .before .before .before .args .from .at) (c .before .found .given .0 .0) (c .before .found .given .0 .1 .0)
 judged c = found-good (now (c .before .before .before .before .before .args .row)) (now (c .before .before .before .before .before .args .j)) (c .before .before .before .before .before .args .from .at) _ _ _ (c .before .found .given .1) (c .before .before .before .record-at .ensures)
 
--- the record's first ten bytes are inside
-inside : (c : tie.After-known-told) → c .before .before .before .before .before .args .from .at + 10 ≤ length (now (c .before .before .before .before .before .args .j))
-inside c = omega (arith, judged-size (now (c .before .before .before .before .before .args .row)) (now (c .before .before .before .before .before .args .j)) (c .before .before .before .before .before .args .from .at) _ _ (judged c), judged-fits (now (c .before .before .before .before .before .args .row)) (now (c .before .before .before .before .before .args .j)) (c .before .before .before .before .before .args .from .at) _ _ (judged c), c .before .before .before .before .before .pre .2)
-
-read-le32-requires : tie.Need-read-le32-requires
-read-le32-requires c κs = omega (arith, inside c)
-
-add-read-le32 : tie.Need-add-read-le32
-add-read-le32 c = search needs
-
-read-le32-requires-2 : tie.Need-read-le32-requires-2
-read-le32-requires-2 c κs = omega (arith, inside (c .before))
+header-at-requires : tie.Need-header-at-requires
+header-at-requires c κs = omega (arith, judged-size (now (c .before .before .before .before .before .args .row)) (now (c .before .before .before .before .before .args .j)) (c .before .before .before .before .before .args .from .at) _ _ (judged c), judged-fits (now (c .before .before .before .before .before .args .row)) (now (c .before .before .before .before .before .args .j)) (c .before .before .before .before .before .args .from .at) _ _ (judged c), c .before .before .before .before .before .pre .2)
 
 near-requires : tie.Need-near-requires
 near-requires c κs = search needs
 
 past-same-requires : tie.Need-past-same-requires
 past-same-requires c κs = (
-  c .before .before .before .before .before .before .before .before .pre .0,
-  rw (c .before .before .read-le32 .ensures, c .before .read-le322 .ensures) (known (now (c .before .before .before .before .before .before .before .before .args .row)) (now (c .before .before .before .before .before .before .before .before .args .j)) (λ i. omega (arith, c .before .before .before .before .before .before .before .shared-slice-known .given i)) (c .before .before .before .before .before .before .before .before .args .from .at) _ _ (judged (c .before .before .before))),
+  c .before .before .before .before .before .before .before .pre .0,
+  rw (c .before .header-at .ensures) (known (now (c .before .before .before .before .before .before .before .args .row)) (now (c .before .before .before .before .before .before .before .args .j)) (λ i. omega (arith, c .before .before .before .before .before .before .shared-slice-known .given i)) (c .before .before .before .before .before .before .before .args .from .at) _ _ (judged (c .before .before))),
   c .near .ensures .1,
-  c .before .before .before .before .before .before .before .before .pre .3,
+  c .before .before .before .before .before .before .before .pre .3,
 )
 
 near-requires-2 : tie.Need-near-requires-2
@@ -58,7 +48,7 @@ returns c = reached-bad (now (c .before .before .before .before .args .row)) (no
     (found-bad (now (c .before .before .before .before .args .row)) (now (c .before .before .before .before .args .j)) (c .before .before .before .before .args .from .at) _ (c .enum-told .given .1) (c .before .before .record-at .ensures))
 
 returns-2 : tie.Need-returns-2
-returns-2 c = went-lower (now (c .before .before .before .before .before .before .before .before .before .before .before .args .row)) (now (c .before .before .before .before .before .before .before .before .before .before .before .args .j)) _ _ (c .past-each .result) (omega (arith, c .before .near2 .ensures)) (c .past-each .ensures)
+returns-2 c = went-lower (now (c .before .before .before .before .before .before .before .before .before .before .args .row)) (now (c .before .before .before .before .before .before .before .before .before .before .args .j)) _ _ (c .past-each .result) (omega (arith, c .before .near2 .ensures)) (c .past-each .ensures)
 
 pub stride-spec : {M : Type 1} → statement M
 stride-spec =
@@ -67,9 +57,7 @@ stride-spec =
     record-at-requires
     enum-told
     enum-known-found
-    read-le32-requires
-    add-read-le32
-    read-le32-requires-2
+    header-at-requires
     near-requires
     past-same-requires
     near-requires-2

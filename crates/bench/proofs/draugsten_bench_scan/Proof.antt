@@ -1,0 +1,55 @@
+-- `bench::draugsten_bench_scan` meets its contract.
+use mathlib.Core.Path.{_≡_, sym, ap, _∙_}
+use native.Mathlib.Omega.{arith}
+use borrow.Author.Needs.{needs}
+use denote.Ref.{now}
+use Rattle.journal.specs.Scope.{rowOf}
+use Rattle.journal.specs.Reportable.{judgementOf}
+use Rattle.journal.specs.declared.scope.Row.{Row}
+use Rattle.bench.specs.Bench.{reportedOf}
+use Rattle.bench.proofs.Counting.{total-of, light-of}
+use Rattle.bench.proofs.draugsten_bench_scan.Statement.{statement}
+use Rattle.bench.proofs.draugsten_bench_scan.Tie as tie
+
+-- what the scan told, over the row of the scope
+told : (c : tie.After-scan) → c .scan .result .judgement ≡ judgementOf (rowOf (c .before .before .before .before .before .args .scope)) (now (c .before .before .before .before .before .args .journal))
+told c = c .scan .ensures .0 .0 ∙ ap (λ (r : Row). judgementOf (r .sets) (now (c .before .before .before .before .before .args .journal))) (c .before .before .before .scope-row .ensures)
+
+scope-row-requires : tie.Need-scope-row-requires
+scope-row-requires c κs = search needs
+
+scan-requires : tie.Need-scan-requires
+scan-requires c κs = search needs
+
+enum-told : tie.Need-enum-told
+enum-told c = search needs
+
+enum-known-judgement : tie.Need-enum-known-judgement
+enum-known-judgement c = search needs
+
+add-result : tie.Need-add-result
+add-result c = omega (arith, light-of _ _ _ (sym (c .before .before .judgement .given .1) ∙ told (c .before .before .before .before)))
+
+add-result-2 : tie.Need-add-result-2
+add-result-2 c = omega (arith, light-of _ _ _ (sym (c .before .before .before .judgement .given .1) ∙ told (c .before .before .before .before .before)))
+
+returns : tie.Need-returns
+unfolding reportedOf
+returns c = total-of _ _ _ (sym (c .enum-told .given .1) ∙ told (c .before .before))
+
+returns-2 : tie.Need-returns-2
+unfolding reportedOf
+returns-2 c = total-of _ _ _ (sym (c .before .before .before .judgement .given .1) ∙ told (c .before .before .before .before .before))
+
+pub draugsten-bench-scan-spec : {M : Type 1} → statement M
+draugsten-bench-scan-spec =
+    tie.close
+    (tie.spec
+    scope-row-requires
+    scan-requires
+    enum-told
+    enum-known-judgement
+    add-result
+    add-result-2
+    returns
+    returns-2)

@@ -1,0 +1,12 @@
+-- What the measured function answers.
+use Prim.Native.Nat.{ℕ}
+use mathlib.Core.Bool.{cond}
+use mathlib.Core.List.{List}
+use lib.ListN.{length}
+use Rattle.journal.specs.Journal.{wellFormed}
+use Rattle.journal.specs.Scope.{rowOf}
+use Rattle.journal.specs.Reportable.{reportable}
+
+-- the length of the reportable list, or the highest number for a malformed journal
+unfoldable pub reportedOf : ℕ → List ℕ → ℕ
+reportedOf scope j = cond (wellFormed j) (length (reportable (rowOf scope) j)) 18446744073709551615

@@ -1,0 +1,72 @@
+-- `walking::find` meets its contract.
+use mathlib.Core.Path.{_≡_, refl, sym, ap, subst, _∙_}
+use Prim.Native.Nat.{ℕ, _+_, _-_, _<_, _≤_}
+use native.Mathlib.Omega.{arith}
+use lib.ListN.{length, drop}
+use borrow.Author.Needs.{needs}
+use denote.Ref.{now}
+use Rattle.journal.proofs.Entries.{one-if-le}
+use Rattle.journal.proofs.MarkLaws.{sought-resumes}
+use Rattle.journal.proofs.Walks.{all-good, walked-fits, still-inside, resumes-step}
+use Rattle.journal.specs.Journal.{entryOf}
+use Rattle.journal.specs.Marks.{Resumes}
+use Rattle.journal.specs.Reportable.{reports}
+use Rattle.journal.specs.declared.marks.Place.{Place}
+use Rattle.records.specs.Records.{firstRecord}
+use Rattle.journal.proofs.walking.find.Statement.{statement}
+use Rattle.journal.proofs.walking.find.Tie as tie
+
+abbrev Inv-loop : tie.InvT-loop
+Inv-loop j row marks noted code k at₀ skip₀ at skip = Resumes row j code k at skip
+
+abbrev μ-loop : tie.MeasureT-loop
+μ-loop j row marks noted code k at₀ skip₀ at skip = length j - at
+
+seek-requires : tie.Need-seek-requires Inv-loop μ-loop
+seek-requires c κs = (c .before .pre .1 .few, c .before .pre .2, c .before .pre .3)
+
+loop-holds : tie.Need-loop-holds Inv-loop μ-loop
+loop-holds c = rw (c .seek .ensures) (sought-resumes (now (c .before .before .args .row)) (now (c .before .before .args .j)) _ _ _ _ (c .before .before .pre .1) (c .before .before .pre .2) (c .before .before .pre .3))
+
+inside : (c : tie.In-loop Inv-loop μ-loop) → c .before .loop .at < length (now (c .before .before .before .before .args .j))
+inside c = still-inside (now (c .before .before .before .before .args .row)) (now (c .before .before .before .before .args .j)) (c .before .before .before .before .args .code) (c .before .loop .at) (omega (arith, c .before .loop .inv .number, c .before .before .before .before .pre .4))
+
+-- past a record
+turn : (c : tie.After-pass Inv-loop μ-loop) → Resumes (now (c .before .before .before .before .before .args .row)) (now (c .before .before .before .before .before .args .j)) (c .before .before .before .before .before .args .code) (c .before .before .before .before .before .args .k) (c .before .before .loop .at + c .pass .result .size) (c .before .before .loop .skip - c .pass .result .reported)
+turn c = rw (c .pass .ensures .0, c .pass .ensures .1) (resumes-step (now (c .before .before .before .before .before .args .row)) (now (c .before .before .before .before .before .args .j)) _ _ _ _ (all-good (now (c .before .before .before .before .before .args .j)) (c .before .before .before .before .before .pre .0)) (inside (c .before)) (c .before .loop-test .taken) (c .before .before .loop .inv))
+
+none : (c : tie.After-loop Inv-loop μ-loop) → c .before .loop .skip ≡ 0
+none c = omega arith
+
+pass-requires : tie.Need-pass-requires Inv-loop μ-loop
+pass-requires c κs = (inside c, c .before .loop .inv .sound (all-good (now (c .before .before .before .before .args .j)) (c .before .before .before .before .pre .0)), c .before .before .before .before .pre .2, c .before .before .before .before .pre .3)
+
+add-at : tie.Need-add-at Inv-loop μ-loop
+add-at c = omega (arith, turn (c .before) .inside)
+
+sub-skip : tie.Need-sub-skip Inv-loop μ-loop
+sub-skip c = omega (arith, c .before .before .pass .ensures, one-if-le (reports (now (c .before .before .before .before .before .before .before .args .row)) (c .before .before .before .before .before .before .before .args .code) (entryOf (firstRecord (drop (c .before .before .before .before .loop .at) (now (c .before .before .before .before .before .before .before .args .j)))))))
+
+loop-less : tie.Need-loop-less Inv-loop μ-loop
+loop-less c = omega (arith, turn (c .before .before) .inside, c .before .before .pass .ensures)
+
+loop-again : tie.Need-loop-again Inv-loop μ-loop
+loop-again c = turn (c .before .before)
+
+returns : tie.Need-returns Inv-loop μ-loop
+returns c = rw (none c) at (c .before .loop .inv)
+
+pub find-spec : {M : Type 1} → statement M
+find-spec =
+    tie.close
+    (tie.spec
+    Inv-loop
+    μ-loop
+    seek-requires
+    loop-holds
+    pass-requires
+    add-at
+    sub-skip
+    loop-less
+    loop-again
+    returns)

@@ -1,0 +1,78 @@
+// Walking a well-formed journal, where nothing is judged again.
+ghost use mathlib.Core.Path.{_≡_};
+ghost use mathlib.Core.Bool.{true, cond, _&&_};
+ghost use lib.Dec.{eqb};
+ghost use Prim.Native.Nat.{_<_, _≤_};
+ghost use lib.ListN.{length, drop};
+ghost use Rattle.records.specs.Records.{sizeOf, firstRecord, records, allGood};
+ghost use Rattle.journal.specs.Journal.{goodRecord, entryOf, entries, wellFormed};
+ghost use Rattle.journal.specs.Scope.{holds};
+ghost use Rattle.journal.specs.Reportable.{reports, chosen};
+ghost use Rattle.journal.specs.Marks.{Resumes, Marked};
+use crate::marks::seek;
+
+// 1 where a set holds an opcode, else 0.
+fn in_set(set: u8, code: usize) -> usize
+    requires { ⌜ (1 ≤ code) × (code ≤ 3) ⌝ }
+    ensures { λ r. ⌜ r ≡ cond (holds set code) 1 0 ⌝ }
+{
+    if code == 1 {
+        return (set % 2) as usize;
+    }
+    if code == 2 {
+        return (set / 2 % 2) as usize;
+    }
+    (set / 4 % 2) as usize
+}
+
+// 1 where a set holds the opcode of a kind, and that is the opcode asked for, else 0.
+fn reported(set: u8, code: usize, kind: usize) -> usize
+    requires { ⌜ (1 ≤ code) × (code ≤ 3) ⌝ }
+    ensures { λ r. ⌜ r ≡ cond (eqb kind code && holds set code) 1 0 ⌝ }
+{
+    let bit = in_set(set, code);
+    if kind == code { bit } else { 0 }
+}
+
+// A record that a walk passes: its size, and 1 where the row reports it under the opcode, else 0.
+pub struct Passed {
+    pub size: usize,
+    pub reported: usize,
+}
+
+// The record at a place from which the records are good.
+pub fn pass(j: &[u8], row: &[u8; 15], code: usize, at: usize) -> Passed
+    requires { ⌜ (at < length (now j)) × (allGood goodRecord (records (drop at (now j))) ≡ true) × (1 ≤ code) × (code ≤ 3) ⌝ }
+    ensures { λ r. ⌜ (r .size ≡ sizeOf (drop at (now (j .entry)))) × (r .reported ≡ cond (reports (now (row .entry)) code (entryOf (firstRecord (drop at (now (j .entry)))))) 1 0) ⌝ }
+{
+    let frame = records::read_frame(j, at);
+    let node = words::read_le16(j, at + 4);
+    let bit = reported(row[node as usize], code, frame.kind as usize);
+    Passed {
+        size: records::record_size(frame),
+        reported: bit,
+    }
+}
+
+// A place from which the list of an opcode is what it is of the whole journal from operation number k on, by the marks of a scan.
+pub fn find(
+    j: &[u8],
+    row: &[u8; 15],
+    marks: &[u64; 128],
+    noted: usize,
+    code: usize,
+    k: usize,
+) -> usize
+    requires { ⌜ (wellFormed (now j) ≡ true) × Marked (now row) (now j) (now marks) noted × (1 ≤ code) × (code ≤ 3) × (k < length (chosen (now row) code (entries (now j)))) ⌝ }
+    ensures { λ r. ⌜ Resumes (now (row .entry)) (now (j .entry)) code k r 0 ⌝ }
+{
+    let place = seek(marks, noted, code, k);
+    let mut at = place.at;
+    let mut skip = place.skip;
+    while 0 < skip {
+        let p = pass(j, row, code, at);
+        at += p.size;
+        skip -= p.reported;
+    }
+    at
+}
