@@ -1,38 +1,18 @@
--- What the judgement of a journal tells of its reportable list, and how long that list can be.
+-- What the judgement of a journal tells of its reportable list, as a number.
 use mathlib.Core.Path.{_≡_, refl, ap, _∙_}
 use mathlib.Core.Bool.{Bool, true, false, cond}
 use mathlib.Core.List.{List, [], _∷_, _++_}
 use Prim.Native.Nat.{ℕ, zero, suc, _+_, _-_, _≤_}
 use native.Mathlib.Omega.{arith}
-use lib.Dec.{leb}
-use lib.ListN.{length, length-append, length-map}
-use borrow.Author.Tests.{leb-true}
-use Rattle.records.specs.Records.{sizeOf, recordsFrom, records, wellFormedBy}
+use lib.ListN.{length, length-append}
 use Rattle.journal.specs.declared.operation.Operation.{Operation}
 use Rattle.journal.specs.declared.scanning.Judgement.{Judgement}
 use Rattle.journal.specs.declared.scanning.Judgement.the-variants.{Malformed, Counted}
-use Rattle.journal.specs.Journal.{Entry, entryOf, entries, wellFormed}
-use Rattle.journal.specs.Reportable.{reports, chosen, reportable, countsOf, judgementOf}
-use Rattle.journal.proofs.Choice.{choose, and-left}
-
--- ---- no more operations than bytes
-
-records-few : (k : ℕ) (b : List ℕ) → length (recordsFrom k b) ≤ length b
-unfolding recordsFrom
-records-few zero [] = omega arith
-records-few zero (x ∷ xs) = omega (arith, records-few (sizeOf (x ∷ xs) - 1) xs)
-records-few (suc k) [] = omega arith
-records-few (suc k) (x ∷ xs) = omega (arith, records-few k xs)
-
-chosen-few : (row : List ℕ) (code : ℕ) (es : List Entry) → length (chosen row code es) ≤ length es
-unfolding chosen
-chosen-few row code [] = omega arith
-chosen-few row code (e ∷ es) =
-    choose (reports row code e) (λ (os : List Operation). length os ≤ length (e ∷ es)) (λ _. omega (arith, chosen-few row code es)) (λ _. omega (arith, chosen-few row code es))
-
-few : (row j : List ℕ) (code : ℕ) → length (chosen row code (entries j)) ≤ length j
-unfolding entries records
-few row j code = omega (arith, chosen-few row code (entries j), length-map (records j) entryOf, records-few 0 j)
+use Rattle.journal.specs.Journal.{entries, wellFormed}
+use Rattle.journal.specs.Reportable.{chosen, reportable, countsOf, judgementOf}
+use Rattle.journal.proofs.Choice.{choose}
+use Rattle.journal.proofs.Entries.{operations-few}
+use Rattle.journal.proofs.Walks.{within-limit}
 
 -- ---- the judgement as a number
 
@@ -56,8 +36,8 @@ module _ (row j : List ℕ) where
       go false = refl
 
   pub light : Light (judgementOf row j)
-  unfolding judgementOf wellFormed wellFormedBy
-  light = choose (wellFormed j) Light (λ t. omega (arith, leb-true (length j) 1048576 (and-left (leb (length j) 1048576) _ t), few row j 1, few row j 2, few row j 3)) (λ _. tt)
+  unfolding judgementOf
+  light = choose (wellFormed j) Light (λ t. omega (arith, within-limit j t, operations-few row j 1, operations-few row j 2, operations-few row j 3)) (λ _. tt)
 
   -- what is known of a judgement that is the scan's
   module _ (g : Judgement) (is : g ≡ judgementOf row j) where

@@ -5,10 +5,10 @@ use mathlib.Core.List.{List, [], _∷_, map}
 use Prim.Native.Nat.{ℕ, _+_, _<_, _≤_}
 use native.Mathlib.Nat.{zero-add}
 use native.Mathlib.Omega.{arith}
-use lib.ListN.{length, drop}
+use lib.ListN.{length, drop, length-map}
 use lib.Seq.{drop-drop}
 use Rattle.records.specs.Records.{sizeOf, firstRecord, records}
-use Rattle.records.proofs.Steps.{records-step, records-end}
+use Rattle.records.proofs.Steps.{records-step, records-end, records-few}
 use Rattle.journal.specs.declared.operation.Operation.{Operation}
 use Rattle.journal.specs.Journal.{Entry, entryOf, entries}
 use Rattle.journal.specs.Reportable.{reports, chosen}
@@ -56,6 +56,10 @@ module _ (row : List ℕ) (code : ℕ) (e : Entry) (es : List Entry) where
       go true os = refl
       go false os = refl
 
+chosen-none : (row : List ℕ) (code : ℕ) → chosen row code [] ≡ []
+unfolding chosen
+chosen-none row code = refl
+
 -- a count of what stands before a place goes on past a record
 pub before-step : (row j : List ℕ) (at code n : ℕ) → at < length j → Before row j at code n
     → Before row j (at + sizeOf (drop at j)) code (n + one-if (reports row code (entryOf (firstRecord (drop at j)))))
@@ -76,3 +80,12 @@ before-none row j code = record { number = omega arith; rest = refl }
 pub before-all : (row j : List ℕ) (at code n : ℕ) → length j ≤ at → Before row j at code n → n ≡ length (chosen row code (entries j))
 unfolding chosen
 before-all row j at code n h b = omega (arith, b .number, ap (λ (x : List Entry). length (chosen row code x)) (entries-end j at h))
+
+-- no more operations than bytes
+chosen-few : (row : List ℕ) (code : ℕ) (es : List Entry) → length (chosen row code es) ≤ length es
+chosen-few row code [] = simp (chosen-none row code) (omega arith)
+chosen-few row code (e ∷ es) = omega (arith, chosen-length row code e es, one-if-le (reports row code e), chosen-few row code es)
+
+pub operations-few : (row j : List ℕ) (code : ℕ) → length (chosen row code (entries j)) ≤ length j
+unfolding entries records
+operations-few row j code = omega (arith, chosen-few row code (entries j), length-map (records j) entryOf, records-few 0 j)

@@ -9,8 +9,8 @@ use native.Mathlib.Omega.{arith}
 use lib.Dec.{leb, eqb}
 use lib.ListN.{length, getD, drop}
 use borrow.Author.Tests.{le-leb, lt-leb, eq-eqb, ne-eqb, leb-true, leb-false, eqb-true}
-use Rattle.words.specs.Numbers.{le}
-use Rattle.words.proofs.Numbers.{Bytes, le-split, le-below}
+use Rattle.words.specs.Numbers.{Bytes, le}
+use Rattle.words.proofs.Numbers.{le-split, le-below}
 use Rattle.records.specs.Records.{lengthOf, kindOf, sizeOf, firstRecord, whole}
 use Rattle.records.proofs.Steps.{field-at, length-at, kind-at, record-length, record-kind, whole-at}
 use Rattle.journal.specs.declared.operation.Operation.{Operation}
@@ -89,8 +89,11 @@ module _ (left len kind node : ℕ) where
   pub room : goodAt left len kind node ≡ true → len + 2 ≤ left
   room e = leb-true (len + 2) left (and-left _ (goodFrame len kind && within 1 14 node) e)
 
+  pub frame-good : goodAt left len kind node ≡ true → goodFrame len kind ≡ true
+  frame-good e = and-left _ (within 1 14 node) (and-right (leb (len + 2) left) _ e)
+
   pub frame : goodAt left len kind node ≡ true → Framed len kind
-  frame e = framed len kind (and-left _ (within 1 14 node) (and-right (leb (len + 2) left) _ e))
+  frame e = framed len kind (frame-good e)
 
   pub node-high : goodAt left len kind node ≡ true → node ≤ 14
   node-high e = leb-true node 14 (and-right (leb 1 node) _ (and-right (goodFrame len kind) _ (and-right (leb (len + 2) left) _ e)))
@@ -200,6 +203,21 @@ module _ (row j : List ℕ) (at size weight : ℕ) (g : Judged row j at size wei
       let f = frame-here in
       let op : opcode (operationOf (here j at)) ≡ kindOf (drop at j) = opcode-kind (here j at) (kindOf (drop at j)) (record-kind j at (omega (arith, f .large))) (f .low) (f .high) in
       rw (op, node-here j at (omega (arith, f .large)))
+
+  -- a record that is reported under an opcode is of its kind
+  pub judged-kind : (code : ℕ) → reports row code (entryOf (here j at)) ≡ true → kindOf (drop at j) ≡ code
+  judged-kind code e = eqb-true (kindOf (drop at j)) code (and-left _ (holds (getD row (le 2 j (at + 4)) 0) code) (sym (judged-reports code) ∙ e))
+
+  pub judged-kind-low : (code : ℕ) → reports row code (entryOf (here j at)) ≡ true → 1 ≤ code
+  judged-kind-low code e = omega (arith, judged-kind code e, frame-here .low)
+
+  pub judged-kind-high : (code : ℕ) → reports row code (entryOf (here j at)) ≡ true → code ≤ 3
+  judged-kind-high code e = omega (arith, judged-kind code e, frame-here .high)
+
+  pub judged-addition : kindOf (drop at j) ≡ 3 → sizeOf (drop at j) ≡ 14
+  judged-addition e =
+      let l = eqb-true (lengthOf (drop at j)) 12 (sym (frame-is (lengthOf (drop at j)) 3 (omega arith) (omega arith)) ∙ ap (goodFrame (lengthOf (drop at j))) (sym e) ∙ frame-good (length j - at) (lengthOf (drop at j)) (kindOf (drop at j)) (le 2 j (at + 4)) good-is) in
+      omega arith
 
   pub judged-node : le 2 j (at + 4) ≤ 14
   judged-node = node-high (length j - at) (lengthOf (drop at j)) (kindOf (drop at j)) (le 2 j (at + 4)) good-is

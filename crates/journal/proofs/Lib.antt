@@ -6,3 +6,4 @@ pub mod WeightLaws
 pub mod MarkLaws
 pub mod Claims
 pub mod Walks
+pub mod Operands

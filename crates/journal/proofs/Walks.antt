@@ -9,20 +9,25 @@ use lib.ListN.{length, drop}
 use borrow.Author.Tests.{leb-true, leb-false}
 use Rattle.words.specs.Numbers.{le}
 use Rattle.records.specs.Records.{kindOf, sizeOf, firstRecord, records, whole, allGood, wellFormedBy}
-use Rattle.records.proofs.Steps.{judge-step}
+use Rattle.records.proofs.Steps.{judge-step, record-kind, field-at}
 use Rattle.journal.specs.declared.operation.Operation.{Operation}
-use Rattle.journal.specs.Journal.{goodRecord, wellFormed, entryOf, entries}
+use Rattle.journal.specs.Journal.{goodRecord, wellFormed, operands, operationOf, entryOf, entries}
 use Rattle.journal.specs.Reportable.{reports, chosen}
-use Rattle.journal.specs.Marks.{Resumes}
+use Rattle.journal.specs.Marks.{Resumes, operandsAt}
 use Rattle.journal.specs.Scanning.{weightOf, Judged}
-use Rattle.journal.proofs.Choice.{and-left, and-right}
+use Rattle.journal.proofs.Choice.{and-left, and-right, each-code}
 use Rattle.journal.proofs.Entries.{entries-step, entries-end, one-if, chosen-yes, chosen-no}
-use Rattle.journal.proofs.Judging.{judged-fits}
+use Rattle.journal.proofs.Judging.{judged-size, judged-fits, judged-kind, judged-kind-low, judged-kind-high, judged-addition}
 
 -- the records of a well-formed journal are good
 pub all-good : (j : List ℕ) → wellFormed j ≡ true → allGood goodRecord (records j) ≡ true
 unfolding wellFormed wellFormedBy
 all-good j w = and-right (leb (length j) 1048576) _ w
+
+-- and it is within the limit, so that counts of its operations are small
+pub within-limit : (j : List ℕ) → wellFormed j ≡ true → length j ≤ 1048576
+unfolding wellFormed wellFormedBy
+within-limit j w = leb-true (length j) 1048576 (and-left _ (allGood goodRecord (records j)) w)
 
 -- ---- a record of a walk
 
@@ -37,6 +42,21 @@ module _ (row j : List ℕ) (at : ℕ) (inside : at < length j) (good : allGood 
 
   pub walked-fits : at + sizeOf (drop at j) ≤ length j
   walked-fits = omega (arith, judged-fits row j at _ _ walked)
+
+  -- an addition's record has fourteen bytes, and every other ten
+  pub walked-size : (10 ≤ sizeOf (drop at j)) × (kindOf (drop at j) ≡ 3 → sizeOf (drop at j) ≡ 14)
+  walked-size = (judged-size row j at _ _ walked .0, judged-addition row j at _ _ walked)
+
+  -- the operands of a reported record are the numbers at its place
+  pub walked-operands : (code : ℕ) → reports row code (entryOf (firstRecord (drop at j))) ≡ true → operands (operationOf (firstRecord (drop at j))) ≡ operandsAt j code at
+  unfolding operationOf
+  walked-operands code e =
+      let kind = judged-kind row j at _ _ walked code e in
+      let here = record-kind j at (omega (arith, walked-size .0)) ∙ kind in
+      let first = field-at j at 4 6 (omega (arith, walked-size .0)) in
+      each-code (λ (k : ℕ). kindOf (drop at j) ≡ k → kindOf (firstRecord (drop at j)) ≡ k → operands (operationOf (firstRecord (drop at j))) ≡ operandsAt j k at)
+      (λ _ q. rw (q, first)) (λ _ q. rw (q, first)) (λ p q. rw (q, first, field-at j at 4 10 (omega (arith, walked-size .1 p))))
+      code (judged-kind-low row j at _ _ walked code e) (judged-kind-high row j at _ _ walked code e) kind here
 
 -- an operation still to come stands in the journal
 pub still-inside : (row j : List ℕ) (code at : ℕ) → 0 < length (chosen row code (entries (drop at j))) → at < length j

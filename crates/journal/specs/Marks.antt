@@ -2,10 +2,11 @@
 use Prim.Native.Nat.{ℕ, zero, suc, _+_, _*_, _-_, _/_, _%_, _^_, _≤_, _<_}
 use mathlib.Core.Path.{_≡_}
 use mathlib.Core.Bool.{true, cond}
-use mathlib.Core.List.{List}
-use lib.Dec.{leb}
+use mathlib.Core.List.{List, [], _∷_}
+use lib.Dec.{leb, eqb}
 use lib.ListN.{length, getD, drop}
 use Rattle.journal.specs.declared.marks.Place.{Place}
+use Rattle.words.specs.Numbers.{le32}
 use Rattle.records.specs.Records.{records, allGood}
 use Rattle.journal.specs.Journal.{goodRecord, entries}
 use Rattle.journal.specs.Reportable.{chosen}
@@ -21,6 +22,10 @@ pub record Resumes (row j : List ℕ) (code k at skip : ℕ) : Type 0 where
   pub sound : allGood goodRecord (records j) ≡ true → allGood goodRecord (records (drop at j)) ≡ true
   pub number : length (chosen row code (entries j)) + skip ≡ k + length (chosen row code (entries (drop at j)))
   pub same : drop k (chosen row code (entries j)) ≡ drop skip (chosen row code (entries (drop at j)))
+
+-- The operand words that a record of this opcode's kind holds at a place: a phandle, or a parent's phandle and a drc-index.
+abbrev pub operandsAt : List ℕ → ℕ → ℕ → List ℕ
+operandsAt j code at = cond (eqb code 3) (le32 j (at + 6) ∷ le32 j (at + 10) ∷ []) (le32 j (at + 6) ∷ [])
 
 -- A mark is two numbers, a place and the packed counts of what the row reports before it. Of n marks each resumes the list of every opcode.
 pub record Marked (row j marks : List ℕ) (n : ℕ) : Type 0 where

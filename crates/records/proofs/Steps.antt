@@ -9,7 +9,7 @@ use lib.Dec.{leb, eqb}
 use lib.ListN.{length, getD, take, drop, drop-of-length-le, length-drop, length-take}
 use lib.Seq.{drop-cons, drop-drop, length-take-le, take-all}
 use borrow.Author.Tests.{le-leb, lt-leb, eq-eqb, ne-eqb, leb-true, leb-false}
-use Rattle.words.specs.Numbers.{le}
+use Rattle.words.specs.Numbers.{Bytes, le}
 use Rattle.words.proofs.Numbers.{le-drop, le-take}
 use Rattle.records.specs.Records.{lengthOf, kindOf, sizeOf, firstRecord, recordsFrom, records, whole, allGood}
 
@@ -87,3 +87,30 @@ module _ (good : List ℕ → Bool) (b : List ℕ) (at : ℕ) (inside : at < len
 pub none-good : (good : List ℕ → Bool) (b : List ℕ) (at : ℕ) → length b ≤ at → allGood good (records (drop at b)) ≡ true
 unfolding allGood
 none-good good b at h = rw (records-end b at h)
+
+-- no more records than bytes
+pub records-few : (k : ℕ) (b : List ℕ) → length (recordsFrom k b) ≤ length b
+unfolding recordsFrom
+records-few zero [] = omega arith
+records-few zero (x ∷ xs) = omega (arith, records-few (sizeOf (x ∷ xs) - 1) xs)
+records-few (suc k) [] = omega arith
+records-few (suc k) (x ∷ xs) = omega (arith, records-few k xs)
+
+-- ---- the bytes of the records of a list of bytes
+
+abbrev pub EachBytes : List (List ℕ) → Type 0
+EachBytes [] = Unit {0}
+EachBytes (r ∷ rs) = Bytes r × EachBytes rs
+
+bytes-take : (n : ℕ) (s : List ℕ) → Bytes s → Bytes (take n s)
+bytes-take zero s h i = omega arith
+bytes-take (suc n) [] h i = omega arith
+bytes-take (suc n) (b ∷ bs) h zero = h 0
+bytes-take (suc n) (b ∷ bs) h (suc i) = bytes-take n bs (λ k. h (suc k)) i
+
+pub records-bytes : (k : ℕ) (b : List ℕ) → Bytes b → EachBytes (recordsFrom k b)
+unfolding recordsFrom
+records-bytes zero [] h = tt
+records-bytes zero (x ∷ xs) h = (bytes-take (sizeOf (x ∷ xs)) (x ∷ xs) h, records-bytes (sizeOf (x ∷ xs) - 1) xs (λ i. h (suc i)))
+records-bytes (suc k) [] h = tt
+records-bytes (suc k) (x ∷ xs) h = records-bytes k xs (λ i. h (suc i))

@@ -9,11 +9,7 @@ use native.Mathlib.Numerals.{towards-suc}
 use native.Mathlib.Omega.{arith}
 use lib.ListN.{length, getD, take, drop}
 use lib.Seq.{getD-drop, getD-take}
-use Rattle.words.specs.Numbers.{be, le, beBytes}
-
--- every element is a byte
-abbrev pub Bytes : List ℕ → Type 0
-Bytes s = (i : ℕ) → getD s i 0 < 256
+use Rattle.words.specs.Numbers.{Bytes, be, le, beBytes}
 
 -- the code's reads: a number by its bytes
 pub be-two : (s : List ℕ) (at : ℕ) → be 2 s at ≡ getD s at 0 * 256 + getD s (at + 1) 0

@@ -1,12 +1,12 @@
 -- Laws of stored bytes: what is read where they stand, and beside them.
 use mathlib.Core.Path.{_≡_, refl, ap, _∙_, sym}
-use mathlib.Core.List.{List, [], _∷_, _++_, append-assoc}
+use mathlib.Core.List.{List, [], _∷_, _++_, append-assoc, append-nil}
 use Prim.Native.Nat.{ℕ, zero, suc, _+_, _*_, _/_, _%_, _^_, _<_, _≤_}
 use native.Mathlib.Nat.{add-zero, add-assoc, add-suc, suc-add, div-one}
 use native.Mathlib.Numerals.{towards-suc}
 use native.Mathlib.Omega.{arith}
 use lib.ListN.{length, getD, set, take, drop, length-append}
-use lib.Seq.{sets, sets-eq, getD-set-other, getD-append-add, length-take-le}
+use lib.Seq.{sets, sets-eq, set-comm, set-set, getD-set-other, getD-append-add, length-take-le}
 use Rattle.words.specs.Numbers.{be, beBytes, wordBytes}
 use Rattle.words.proofs.Numbers.{be-same, be-bytes, length-beBytes}
 
@@ -23,6 +23,50 @@ sets-after (v ∷ vs) l i k h = sets-after vs (set l i v) (suc i) k (omega arith
 pub sets-append : (l : List ℕ) (i : ℕ) (us vs : List ℕ) → sets l i (us ++ vs) ≡ sets (sets l i us) (i + length us) vs
 sets-append l i [] vs = rw add-zero
 sets-append l i (u ∷ us) vs = sets-append (set l i u) (suc i) us vs ∙ ap (λ (k : ℕ). sets (sets (set l i u) (suc i) us) k vs) (suc-add i (length us) ∙ sym (add-suc i (length us)))
+
+-- a store in the place of another that is no longer
+set-sets : (vs l : List ℕ) (i k v : ℕ) → i < k → set (sets l k vs) i v ≡ sets (set l i v) k vs
+set-sets [] l i k v h = refl
+set-sets (u ∷ vs) l i k v h = set-sets vs (set l k u) i (suc k) v (omega arith) ∙ ap (λ (m : List ℕ). sets m (suc k) vs) (set-comm l k i u v (λ e. omega arith))
+
+pub sets-over : (us vs l : List ℕ) (i : ℕ) → length us ≤ length vs → sets (sets l i us) i vs ≡ sets l i vs
+sets-over [] vs l i h = refl
+sets-over (u ∷ us) [] l i h = absurd (omega arith)
+sets-over (u ∷ us) (v ∷ vs) l i h =
+    ap (λ (m : List ℕ). sets m (suc i) vs) (set-sets us (set l i u) i (suc i) v (omega arith) ∙ ap (λ (m : List ℕ). sets m (suc i) us) (set-set l i u v))
+    ∙ sets-over us vs (set l i v) (suc i) (omega arith)
+
+-- ---- words
+
+pub length-wordBytes : (ws : List ℕ) → length (wordBytes ws) ≡ 4 * length ws
+unfolding wordBytes beBytes
+length-wordBytes [] = refl
+length-wordBytes (w ∷ ws) = omega (arith, length-wordBytes ws)
+
+pub wordBytes-append : (ws vs : List ℕ) → wordBytes (ws ++ vs) ≡ wordBytes ws ++ wordBytes vs
+unfolding wordBytes
+wordBytes-append [] vs = refl
+wordBytes-append (w ∷ ws) vs = rw (wordBytes-append ws vs) (sym (append-assoc (beBytes 4 w) (wordBytes ws) (wordBytes vs)))
+
+pub wordBytes-one : (w : ℕ) → wordBytes (w ∷ []) ≡ beBytes 4 w
+unfolding wordBytes
+wordBytes-one w = append-nil (beBytes 4 w)
+
+-- words stored behind words are one store
+pub words-behind : (l : List ℕ) (i k : ℕ) (ws vs : List ℕ) → k ≡ i + 4 * length ws → sets (sets l i (wordBytes ws)) k (wordBytes vs) ≡ sets l i (wordBytes (ws ++ vs))
+words-behind l i k ws vs h =
+    let e : i + length (wordBytes ws) ≡ k = omega (arith, length-wordBytes ws) in
+    sym (ap (sets l i) (wordBytes-append ws vs) ∙ sets-append l i (wordBytes ws) (wordBytes vs) ∙ ap (λ (n : ℕ). sets (sets l i (wordBytes ws)) n (wordBytes vs)) e)
+
+-- a word stored alone, and a word stored behind others
+module _ (l m : List ℕ) (i v : ℕ) where
+  pub store-first : m ≡ sets l i (beBytes 4 v) → m ≡ sets l i (wordBytes (v ∷ []))
+  store-first e = e ∙ ap (sets l i) (sym (wordBytes-one v))
+
+  pub store-next : (r : List ℕ) (k : ℕ) (ws : List ℕ) → m ≡ sets l i (wordBytes ws) → r ≡ sets m k (beBytes 4 v) → k ≡ i + 4 * length ws → r ≡ sets l i (wordBytes (ws ++ (v ∷ [])))
+  store-next r k ws e f h = f ∙ rw (e, ← wordBytes-one v) (words-behind l i k ws (v ∷ []) h)
+
+-- ---- numbers
 
 -- the code's four stores
 pub stored-four : (l : List ℕ) (i v : ℕ) → set (set (set (set l i (v / 16777216 % 256)) (i + 1) (v / 65536 % 256)) (i + 2) (v / 256 % 256)) (i + 3) (v % 256) ≡ sets l i (beBytes 4 v)

@@ -1,9 +1,18 @@
 -- Numbers in bytes (document 01, "What we build"). A byte past the end of a list reads as 0.
-use Prim.Native.Nat.{ℕ, zero, suc, _+_, _*_, _/_, _%_, _^_}
+use Prim.Native.Nat.{ℕ, zero, suc, _+_, _*_, _/_, _%_, _^_, _<_}
 use mathlib.Core.Bool.{Bool, true, false, _&&_}
 use mathlib.Core.List.{List, [], _∷_, _++_}
 use lib.Dec.{eqb}
 use lib.ListN.{getD}
+
+-- every element is a byte
+abbrev pub Bytes : List ℕ → Type 0
+Bytes s = (i : ℕ) → getD s i 0 < 256
+
+-- every number fits a 32-bit word
+abbrev pub Small : List ℕ → Type 0
+Small [] = Unit {0}
+Small (w ∷ ws) = (w < 4294967296) × Small ws
 
 -- 01: "All RTAS words are big-endian and 32 bits, unless a width is given."
 -- The number that w bytes from a place on make, the highest byte first.

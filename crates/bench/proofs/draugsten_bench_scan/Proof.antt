@@ -1,13 +1,13 @@
--- `bench::draugsten_bench_scan` meets its contract.
+-- `draugsten_bench_scan` meets its contract.
 use mathlib.Core.Path.{_≡_, sym, ap, _∙_}
 use native.Mathlib.Omega.{arith}
 use borrow.Author.Needs.{needs}
 use denote.Ref.{now}
-use Rattle.journal.specs.Scope.{rowOf}
-use Rattle.journal.specs.Reportable.{judgementOf}
-use Rattle.journal.specs.declared.scope.Row.{Row}
-use Rattle.bench.specs.Bench.{reportedOf}
 use Rattle.bench.proofs.Counting.{total-of, light-of}
+use Rattle.bench.specs.Bench.{reportedOf}
+use Rattle.journal.specs.Reportable.{judgementOf}
+use Rattle.journal.specs.Scope.{rowOf}
+use Rattle.journal.specs.declared.scope.Row.{Row}
 use Rattle.bench.proofs.draugsten_bench_scan.Statement.{statement}
 use Rattle.bench.proofs.draugsten_bench_scan.Tie as tie
 

@@ -4,7 +4,7 @@ use Prim.Native.Nat.{ℕ, _%_}
 use native.Mathlib.Omega.{arith}
 use borrow.Author.Needs.{needs}
 use denote.Ref.{now}
-use Rattle.words.proofs.Numbers.{Bytes, le-low}
+use Rattle.words.proofs.Numbers.{le-low}
 use Rattle.journal.proofs.stride.header_at.Statement.{statement}
 use Rattle.journal.proofs.stride.header_at.Tie as tie
 

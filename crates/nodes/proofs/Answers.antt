@@ -1,0 +1,82 @@
+-- The writer's stores one behind the other make the area that an answer leaves.
+use mathlib.Core.Path.{_≡_, refl, sym, ap, _∙_}
+use mathlib.Core.Bool.{true}
+use mathlib.Core.List.{List, [], _∷_, _++_, append-assoc}
+use Prim.Native.Nat.{ℕ, _+_, _-_, _*_, _≤_}
+use native.Mathlib.Nat.{zero-add, one-mul}
+use native.Mathlib.Omega.{arith}
+use lib.ListN.{length, take, drop, length-append, length-drop}
+use lib.Seq.{sets, sets-eq}
+use Rattle.words.specs.Numbers.{beBytes, wordBytes}
+use Rattle.words.proofs.Stores.{length-wordBytes, words-behind, store-first}
+use Rattle.journal.specs.declared.operation.Operation.{Operation}
+use Rattle.journal.specs.declared.scanning.Counts.{Counts}
+use Rattle.journal.specs.Journal.{wellFormed, entries}
+use Rattle.journal.specs.Reportable.{chosen, reportable, countsOf}
+use Rattle.journal.proofs.Entries.{operations-few}
+use Rattle.journal.proofs.Walks.{within-limit}
+use Rattle.nodes.specs.Run.{operator, partWords, cut, leftOf, total, run, nextState}
+use Rattle.nodes.specs.Area.{wordsOf, part, body, answer, written}
+use Rattle.nodes.specs.Writing.{partFrom, bodyFrom}
+use Rattle.nodes.proofs.Cut.{Parts}
+use Rattle.nodes.proofs.Listed.{parts, fits, body-is, total-is, words-ds, words-us, words-adds}
+use Rattle.nodes.proofs.Runs.{length-part, length-body, run-facts}
+
+-- counts of a well-formed journal are small
+pub counts-small : (row j : List ℕ) (c : Counts) → wellFormed j ≡ true → c ≡ countsOf row j → total c ≤ 3145728
+counts-small row j c w e = rw e (omega (arith, within-limit j w, operations-few row j 1, operations-few row j 2, operations-few row j 3))
+
+-- ---- the parts and the terminator
+
+pub body-stored : (l l₁ l₂ l₃ l₄ p₁ p₂ p₃ : List ℕ) (t₁ t₂ t₃ : ℕ) → l₁ ≡ sets l 16 (wordBytes p₁) → t₁ ≡ 16 + 4 * length p₁ → l₂ ≡ sets l₁ t₁ (wordBytes p₂) → t₂ ≡ t₁ + 4 * length p₂
+    → l₃ ≡ sets l₂ t₂ (wordBytes p₃) → t₃ ≡ t₂ + 4 * length p₃ → l₄ ≡ sets l₃ t₃ (beBytes 4 0) → l₄ ≡ sets l 16 (wordBytes (p₁ ++ (p₂ ++ (p₃ ++ (0 ∷ [])))))
+body-stored l l₁ l₂ l₃ l₄ p₁ p₂ p₃ t₁ t₂ t₃ e₁ f₁ e₂ f₂ e₃ f₃ e₄ =
+    store-first l₃ l₄ t₃ 0 e₄
+    ∙ ap (λ (m : List ℕ). sets m t₃ (wordBytes (0 ∷ []))) e₃ ∙ words-behind l₂ t₂ t₃ p₃ (0 ∷ []) f₃
+    ∙ ap (λ (m : List ℕ). sets m t₂ (wordBytes (p₃ ++ (0 ∷ [])))) e₂ ∙ words-behind l₁ t₁ t₂ p₂ (p₃ ++ (0 ∷ [])) f₂
+    ∙ ap (λ (m : List ℕ). sets m t₁ (wordBytes (p₂ ++ (p₃ ++ (0 ∷ []))))) e₁ ∙ words-behind l 16 t₁ p₁ (p₂ ++ (p₃ ++ (0 ∷ []))) f₁
+
+module _ (row j : List ℕ) (c : Counts) (k : ℕ) (counted : c ≡ countsOf row j) (inside : k ≤ total c) (r : Counts) (fitting : r ≡ cut (leftOf c k)) where
+  -- what the writer of each part is asked: no more operations than are left, and room for them
+  pub record Asked : Type 0 where
+    pub deletes : r .deletes ≤ length (chosen row 1 (entries j)) - k
+    pub updates : r .updates ≤ length (chosen row 2 (entries j)) - (k - c .deletes)
+    pub additions : r .additions ≤ length (chosen row 3 (entries j)) - (k - c .deletes - c .updates)
+    pub room : partWords (1 * r .deletes) + partWords (1 * r .updates) + partWords (2 * r .additions) ≤ 1019
+
+  pub asked : Asked
+  asked =
+      let p : Parts _ _ _ (r .deletes) (r .updates) (r .additions) = parts row j c k counted inside r fitting in
+      record {
+        deletes = rw (← length-drop k (chosen row 1 (entries j))) (p .x-in);
+        updates = rw (← length-drop (k - c .deletes) (chosen row 2 (entries j))) (p .y-in);
+        additions = rw (← length-drop (k - c .deletes - c .updates) (chosen row 3 (entries j))) (p .z-in);
+        room = rw (one-mul (r .deletes), one-mul (r .updates)) (fits row j c k counted inside r fitting);
+      }
+
+  -- how long each part is
+  pub length-deletes : length (partFrom row j 1 k (r .deletes)) ≡ partWords (1 * r .deletes)
+  length-deletes = length-part 1 (wordsOf (take (r .deletes) (drop k (chosen row 1 (entries j))))) ∙ ap partWords (words-ds row j c k counted inside r fitting ∙ sym (one-mul (r .deletes)))
+
+  pub length-updates : length (partFrom row j 2 (k - c .deletes) (r .updates)) ≡ partWords (1 * r .updates)
+  length-updates = length-part 2 (wordsOf (take (r .updates) (drop (k - c .deletes) (chosen row 2 (entries j))))) ∙ ap partWords (words-us row j c k counted inside r fitting ∙ sym (one-mul (r .updates)))
+
+  pub length-additions : length (partFrom row j 3 (k - c .deletes - c .updates) (r .additions)) ≡ partWords (2 * r .additions)
+  length-additions = length-part 3 (wordsOf (take (r .additions) (drop (k - c .deletes - c .updates) (chosen row 3 (entries j))))) ∙ ap partWords (words-adds row j c k counted inside r fitting)
+
+  -- the head, and behind it the parts and the terminator, are the whole answer
+  body-written : bodyFrom row j c k r ≡ body (run (reportable row j) k) ++ (0 ∷ [])
+  unfolding bodyFrom
+  body-written = sym (ap (λ (l : List ℕ). l ++ (0 ∷ [])) (body-is row j c k counted inside r fitting) ∙ simp append-assoc)
+
+  pub answer-stored : (l l₁ l₂ : List ℕ) → length l ≡ 4096 → l₁ ≡ sets l 0 (wordBytes (nextState (reportable row j) k ∷ 0 ∷ 0 ∷ 0 ∷ [])) → l₂ ≡ sets l₁ 16 (wordBytes (bodyFrom row j c k r))
+      → l₂ ≡ written l (reportable row j) k
+  unfolding written answer
+  answer-stored l l₁ l₂ n e f =
+      let os = reportable row j in
+      let ws = nextState os k ∷ 0 ∷ 0 ∷ 0 ∷ (body (run os k) ++ (0 ∷ [])) in
+      let within : k ≤ length os = omega (arith, inside, total-is row j, ap total counted) in
+      let size : length (wordBytes ws) ≤ 4096 = rw (length-wordBytes ws, length-append (body (run os k)) (0 ∷ []), length-body (run os k)) (omega (arith, run-facts os k within .fits)) in
+      f ∙ ap (λ (v : List ℕ). sets l₁ 16 (wordBytes v)) body-written ∙ ap (λ (m : List ℕ). sets m 16 (wordBytes (body (run os k) ++ (0 ∷ [])))) e
+      ∙ words-behind l 0 16 (nextState os k ∷ 0 ∷ 0 ∷ 0 ∷ []) (body (run os k) ++ (0 ∷ [])) refl
+      ∙ sets-eq (wordBytes ws) l 0 (omega arith) ∙ ap (λ (i : ℕ). wordBytes ws ++ drop i l) (zero-add (length (wordBytes ws)))

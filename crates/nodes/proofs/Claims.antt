@@ -1,0 +1,160 @@
+-- The claims about node areas hold.
+use mathlib.Core.Path.{_≡_, refl, ap, _∙_}
+use mathlib.Core.Bool.{true, cond}
+use mathlib.Core.List.{List, [], _∷_, _++_, append-assoc, append-nil}
+use Prim.Native.Nat.{ℕ, zero, suc, _≤_, _<_}
+use native.Mathlib.Omega.{arith}
+use lib.Dec.{eqb}
+use lib.ListN.{length, take, drop, length-append, length-drop}
+use lib.Seq.{slice}
+use borrow.Author.Tests.{ltb-true}
+use Rattle.words.specs.Numbers.{Small, beBytes, wordBytes, words, zeros}
+use Rattle.words.proofs.Stores.{length-wordBytes}
+use Rattle.words.proofs.Words.{words-bytes}
+use Rattle.journal.specs.declared.operation.Operation.{Operation}
+use Rattle.journal.specs.Journal.{Entry, opcode, operands, entries}
+use Rattle.journal.specs.Reportable.{reports, chosen, reportable, operandWords}
+use Rattle.journal.proofs.Choice.{choose}
+use Rattle.journal.proofs.Entries.{operations-few}
+use Rattle.journal.proofs.Operands.{SmallEntries, entries-small}
+use Rattle.journal.proofs.Walks.{within-limit}
+use Rattle.nodes.specs.Run.{present, cost, longest, run, remains, nextState}
+use Rattle.nodes.specs.Area.{operandsOf, part, body, answer, written}
+use Rattle.nodes.specs.Reading.{read, reading}
+use Rattle.nodes.specs.Claims.{Sorted, SmallOperands, Listed, ReportableListed, NeverEmpty, WellFilled, RunCases, AreaClaims}
+use Rattle.nodes.proofs.Runs.{length-operandsOf, length-body, run-facts, next-le}
+use Rattle.nodes.proofs.Cut.{Code}
+use Rattle.nodes.proofs.Listed.{chosen-code}
+use Rattle.nodes.proofs.Decoding.{sorted-lower, body-reads}
+
+-- ---- every reportable list is listed
+
+-- operations of an opcode, and behind them those of higher ones
+sorted-join : (code : ℕ) (os ps : List Operation) → Code code os → Sorted (suc code) ps → Sorted code (os ++ ps)
+sorted-join code [] ps c s = sorted-lower code (suc code) ps (omega arith) s
+sorted-join code (o ∷ os) ps c s = (omega (arith, c .0), rw (c .0) (sorted-join code os ps (c .1) s))
+
+small-join : (os ps : List Operation) → SmallOperands os → SmallOperands ps → SmallOperands (os ++ ps)
+small-join [] ps h g = g
+small-join (o ∷ os) ps h g = (h .0, small-join os ps (h .1) g)
+
+chosen-small : (row : List ℕ) (code : ℕ) (es : List Entry) → SmallEntries es → SmallOperands (chosen row code es)
+unfolding chosen
+chosen-small row code [] h = tt
+chosen-small row code (e ∷ es) h =
+    choose (reports row code e) SmallOperands {x = e .operation ∷ chosen row code es} {y = chosen row code es}
+    (λ _. (h .0, chosen-small row code es (h .1)))
+    (λ _. chosen-small row code es (h .1))
+
+reportable-listed : ReportableListed
+unfolding reportable
+reportable-listed row j bytes good =
+    let of : ℕ → List Operation = λ code. chosen row code (entries j) in
+    let from : (code : ℕ) (ps : List Operation) → Sorted (suc code) ps → Sorted code (of code ++ ps) = λ code ps s. sorted-join code (of code) ps (chosen-code row code (entries j)) s in
+    let fit : (code : ℕ) → SmallOperands (of code) = λ code. chosen-small row code (entries j) (entries-small j bytes) in
+    record {
+      sorted = sorted-lower 0 1 (of 1 ++ (of 2 ++ of 3)) (omega arith) (from 1 (of 2 ++ of 3) (from 2 (of 3) (rw append-nil at (from 3 [] tt))));
+      small = small-join (of 1) (of 2 ++ of 3) (fit 1) (small-join (of 2) (of 3) (fit 2) (fit 3));
+      few = simp length-append (omega (arith, within-limit j good, operations-few row j 1, operations-few row j 2, operations-few row j 3));
+    }
+
+-- ---- the words of an answer
+
+small-append : (xs ys : List ℕ) → Small xs → Small ys → Small (xs ++ ys)
+small-append [] ys h g = g
+small-append (x ∷ xs) ys h g = (h .0, small-append xs ys (h .1) g)
+
+small-operandsOf : (code : ℕ) (os : List Operation) → SmallOperands os → Small (operandsOf code os)
+unfolding operandsOf
+small-operandsOf code [] h = tt
+small-operandsOf code (o ∷ os) h =
+    small-append (cond (eqb (opcode o) code) (operands o) []) (operandsOf code os)
+    (choose (eqb (opcode o) code) Small {x = operands o} {y = []} (λ _. h .0) (λ _. tt)) (small-operandsOf code os (h .1))
+
+small-part : (code : ℕ) (ws : List ℕ) → code ≤ 3 → length ws < 16777216 → Small ws → Small (part code ws)
+small-part code [] h l s = tt
+small-part code (w ∷ ws) h l s = (omega arith, s)
+
+small-body : (os : List Operation) → cost os ≤ 1019 → SmallOperands os → Small (body os)
+unfolding body cost
+small-body os h s =
+    let sum = length-operandsOf os in
+    small-append (part 1 (operandsOf 1 os)) _ (small-part 1 (operandsOf 1 os) (omega arith) (omega arith) (small-operandsOf 1 os s))
+    (small-append (part 2 (operandsOf 2 os)) _ (small-part 2 (operandsOf 2 os) (omega arith) (omega arith) (small-operandsOf 2 os s))
+    (small-part 3 (operandsOf 3 os) (omega arith) (omega arith) (small-operandsOf 3 os s)))
+
+-- ---- a run of a listed list
+
+small-take : (n : ℕ) (os : List Operation) → SmallOperands os → SmallOperands (take n os)
+small-take zero os h = tt
+small-take (suc n) [] h = tt
+small-take (suc n) (o ∷ os) h = (h .0, small-take n os (h .1))
+
+small-drop : (n : ℕ) (os : List Operation) → SmallOperands os → SmallOperands (drop n os)
+small-drop zero os h = h
+small-drop (suc n) [] h = tt
+small-drop (suc n) (o ∷ os) h = small-drop n os (h .1)
+
+sorted-take : (n least : ℕ) (os : List Operation) → Sorted least os → Sorted least (take n os)
+sorted-take zero least os s = tt
+sorted-take (suc n) least [] s = tt
+sorted-take (suc n) least (o ∷ os) s = (s .0, sorted-take n (opcode o) os (s .1))
+
+sorted-drop : (n least : ℕ) (os : List Operation) → Sorted least os → Sorted least (drop n os)
+sorted-drop zero least os s = s
+sorted-drop (suc n) least [] s = tt
+sorted-drop (suc n) least (o ∷ os) s = sorted-drop n least os (sorted-lower least (opcode o) os (s .0) (s .1))
+
+module _ (area : List ℕ) (os : List Operation) (state : ℕ) (size : length area ≡ 4096) (l : Listed os) (inside : state ≤ length os) where
+  abbrev behind : List ℕ
+  behind = drop (length (wordBytes (answer os state))) area
+
+  run-sorted : Sorted 0 (run os state)
+  unfolding run
+  run-sorted = sorted-take (longest (length (drop state os)) (drop state os)) 0 (drop state os) (sorted-drop state 0 os (l .sorted))
+
+  run-small : SmallOperands (run os state)
+  unfolding run
+  run-small = small-take (longest (length (drop state os)) (drop state os)) (drop state os) (small-drop state os (l .small))
+
+  run-fits : cost (run os state) ≤ 1019
+  run-fits = run-facts os state inside .fits
+
+  answer-small : Small (answer os state)
+  unfolding answer
+  answer-small =
+      (omega (arith, next-le os state inside, l .few), (omega arith, (omega arith, (omega arith, small-append (body (run os state)) (0 ∷ []) (small-body (run os state) run-fits run-small) (omega arith, tt)))))
+
+  written-size : length (written area os state) ≡ 4096
+  unfolding written answer
+  written-size = simp (length-append, length-drop, length-wordBytes, length-body) (omega (arith, run-fits))
+
+  written-zeros : zeros (slice 4 16 (written area os state)) ≡ true
+  unfolding written answer wordBytes beBytes zeros
+  written-zeros = refl
+
+  written-words : drop 4 (words (written area os state)) ≡ body (run os state) ++ (0 ∷ words behind)
+  unfolding written answer
+  written-words = ap (drop 4) (words-bytes (answer os state) behind answer-small) ∙ append-assoc (body (run os state)) (0 ∷ []) (words behind)
+
+  read-back : reading (written area os state) ≡ read (run os state)
+  unfolding reading
+  read-back =
+      let reads = body-reads (run os state) (words behind) run-sorted run-fits 16 0 (omega arith) in
+      rw (written-size, written-zeros, written-words, reads .0, reads .1)
+
+-- ---- all of them
+
+never-empty : NeverEmpty
+never-empty os state h = run-facts os state (omega arith) .some-more h
+
+well-filled : WellFilled
+unfolding remains
+well-filled os state h r = run-facts os state h .many (ltb-true _ _ r)
+
+run-cases : RunCases
+unfolding nextState remains run longest cost present operandWords
+run-cases = tt
+
+pub area-claims : AreaClaims
+area-claims = record { reportable-listed = reportable-listed; round-trip = read-back; never-empty = never-empty; well-filled = well-filled; run-cases = run-cases }

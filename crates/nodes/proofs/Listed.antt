@@ -1,0 +1,153 @@
+-- What a reportable list is, opcode by opcode, and the run of a call from the three counts and the state.
+use mathlib.Core.Path.{_≡_, ap, _∙_, sym}
+use mathlib.Core.Bool.{true, cond}
+use mathlib.Core.List.{List, [], _∷_, _++_}
+use Prim.Native.Nat.{ℕ, zero, suc, _+_, _*_, _-_, _≤_}
+use native.Mathlib.Omega.{arith}
+use native.Mathlib.Nat.{sub-zero, zero-sub, suc-sub-suc}
+use lib.Dec.{ltb, eqb}
+use borrow.Author.Tests.{eqb-true}
+use lib.ListN.{length, take, drop, length-append, length-drop}
+use lib.Seq.{drop-nil, length-take-le}
+use Rattle.journal.specs.declared.operation.Operation.{Operation}
+use Rattle.journal.specs.declared.scanning.Counts.{Counts}
+use Rattle.journal.specs.Journal.{Entry, opcode, entries}
+use Rattle.journal.specs.Reportable.{reports, chosen, reportable, countsOf}
+use Rattle.journal.proofs.Choice.{choose, and-left}
+use Rattle.nodes.specs.Run.{run, remains, nextState, partWords, cut, leftOf, total}
+use Rattle.nodes.specs.Area.{wordsOf, part, body}
+use Rattle.nodes.proofs.Runs.{run-facts}
+use Rattle.nodes.proofs.Cut.{Code, code-take, code-drop, words-one, words-two, body-split, Parts, parts-in, take-split, Cut, cut-is, cut-longest}
+
+-- an entry that is reported under an opcode is an operation of it
+pub report-code : (row : List ℕ) (code : ℕ) (e : Entry) → reports row code e ≡ true → opcode (e .operation) ≡ code
+unfolding reports
+report-code row code e h = eqb-true _ _ (and-left (eqb (opcode (e .operation)) code) _ h)
+
+pub chosen-code : (row : List ℕ) (code : ℕ) (es : List Entry) → Code code (chosen row code es)
+unfolding chosen
+chosen-code row code [] = tt
+chosen-code row code (e ∷ es) =
+    choose (reports row code e) (Code code) {x = e .operation ∷ chosen row code es} {y = chosen row code es}
+    (λ h. (report-code row code e h, chosen-code row code es))
+    (λ _. chosen-code row code es)
+
+pub drop-append : (n : ℕ) (xs ys : List Operation) → drop n (xs ++ ys) ≡ drop n xs ++ drop (n - length xs) ys
+drop-append n [] ys = rw (drop-nil n, sub-zero n)
+drop-append zero (x ∷ xs) ys = rw (zero-sub (suc (length xs)))
+drop-append (suc n) (x ∷ xs) ys = rw suc-sub-suc (drop-append n xs ys)
+
+pub total-is : (row j : List ℕ) → total (countsOf row j) ≡ length (reportable row j)
+unfolding reportable
+total-is row j = simp length-append (omega arith)
+
+-- ---- what is left of an opcode
+
+-- the operations of an opcode that a row reports, after the first `skip`
+abbrev pub later : List ℕ → List ℕ → ℕ → ℕ → List Operation
+later row j code skip = drop skip (chosen row code (entries j))
+
+module _ (row j : List ℕ) (code skip : ℕ) where
+  pub later-code : Code code (later row j code skip)
+  later-code = code-drop code skip (chosen row code (entries j)) (chosen-code row code (entries j))
+
+  later-length : (n : ℕ) → n ≡ length (chosen row code (entries j)) → length (later row j code skip) ≡ n - skip
+  later-length n e = length-drop skip (chosen row code (entries j)) ∙ rw (← e)
+
+  first-code : (n : ℕ) → Code code (take n (later row j code skip))
+  first-code n = code-take code n (later row j code skip) later-code
+
+-- ---- the run of a call
+
+module _ (row j : List ℕ) (c : Counts) (k : ℕ) (counted : c ≡ countsOf row j) (inside : k ≤ total c) (r : Counts) (fitting : r ≡ cut (leftOf c k)) where
+  abbrev ds : List Operation
+  ds = later row j 1 k
+
+  abbrev us : List Operation
+  us = later row j 2 (k - c .deletes)
+
+  abbrev adds : List Operation
+  adds = later row j 3 (k - c .deletes - c .updates)
+
+  deletes-are : c .deletes ≡ length (chosen row 1 (entries j))
+  deletes-are = ap (λ (x : Counts). x .deletes) counted
+
+  updates-are : c .updates ≡ length (chosen row 2 (entries j))
+  updates-are = ap (λ (x : Counts). x .updates) counted
+
+  additions-are : c .additions ≡ length (chosen row 3 (entries j))
+  additions-are = ap (λ (x : Counts). x .additions) counted
+
+  rest : drop k (reportable row j) ≡ ds ++ (us ++ adds)
+  unfolding reportable
+  rest =
+      drop-append k (chosen row 1 (entries j)) (chosen row 2 (entries j) ++ chosen row 3 (entries j))
+      ∙ rw (← deletes-are, drop-append (k - c .deletes) (chosen row 2 (entries j)) (chosen row 3 (entries j)), ← updates-are)
+
+  cut-here : Cut (length ds) (length us) (length adds) (r .deletes) (r .updates) (r .additions)
+  cut-here =
+      rw (
+        later-length row j 1 k (c .deletes) deletes-are,
+        later-length row j 2 (k - c .deletes) (c .updates) updates-are,
+        later-length row j 3 (k - c .deletes - c .updates) (c .additions) additions-are,
+        fitting,
+      )
+      (cut-is (leftOf c k))
+
+  -- the run takes no more of an opcode than are left
+  pub parts : Parts (length ds) (length us) (length adds) (r .deletes) (r .updates) (r .additions)
+  parts = parts-in (cut-here .inside)
+
+  pub run-parts : run (reportable row j) k ≡ take (r .deletes) ds ++ (take (r .updates) us ++ take (r .additions) adds)
+  unfolding run
+  run-parts =
+      rw rest
+      (ap (λ (n : ℕ). take n (ds ++ (us ++ adds))) (sym (cut-longest ds us adds (later-code row j 1 k) (later-code row j 2 (k - c .deletes)) (later-code row j 3 (k - c .deletes - c .updates)) (r .deletes) (r .updates) (r .additions) cut-here))
+      ∙ take-split ds us adds (r .deletes) (r .updates) (r .additions) (cut-here .inside))
+
+  pub run-length : length (run (reportable row j) k) ≡ total r
+  run-length =
+      rw run-parts
+      (simp (length-append, length-take-le (r .deletes) ds (parts .x-in), length-take-le (r .updates) us (parts .y-in), length-take-le (r .additions) adds (parts .z-in)) (omega arith))
+
+  all : length (reportable row j) ≡ total c
+  all = sym (total-is row j) ∙ ap total (sym counted)
+
+  pub remains-is : remains (reportable row j) k ≡ ltb (k + total r) (total c)
+  unfolding remains
+  remains-is = rw (run-length, all)
+
+  pub next-is : nextState (reportable row j) k ≡ cond (ltb (k + total r) (total c)) (k + total r) 0
+  unfolding nextState
+  next-is = rw (remains-is, run-length)
+
+  pub fits : partWords (r .deletes) + partWords (r .updates) + partWords (2 * r .additions) ≤ 1019
+  fits = cut-here .fits
+
+  pub few : k + total r ≤ total c
+  few = rw (← run-length, ← all) (run-facts (reportable row j) k (rw all inside) .within)
+
+  code-ds : Code 1 (take (r .deletes) ds)
+  code-ds = first-code row j 1 k (r .deletes)
+
+  code-us : Code 2 (take (r .updates) us)
+  code-us = first-code row j 2 (k - c .deletes) (r .updates)
+
+  code-adds : Code 3 (take (r .additions) adds)
+  code-adds = first-code row j 3 (k - c .deletes - c .updates) (r .additions)
+
+  pub body-is : body (run (reportable row j) k)
+      ≡ part 1 (wordsOf (take (r .deletes) ds)) ++ (part 2 (wordsOf (take (r .updates) us)) ++ part 3 (wordsOf (take (r .additions) adds)))
+  body-is =
+      rw run-parts
+      (body-split (take (r .deletes) ds) (take (r .updates) us) (take (r .additions) adds) code-ds code-us code-adds)
+
+  -- how many operand words each part has
+  pub words-ds : length (wordsOf (take (r .deletes) ds)) ≡ r .deletes
+  words-ds = words-one 1 _ (omega arith) code-ds ∙ length-take-le (r .deletes) ds (parts .x-in)
+
+  pub words-us : length (wordsOf (take (r .updates) us)) ≡ r .updates
+  words-us = words-one 2 _ (omega arith) code-us ∙ length-take-le (r .updates) us (parts .y-in)
+
+  pub words-adds : length (wordsOf (take (r .additions) adds)) ≡ 2 * r .additions
+  words-adds = words-two _ code-adds ∙ ap (λ (n : ℕ). 2 * n) (length-take-le (r .additions) adds (parts .z-in))

@@ -1,0 +1,213 @@
+-- The writer's steps: what is left to write, stored in the area as it is, gives what was to be written.
+use mathlib.Core.Path.{_≡_, refl, sym, ap, _∙_}
+use mathlib.Core.Bool.{Bool, true, false, cond}
+use mathlib.Core.List.{List, [], _∷_, _++_, append-assoc}
+use Prim.Native.Nat.{ℕ, zero, suc, _+_, _-_, _*_, _<_, _≤_}
+use native.Mathlib.Nat.{mul-zero, mul-one, mul-le-mul-left, mul-le-mul}
+use native.Mathlib.Omega.{arith}
+use lib.Dec.{eqb}
+use lib.ListN.{length, take, drop}
+use lib.Seq.{sets, length-sets, length-take-le}
+use borrow.Author.Tests.{eqb-true, eq-eqb, ne-eqb}
+use Rattle.words.specs.Numbers.{le, beBytes, wordBytes}
+use Rattle.words.proofs.Stores.{sets-over, length-wordBytes, words-behind, store-first}
+use Rattle.records.specs.Records.{kindOf, sizeOf, firstRecord, records, allGood}
+use Rattle.journal.specs.declared.operation.Operation.{Operation}
+use Rattle.journal.specs.Journal.{goodRecord, wellFormed, operands, operationOf, entryOf, entries}
+use Rattle.journal.specs.Reportable.{reports, chosen}
+use Rattle.journal.specs.Marks.{operandsAt, Resumes}
+use Rattle.journal.proofs.Choice.{each-code}
+use Rattle.journal.proofs.Entries.{one-if}
+use Rattle.journal.proofs.Judging.{judged-kind}
+use Rattle.journal.proofs.Walks.{all-good, walked, walked-on, walked-fits, walked-size, walked-operands, still-inside, chosen-here, chosen-later}
+use Rattle.nodes.specs.Run.{partWords, operator}
+use Rattle.nodes.specs.Area.{wordsOf, part}
+use Rattle.nodes.specs.Writing.{width, Due, dueWords, partFrom}
+use Rattle.nodes.proofs.Runs.{operator-pos}
+use Rattle.nodes.proofs.Cut.{Code, code-take, words-one, words-two}
+use Rattle.nodes.proofs.Listed.{chosen-code}
+
+-- ---- how many words are due
+
+pub words-width : (code : ℕ) (os : List Operation) → 1 ≤ code → code ≤ 3 → Code code os → length (wordsOf os) ≡ width code * length os
+words-width code os l h =
+    each-code (λ (k : ℕ). Code k os → length (wordsOf os) ≡ width k * length os)
+    (λ c. omega (arith, words-one 1 os (omega arith) c)) (λ c. omega (arith, words-one 2 os (omega arith) c)) (words-two os) code l h
+
+pub width-some : (code : ℕ) → (1 ≤ width code) × (width code ≤ 2)
+width-some code = go (eqb code 3)
+  where
+    go : (t : Bool) → (1 ≤ cond t 2 1) × (cond t 2 1 ≤ 2)
+    go true = omega arith
+    go false = omega arith
+
+length-operandsAt : (j : List ℕ) (code at : ℕ) → length (operandsAt j code at) ≡ width code
+length-operandsAt j code at = go (eqb code 3) (le 4 j (at + 6)) (le 4 j (at + 10))
+  where
+    go : (t : Bool) (p d : ℕ) → length (cond t (p ∷ d ∷ []) (p ∷ [])) ≡ cond t 2 1
+    go true p d = refl
+    go false p d = refl
+
+module _ (row j : List ℕ) (code at n : ℕ) (d : Due row j code at n) where
+  pub due-length : length (dueWords row j code at n) ≡ width code * n
+  unfolding dueWords
+  due-length =
+      let os = chosen row code (entries (drop at j)) in
+      words-width code (take n os) (d .low) (d .high) (code-take code n os (chosen-code row code (entries (drop at j))))
+      ∙ ap (λ (k : ℕ). width code * k) (length-take-le n os (d .enough))
+
+  -- while an operation is due, a record stands at the place, and its operands are inside
+  pub due-inside : 0 < n → at < length j
+  due-inside h = still-inside row j code at (omega (arith, d .enough))
+
+  pub due-record : 0 < n → at + (6 + 4 * width code) ≤ length j
+  due-record h = go (reports row code (entryOf (firstRecord (drop at j)))) (eqb code 3) refl refl
+    where
+      there : at < length j
+      there = due-inside h
+
+      go : (t u : Bool) → reports row code (entryOf (firstRecord (drop at j))) ≡ t → eqb code 3 ≡ u → at + (6 + 4 * width code) ≤ length j
+      go t false e f = rw f (omega (arith, walked-fits row j at there (d .sound), walked-size row j at there (d .sound) .0))
+      go true true e f =
+          let k = judged-kind row j at _ _ (walked row j at there (d .sound)) code e ∙ eqb-true code 3 f in
+          rw f (omega (arith, walked-fits row j at there (d .sound), walked-size row j at there (d .sound) .1 k))
+      go false true e f =
+          let c = chosen-later row j code at there e in
+          let next = at + sizeOf (drop at j) in
+          let there′ : next < length j = still-inside row j code next (omega (arith, d .enough, ap (λ (l : List Operation). length l) c)) in
+          let good′ = walked-on row j at there (d .sound) in
+          rw f (omega (arith, walked-size row j at there (d .sound) .0, walked-fits row j next there′ good′, walked-size row j next there′ good′ .0))
+
+-- ---- the loop of the operands
+
+due-words : (row j : List ℕ) (code at past left : ℕ) → chosen row code (entries (drop at j)) ≡ chosen row code (entries (drop past j)) → dueWords row j code past left ≡ dueWords row j code at left
+unfolding dueWords
+due-words row j code at past left c = ap (λ (os : List Operation). wordsOf (take left os)) (sym c)
+
+pub mul-one-le : (a n : ℕ) → 0 < n → a ≤ a * n
+mul-one-le a n h = omega (arith, mul-le-mul-left a h)
+
+pub once-le : (a n : ℕ) → n ≤ 1 → a * n ≤ a
+once-le a n h = omega (arith, mul-le-mul-left a h)
+
+-- what the writer stores from here on makes the area what it is to be
+pub record Writing (aim row j : List ℕ) (code : ℕ) (area : List ℕ) (at to left : ℕ) : Type 0 where
+  pub due : Due row j code at left
+  pub room : to + 4 * (width code * left) ≤ length area
+  pub rest : sets area to (wordBytes (dueWords row j code at left)) ≡ aim
+
+module _ (aim row j : List ℕ) (code : ℕ) (area : List ℕ) (at to left : ℕ) (w : Writing aim row j code area at to left) (h : 0 < left) where
+  abbrev shown : Bool
+  shown = reports row code (entryOf (firstRecord (drop at j)))
+
+  abbrev past : ℕ
+  past = at + sizeOf (drop at j)
+
+  abbrev stored : List ℕ
+  stored = sets area to (wordBytes (operandsAt j code at))
+
+  inside : at < length j
+  inside = due-inside row j code at left (w .due) h
+
+  same-size : length stored ≡ length area
+  same-size = length-sets area to (wordBytes (operandsAt j code at))
+
+  -- a record that counts: its operands stay
+  counts : shown ≡ true → Writing aim row j code stored past (to + 4 * width code) (left - 1)
+  unfolding dueWords wordsOf
+  counts e =
+      let d = w .due in
+      let c = chosen-here row j code at inside e in
+      let os = chosen row code (entries (drop past j)) in
+      let more : width code * left ≡ width code + width code * (left - 1) = pred-mul (width code) left h in
+      let first : take left (chosen row code (entries (drop at j))) ≡ operationOf (firstRecord (drop at j)) ∷ take (left - 1) os = ap (take left) c ∙ take-one left _ os h in
+      let words : wordsOf (take left (chosen row code (entries (drop at j)))) ≡ operandsAt j code at ++ wordsOf (take (left - 1) os) =
+      ap wordsOf first ∙ ap (λ (l : List ℕ). l ++ wordsOf (take (left - 1) os)) (walked-operands row j at inside (d .sound) code e) in
+      record {
+        due = record { low = d .low; high = d .high; sound = walked-on row j at inside (d .sound); enough = omega (arith, d .enough, ap (λ (l : List Operation). length l) c) };
+        room = rw same-size (omega (arith, w .room, more));
+        rest = words-behind area to (to + 4 * width code) (operandsAt j code at) (wordsOf (take (left - 1) os)) (omega (arith, length-operandsAt j code at))
+            ∙ ap (λ (l : List ℕ). sets area to (wordBytes l)) (sym words) ∙ w .rest;
+      }
+    where
+      take-one : (n : ℕ) (o : Operation) (os : List Operation) → 0 < n → take n (o ∷ os) ≡ o ∷ take (n - 1) os
+      take-one zero o os p = absurd (omega arith)
+      take-one (suc n) o os p = let e : suc n - 1 ≡ n = omega arith in rw e
+
+      pred-mul : (a n : ℕ) → 0 < n → a * n ≡ a + a * (n - 1)
+      pred-mul a zero p = absurd (omega arith)
+      pred-mul a (suc n) p = let e : suc n - 1 ≡ n = omega arith in rw e (omega arith)
+
+  -- a record that is passed over: what was stored is stored over
+  passes : shown ≡ false → Writing aim row j code stored past to left
+  passes e =
+      let d = w .due in
+      let c = chosen-later row j code at inside e in
+      let words : dueWords row j code past left ≡ dueWords row j code at left = due-words row j code at past left c in
+      let wide : width code ≤ width code * left = mul-one-le (width code) left h in
+      record {
+        due = record { low = d .low; high = d .high; sound = walked-on row j at inside (d .sound); enough = omega (arith, d .enough, ap (λ (l : List Operation). length l) c) };
+        room = rw same-size (w .room);
+        rest = ap (λ (l : List ℕ). sets stored to (wordBytes l)) words
+            ∙ sets-over (wordBytes (operandsAt j code at)) (wordBytes (dueWords row j code at left)) area to
+            (omega (arith, length-wordBytes (operandsAt j code at), length-operandsAt j code at, length-wordBytes (dueWords row j code at left), due-length row j code at left d))
+            ∙ w .rest;
+      }
+
+  pub turn : Writing aim row j code stored past (to + 4 * width code * one-if shown) (left - one-if shown)
+  turn = go shown refl
+    where
+      go : (t : Bool) → shown ≡ t → Writing aim row j code stored past (to + 4 * width code * one-if t) (left - one-if t)
+      go true e = rw (mul-one (4 * width code)) (counts e)
+      go false e = let z : left - 0 ≡ left = omega arith in let y : to + 0 ≡ to = omega arith in rw (mul-zero (4 * width code), z, y) (passes e)
+
+pub writing-start : (row j : List ℕ) (code at n : ℕ) (area : List ℕ) (to : ℕ) → Due row j code at n → to + 4 * (width code * n) ≤ length area
+    → Writing (sets area to (wordBytes (dueWords row j code at n))) row j code area at to n
+writing-start row j code at n area to d h = record { due = d; room = h; rest = refl }
+
+pub writing-end : (aim row j : List ℕ) (code : ℕ) (area : List ℕ) (at to left : ℕ) → Writing aim row j code area at to left → left ≡ 0 → area ≡ aim
+unfolding dueWords wordsOf wordBytes
+writing-end aim row j code area at to left w h = rw h at (w .rest)
+
+pub width-three : (code : ℕ) → code ≡ 3 → width code ≡ 2
+width-three code h = rw (eq-eqb code 3 h)
+
+pub operands-three : (j : List ℕ) (code at : ℕ) → code ≡ 3 → operandsAt j code at ≡ le 4 j (at + 6) ∷ le 4 j (at + 10) ∷ []
+operands-three j code at h = rw (eq-eqb code 3 h)
+
+pub operands-other : (j : List ℕ) (code at : ℕ) → (code ≡ 3 → ⊥) → operandsAt j code at ≡ le 4 j (at + 6) ∷ []
+operands-other j code at h = rw (ne-eqb code 3 h)
+
+-- ---- one opcode's part
+
+-- the operations from a place that was found are those of the whole journal from number k on
+module _ (row j : List ℕ) (code k from n : ℕ) (r : Resumes row j code k from 0) where
+  pub found-due : wellFormed j ≡ true → 1 ≤ code → code ≤ 3 → k + n ≤ length (chosen row code (entries j)) → Due row j code from n
+  found-due w l h e = record { low = l; high = h; sound = r .sound (all-good j w); enough = omega (arith, r .number) }
+
+  pub found-words : dueWords row j code from n ≡ wordsOf (take n (drop k (chosen row code (entries j))))
+  unfolding dueWords
+  found-words = ap (λ (os : List Operation). wordsOf (take n os)) (sym (r .same))
+
+-- the number of operand words that the code computes
+pub record Sized (width r n : ℕ) : Type 0 where
+  pub is : r * n ≡ width * n
+  pub some : 0 < r * n
+  pub few : r * n ≤ 2038
+
+pub sized : (code r n : ℕ) → r ≡ width code → 0 < n → n ≤ 1019 → Sized (width code) r n
+sized code r n e l h =
+    let b = width-some code in
+    rw e (record { is = refl; some = omega (arith, mul-one-le (width code) n l); few = omega (arith, mul-le-mul (b .1) h) })
+
+pub no-part : (l row j : List ℕ) (code k n to : ℕ) → n ≡ 0 → (to ≡ to + 4 * partWords (width code * n)) × (l ≡ sets l to (wordBytes (partFrom row j code k n)))
+unfolding wordBytes wordsOf operator
+no-part l row j code k n to h = rw (h, mul-zero (width code)) (omega arith, refl)
+
+-- the operator, and the operands behind it
+pub part-stored : (l l₁ l₂ : List ℕ) (to code n : ℕ) (ws : List ℕ) → n ≡ length ws → 0 < n → l₁ ≡ sets l to (beBytes 4 (code * 16777216 + n)) → l₂ ≡ sets l₁ (to + 4) (wordBytes ws)
+    → l₂ ≡ sets l to (wordBytes (part code ws))
+part-stored l l₁ l₂ to code n [] e h p q = absurd (omega arith)
+part-stored l l₁ l₂ to code n (w ∷ ws) e h p q =
+    q ∙ ap (λ (m : List ℕ). sets m (to + 4) (wordBytes (w ∷ ws))) (store-first l l₁ to (code * 16777216 + n) p ∙ ap (λ (k : ℕ). sets l to (wordBytes ((code * 16777216 + k) ∷ []))) e)
+    ∙ words-behind l to (to + 4) ((code * 16777216 + length (w ∷ ws)) ∷ []) (w ∷ ws) refl

@@ -1,0 +1,77 @@
+-- `reading::Cursor::next` meets its contract.
+use mathlib.Core.Path.{_≡_, refl, sym, _∙_}
+use Prim.Native.Nat.{_+_, _-_, _≤_}
+use native.Mathlib.Omega.{arith}
+use lib.ListN.{length, drop}
+use borrow.Author.Needs.{needs}
+use denote.Ref.{now}
+use Rattle.nodes.proofs.Verdicts.{room, no-room, ends-out, ends-zero, goes-on}
+use Rattle.nodes.specs.Cursor.{remaining}
+use Rattle.nodes.specs.Reading.{operationsAt}
+use Rattle.words.specs.Numbers.{words}
+use Rattle.nodes.proofs.reading.Cursor.next.Statement.{statement}
+use Rattle.nodes.proofs.reading.Cursor.next.Tie as tie
+
+abbrev Inv-loop : tie.InvT-loop
+Inv-loop area at₀ code₀ left₀ at code left = operationsAt (words (drop at₀ area)) code₀ left₀ ≡ operationsAt (words (drop at area)) code left
+
+abbrev μ-loop : tie.MeasureT-loop
+μ-loop area at₀ code₀ left₀ at code left = length area - at
+
+loop-holds : tie.Need-loop-holds Inv-loop μ-loop
+loop-holds c = refl
+
+has-word-requires : tie.Need-has-word-requires Inv-loop μ-loop
+has-word-requires c κs = search needs
+
+returns : tie.Need-returns Inv-loop μ-loop
+unfolding remaining
+returns c = c .before .before .before .loop .inv ∙ ends-out (now (c .before .before .before .before .before .args .area)) (c .before .before .before .loop .at) (c .before .before .before .loop .code) (c .before .before .before .loop .left) (no-room _ _ _ (c .before .has-word .ensures) (c .if1 .taken))
+
+-- a whole word stands there
+fits : (c : tie.Else1 Inv-loop μ-loop) → c .before .before .before .loop .at + 4 ≤ length (now (c .before .before .before .before .before .args .area))
+fits c = room _ _ _ (c .before .has-word .ensures) (c .if1 .left)
+
+read-be32-requires : tie.Need-read-be32-requires Inv-loop μ-loop
+read-be32-requires c κs = fits c
+
+returns-2 : tie.Need-returns-2 Inv-loop μ-loop
+unfolding remaining
+returns-2 c = c .before .before .before .before .before .loop .inv ∙ ends-zero (now (c .before .before .before .before .before .before .before .args .area)) (c .before .before .before .before .before .loop .at) (c .before .before .before .before .before .loop .code) (c .before .before .before .before .before .loop .left) (fits (c .before .before)) (c .before .before .before .before .loop-test .taken) (sym (c .before .read-be32 .ensures) ∙ c .if2 .taken)
+
+cast-left : tie.Need-cast-left Inv-loop μ-loop
+cast-left c = search needs
+
+add-at : tie.Need-add-at Inv-loop μ-loop
+add-at c = omega (arith, fits (c .before .before))
+
+loop-less : tie.Need-loop-less Inv-loop μ-loop
+loop-less c = omega (arith, fits (c .before .before))
+
+loop-again : tie.Need-loop-again Inv-loop μ-loop
+loop-again c = rw (c .before .read-be32 .ensures) (c .before .before .before .before .before .loop .inv ∙ goes-on (now (c .before .before .before .before .before .before .before .args .area)) (c .before .before .before .before .before .loop .at) (c .before .before .before .before .before .loop .code) (c .before .before .before .before .before .loop .left) (fits (c .before .before)) (c .before .before .before .before .loop-test .taken) (λ e. c .if2 .left (c .before .read-be32 .ensures ∙ e)))
+
+operation-at-requires : tie.Need-operation-at-requires Inv-loop μ-loop
+operation-at-requires c κs = search needs
+
+returns-3 : tie.Need-returns-3 Inv-loop μ-loop
+unfolding remaining
+returns-3 c = rw (c .before .before .loop .inv) (c .operation-at .ensures)
+
+pub next-spec : {M : Type 1} → statement M
+next-spec =
+    tie.close
+    (tie.spec
+    Inv-loop
+    μ-loop
+    loop-holds
+    has-word-requires
+    returns
+    read-be32-requires
+    returns-2
+    cast-left
+    add-at
+    loop-less
+    loop-again
+    operation-at-requires
+    returns-3)

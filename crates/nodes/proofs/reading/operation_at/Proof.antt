@@ -1,0 +1,81 @@
+-- `reading::operation_at` meets its contract.
+use Prim.Native.Nat.{_+_, _≤_}
+use native.Mathlib.Omega.{arith}
+use lib.ListN.{length}
+use borrow.Author.Needs.{needs}
+use denote.Ref.{now}
+use Rattle.nodes.proofs.Verdicts.{room, no-room, ends-out, ends-half, gives-single, gives-pair}
+use Rattle.nodes.specs.Cursor.{remaining}
+use Rattle.nodes.proofs.reading.operation_at.Statement.{statement}
+use Rattle.nodes.proofs.reading.operation_at.Tie as tie
+
+has-word-requires : tie.Need-has-word-requires
+has-word-requires c κs = search needs
+
+returns : tie.Need-returns
+returns c = ends-out (now (c .before .before .before .args .area)) (c .before .before .before .args .at) (c .before .before .before .args .code) (c .before .before .before .args .left) (no-room _ _ _ (c .before .has-word .ensures) (c .if1 .taken))
+
+-- a whole word stands there
+fits : (c : tie.Else1) → c .before .before .before .args .at + 4 ≤ length (now (c .before .before .before .args .area))
+fits c = room _ _ _ (c .before .has-word .ensures) (c .if1 .left)
+
+read-be32-requires : tie.Need-read-be32-requires
+read-be32-requires c κs = fits c
+
+add-behind : tie.Need-add-behind
+add-behind c = omega (arith, fits (c .before))
+
+has-word-requires-2 : tie.Need-has-word-requires-2
+has-word-requires-2 c κs = search needs
+
+returns-2 : tie.Need-returns-2
+returns-2 c = ends-half (now (c .before .before .before .before .before .before .before .args .area)) (c .before .before .before .before .before .before .before .args .at) (c .before .before .before .before .before .before .before .args .code) (c .before .before .before .before .before .before .before .args .left) (fits (c .before .before .before .before)) (c .before .before .before .before .before .before .before .pre) (c .before .before .if2 .taken) (no-room _ _ _ (c .before .has-word2 .ensures) (c .if3 .taken))
+
+-- and a second one behind it
+fits-two : (c : tie.Else3) → c .before .before .before .before .before .before .before .args .at + 4 + 4 ≤ length (now (c .before .before .before .before .before .before .before .args .area))
+fits-two c = room _ _ _ (c .before .has-word2 .ensures) (c .if3 .left)
+
+read-be32-requires-2 : tie.Need-read-be32-requires-2
+read-be32-requires-2 c κs = fits-two c
+
+add-t13 : tie.Need-add-t13
+add-t13 c = omega (arith, fits-two (c .before))
+
+sub-less : tie.Need-sub-less
+sub-less c = search needs
+
+less-requires : tie.Need-less-requires
+less-requires c κs = search needs
+
+returns-3 : tie.Need-returns-3
+unfolding remaining
+returns-3 c = rw (c .less .ensures, c .before .read-be322 .ensures, c .before .before .before .before .before .read-be32 .ensures) (gives-pair (now (c .before .before .before .before .before .before .before .before .before .args .area)) (c .before .before .before .before .before .before .before .before .before .args .at) (c .before .before .before .before .before .before .before .before .before .args .code) (c .before .before .before .before .before .before .before .before .before .args .left) (fits (c .before .before .before .before .before .before)) (c .before .before .before .before .before .before .before .before .before .pre) (c .before .before .before .before .if2 .taken) (fits-two (c .before .before)))
+
+single-of-requires : tie.Need-single-of-requires
+single-of-requires c κs = search needs
+
+sub-t18 : tie.Need-sub-t18
+sub-t18 c = search needs
+
+returns-4 : tie.Need-returns-4
+unfolding remaining
+returns-4 c = rw (c .single-of .ensures, c .before .before .read-be32 .ensures) (gives-single (now (c .before .before .before .before .before .before .args .area)) (c .before .before .before .before .before .before .args .at) (c .before .before .before .before .before .before .args .code) (c .before .before .before .before .before .before .args .left) (fits (c .before .before .before)) (c .before .before .before .before .before .before .pre) (c .before .if2 .left))
+
+pub operation-at-spec : {M : Type 1} → statement M
+operation-at-spec =
+    tie.close
+    (tie.spec
+    has-word-requires
+    returns
+    read-be32-requires
+    add-behind
+    has-word-requires-2
+    returns-2
+    read-be32-requires-2
+    add-t13
+    sub-less
+    less-requires
+    returns-3
+    single-of-requires
+    sub-t18
+    returns-4)

@@ -1,0 +1,43 @@
+-- `run::longest_run` meets its contract.
+use borrow.Author.Needs.{needs}
+use Rattle.nodes.specs.Run.{cut}
+use Rattle.nodes.proofs.run.longest_run.Statement.{statement}
+use Rattle.nodes.proofs.run.longest_run.Tie as tie
+
+least-requires : tie.Need-least-requires
+least-requires c κs = search needs
+
+room-after-requires : tie.Need-room-after-requires
+room-after-requires c κs = search needs
+
+less-requires : tie.Need-less-requires
+less-requires c κs = search needs
+
+least-requires-2 : tie.Need-least-requires-2
+least-requires-2 c κs = search needs
+
+room-after-requires-2 : tie.Need-room-after-requires-2
+room-after-requires-2 c κs = search needs
+
+less-requires-2 : tie.Need-less-requires-2
+less-requires-2 c κs = search needs
+
+least-requires-3 : tie.Need-least-requires-3
+least-requires-3 c κs = search needs
+
+returns : tie.Need-returns
+unfolding cut
+returns c = cc
+
+pub longest-run-spec : {M : Type 1} → statement M
+longest-run-spec =
+    tie.close
+    (tie.spec
+    least-requires
+    room-after-requires
+    less-requires
+    least-requires-2
+    room-after-requires-2
+    less-requires-2
+    least-requires-3
+    returns)

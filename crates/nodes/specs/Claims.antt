@@ -1,0 +1,91 @@
+-- Claims about node areas, cited by the contract of `write_answer`.
+use Prim.Native.Nat.{ℕ, _+_, _*_, _≤_, _<_}
+use mathlib.Core.Path.{_≡_}
+use mathlib.Core.Bool.{Bool, true, false, _&&_}
+use mathlib.Core.List.{List, [], _∷_, _++_}
+use lib.Dec.{T, eqb}
+use lib.ListN.{length, replicate}
+use Rattle.words.specs.Numbers.{Bytes, Small}
+use Rattle.journal.specs.declared.operation.Operation.{Operation}
+use Rattle.journal.specs.declared.operation.Operation.the-variants.{Delete, Update, Add}
+use Rattle.journal.specs.Journal.{opcode, operands, wellFormed}
+use Rattle.journal.specs.Reportable.{reportable, operandWords}
+use Rattle.nodes.specs.Run.{run, remains, nextState}
+use Rattle.nodes.specs.Area.{written}
+use Rattle.nodes.specs.Reading.{read, reading}
+
+-- the opcodes do not fall, from `least` on
+abbrev pub Sorted : ℕ → List Operation → Type 0
+Sorted least [] = Unit {0}
+Sorted least (o ∷ os) = (least ≤ opcode o) × Sorted (opcode o) os
+
+abbrev pub SmallOperands : List Operation → Type 0
+SmallOperands [] = Unit {0}
+SmallOperands (o ∷ os) = Small (operands o) × SmallOperands os
+
+-- a list that areas can hold: opcodes in order, operands and states that fit their words
+pub record Listed (os : List Operation) : Type 0 where
+  pub sorted : Sorted 0 os
+  pub small : SmallOperands os
+  pub few : length os < 4294967296
+
+-- Every reportable list is one.
+abbrev pub ReportableListed : Type 0
+ReportableListed = (row j : List ℕ) → Bytes j → wellFormed j ≡ true → Listed (reportable row j)
+
+-- Reading what was written gives back the run, so it is never refused.
+abbrev pub RoundTrip : Type 0
+RoundTrip = (area : List ℕ) (os : List Operation) (state : ℕ) → length area ≡ 4096 → Listed os → state ≤ length os → reading (written area os state) ≡ read (run os state)
+
+-- The run is never empty while operations remain.
+abbrev pub NeverEmpty : Type 0
+NeverEmpty = (os : List Operation) (state : ℕ) → state < length os → 0 < length (run os state)
+
+-- An area that does not finish the list hands out at least 1,015 operand words.
+abbrev pub WellFilled : Type 0
+WellFilled = (os : List Operation) (state : ℕ) → state ≤ length os → remains os state ≡ true → 1015 ≤ operandWords (run os state)
+
+-- 01, "Readings on both sides of the lines", as runs: so many deletes, updates and additions, the state given and the state left.
+pub record RunCase : Type 0 where
+  pub deletes : ℕ
+  pub updates : ℕ
+  pub additions : ℕ
+  pub state : ℕ
+  pub left : ℕ
+
+abbrev pub case : ℕ → ℕ → ℕ → ℕ → ℕ → RunCase
+case d u a s l = record { deletes = d; updates = u; additions = a; state = s; left = l }
+
+abbrev pub runCases : List RunCase
+runCases =
+    case 1018 0 0 0 0
+    ∷ case 1019 0 0 0 1018
+    ∷ case 1019 0 0 1018 0
+    ∷ case 0 0 509 0 0
+    ∷ case 0 0 510 0 509
+    ∷ case 0 0 510 509 0
+    ∷ case 1 1013 1 0 0
+    ∷ case 1 1014 1 0 1015
+    ∷ case 1 1014 1 1015 0
+    ∷ case 0 0 0 0 0
+    ∷ []
+
+abbrev pub agrees : RunCase → Bool
+agrees c =
+    let os = replicate (c .deletes) (Delete 42) ++ (replicate (c .updates) (Update 42) ++ replicate (c .additions) (Add 42 5)) in
+    eqb (nextState os (c .state)) (c .left)
+
+abbrev pub allAgree : List RunCase → Bool
+allAgree [] = true
+allAgree (c ∷ cs) = agrees c && allAgree cs
+
+abbrev pub RunCases : Type 0
+RunCases = T (allAgree runCases)
+
+-- all of them
+pub record AreaClaims : Type 0 where
+  pub reportable-listed : ReportableListed
+  pub round-trip : RoundTrip
+  pub never-empty : NeverEmpty
+  pub well-filled : WellFilled
+  pub run-cases : RunCases

@@ -1,0 +1,7 @@
+pub mod Run
+pub mod Area
+pub mod Reading
+pub mod Cursor
+pub mod Claims
+pub mod Source
+pub mod Writing

@@ -1,0 +1,71 @@
+-- The run of operations that a call hands out (document 01, "update-nodes").
+use Prim.Native.Nat.{ℕ, zero, suc, _+_, _*_, _-_, _/_, min}
+use mathlib.Core.Bool.{Bool, cond}
+use mathlib.Core.List.{List, [], _∷_}
+use lib.Dec.{leb, ltb, eqb}
+use lib.ListN.{length, take, drop}
+use Rattle.journal.specs.declared.operation.Operation.{Operation}
+use Rattle.journal.specs.declared.scanning.Counts.{Counts}
+use Rattle.journal.specs.Journal.{opcode}
+use Rattle.journal.specs.Reportable.{operandWords}
+
+-- 01: "A run costs one operator word for each opcode present, one word for each delete or update, two for each addition."
+unfoldable pub present : ℕ → List Operation → ℕ
+present code [] = 0
+present code (o ∷ os) =
+    let rest = present code os in
+    cond (eqb (opcode o) code) 1 rest
+
+unfoldable pub cost : List Operation → ℕ
+cost os = present 1 os + present 2 os + present 3 os + operandWords os
+
+-- The length of the longest run at the head of a list, of no more than n operations, that fits 1,019 words.
+unfoldable pub longest : ℕ → List Operation → ℕ
+longest zero os = 0
+longest (suc n) os =
+    let shorter = longest n os in
+    cond (leb (cost (take (suc n) os)) 1019) (suc n) shorter
+
+-- 01: "The call hands out the longest run of operations, from the state on, that fits 1,019 words."
+unfoldable pub run : List Operation → ℕ → List Operation
+run os state = take (longest (length (drop state os)) (drop state os)) (drop state os)
+
+-- 01: "Status 1 when operations remain, otherwise 0.", "new state (0 when nothing remains)"
+unfoldable pub remains : List Operation → ℕ → Bool
+remains os state = ltb (state + length (run os state)) (length os)
+
+unfoldable pub nextState : List Operation → ℕ → ℕ
+nextState os state = cond (remains os state) (state + length (run os state)) 0
+
+-- ---- the same run by arithmetic, from how many deletes, updates and additions are left
+
+-- the words of one opcode's n operands with their operator, which stands only before operands
+unfoldable pub operator : ℕ → ℕ
+operator zero = 0
+operator (suc n) = 1
+
+abbrev pub partWords : ℕ → ℕ
+partWords n = operator n + n
+
+-- how many operations of one operand word, or of two, fit into so many words with their operator
+abbrev pub onesIn : ℕ → ℕ → ℕ
+onesIn room left = min left (room - 1)
+
+abbrev pub twosIn : ℕ → ℕ → ℕ
+twosIn room left = min left ((room - 1) / 2)
+
+unfoldable pub cut : Counts → Counts
+cut left =
+    let deletes = onesIn 1019 (left .deletes) in
+    let room₂ = 1019 - partWords deletes in
+    let updates = onesIn room₂ (left .updates) in
+    let room₃ = room₂ - partWords updates in
+    record { deletes = deletes; updates = updates; additions = twosIn room₃ (left .additions) }
+
+-- what is left of the counts of a list after its first `state` operations
+abbrev pub leftOf : Counts → ℕ → Counts
+leftOf all state =
+    record { deletes = all .deletes - state; updates = all .updates - (state - all .deletes); additions = all .additions - (state - all .deletes - all .updates) }
+
+abbrev pub total : Counts → ℕ
+total c = c .deletes + c .updates + c .additions

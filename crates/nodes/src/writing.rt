@@ -1,0 +1,185 @@
+// Writing the answer of a call into its work area.
+ghost use mathlib.Core.Path.{_≡_};
+ghost use mathlib.Core.Bool.{cond};
+ghost use mathlib.Core.List.{[], _∷_};
+ghost use Prim.Native.Nat.{_+_, _*_, _-_, _<_, _≤_};
+ghost use lib.ListN.{length};
+ghost use lib.Seq.{sets};
+ghost use Rattle.words.specs.Numbers.{wordBytes};
+ghost use Rattle.journal.specs.Journal.{entries};
+ghost use Rattle.journal.specs.Reportable.{chosen, reportable};
+ghost use Rattle.journal.specs.Marks.{operandsAt};
+ghost use Rattle.nodes.specs.Run.{partWords, cut, leftOf, total, remains};
+ghost use Rattle.nodes.specs.Area.{written};
+ghost use Rattle.nodes.specs.Claims.{AreaClaims};
+ghost use Rattle.nodes.specs.Source.{Source};
+ghost use Rattle.nodes.specs.Writing.{width, Due, dueWords, partFrom, bodyFrom};
+use crate::run::counts_left;
+use crate::run::less;
+use crate::run::longest_run;
+use journal::Counts;
+
+// The State Variable: how many operations were reported before. It counts from 0.
+pub struct StateVariable(pub u32);
+
+// The operand words of one operation of an opcode.
+fn width_of(code: usize) -> usize
+    ensures { λ r. ⌜ r ≡ width code ⌝ }
+{
+    if code == 3 { 2 } else { 1 }
+}
+
+// The operand words at a record's place, stored; every other byte of the area stays.
+fn store_operands(area: &mut [u8], to: usize, j: &[u8], at: usize, code: usize)
+    requires { ⌜ (to + 4 * width code ≤ length (now area)) × (at + (6 + 4 * width code) ≤ length (now j)) ⌝ }
+    ensures { λ _. ⌜ now (area .exit) ≡ sets (now (area .entry)) to (wordBytes (operandsAt (now (j .entry)) code at)) ⌝ }
+{
+    words::store_be32(area, to, words::read_le32(j, at + 6));
+    if code == 3 {
+        words::store_be32(area, to + 4, words::read_le32(j, at + 10));
+    }
+}
+
+// The operands of `count` operations of an opcode, from a record's place on, stored from `start` on. A record that is passed over is
+// stored too, and the next one that counts in its place, so that no branch depends on a record.
+fn write_operands(
+    area: &mut [u8],
+    j: &[u8],
+    row: &[u8; 15],
+    code: usize,
+    from: usize,
+    count: usize,
+    start: usize,
+)
+    requires { ⌜ Due (now row) (now j) code from count × (start + 4 * (width code * count) ≤ length (now area)) ⌝ }
+    ensures { λ _. ⌜ now (area .exit) ≡ sets (now (area .entry)) start (wordBytes (dueWords (now (row .entry)) (now (j .entry)) code from count)) ⌝ }
+{
+    let step = 4 * width_of(code);
+    let mut at = from;
+    let mut to = start;
+    let mut left = count;
+    while 0 < left {
+        let p = journal::pass(j, row, code, at);
+        store_operands(area, to, j, at, code);
+        at += p.size;
+        to += step * p.reported;
+        left -= p.reported;
+    }
+}
+
+// One opcode's part from operation number k on: the operator and its operands, or nothing without operations. Gives the place after it.
+fn write_part(
+    area: &mut [u8],
+    j: &[u8],
+    row: &[u8; 15],
+    counts: Counts,
+    marks: &[u64; 128],
+    noted: usize,
+    code: usize,
+    k: usize,
+    count: usize,
+    to: usize,
+) -> usize
+    requires { ⌜ Source (now row) (now j) counts (now marks) noted × (1 ≤ code) × (code ≤ 3) × (count ≤ length (chosen (now row) code (entries (now j))) - k) × (count ≤ 1019) × (to + 4 * partWords (width code * count) ≤ length (now area)) ⌝ }
+    ensures { λ r. ⌜ r ≡ to + 4 * partWords (width code * count) ⌝ }
+    ensures { λ _. ⌜ now (area .exit) ≡ sets (now (area .entry)) to (wordBytes (partFrom (now (row .entry)) (now (j .entry)) code k count)) ⌝ }
+{
+    if count == 0 {
+        return to;
+    }
+    let from = journal::find(j, row, marks, noted, code, k);
+    let operands = width_of(code) * count;
+    words::store_be32(area, to, (code * 16777216 + operands) as u32);
+    write_operands(area, j, row, code, from, count, to + 4);
+    to + 4 * (1 + operands)
+}
+
+// The first sixteen bytes: the state, and twelve zero bytes.
+fn write_head(area: &mut [u8], state: StateVariable)
+    requires { ⌜ 16 ≤ length (now area) ⌝ }
+    ensures { λ _. ⌜ now (area .exit) ≡ sets (now (area .entry)) 0 (wordBytes (state .0 ∷ 0 ∷ 0 ∷ 0 ∷ [])) ⌝ }
+{
+    words::store_be32(area, 0, state.0);
+    words::store_be32(area, 4, 0);
+    words::store_be32(area, 8, 0);
+    words::store_be32(area, 12, 0);
+}
+
+// The three parts of a run and the terminator, from byte 16 on.
+fn write_body(
+    area: &mut [u8],
+    j: &[u8],
+    row: &[u8; 15],
+    counts: Counts,
+    marks: &[u64; 128],
+    noted: usize,
+    k: usize,
+    run: Counts,
+)
+    requires { ⌜ (length (now area) ≡ 4096) × Source (now row) (now j) counts (now marks) noted × (k ≤ total counts) × (run ≡ cut (leftOf counts k)) ⌝ }
+    ensures { λ _. ⌜ now (area .exit) ≡ sets (now (area .entry)) 16 (wordBytes (bodyFrom (now (row .entry)) (now (j .entry)) counts k run)) ⌝ }
+{
+    let second = less(k, counts.deletes);
+    let third = less(second, counts.updates);
+    let a = write_part(area, j, row, counts, marks, noted, 1, k, run.deletes, 16);
+    let b = write_part(
+        area,
+        j,
+        row,
+        counts,
+        marks,
+        noted,
+        2,
+        second,
+        run.updates,
+        a,
+    );
+    let c = write_part(
+        area,
+        j,
+        row,
+        counts,
+        marks,
+        noted,
+        3,
+        third,
+        run.additions,
+        b,
+    );
+    words::store_be32(area, c, 0);
+}
+
+// The new state: the operations reported by then, or 0 when nothing remains.
+fn state_after(after: usize, more: bool) -> StateVariable
+    requires { ⌜ after < 4294967296 ⌝ }
+    ensures { λ r. ⌜ r .0 ≡ cond more after 0 ⌝ }
+{
+    if more {
+        return StateVariable(after as u32);
+    }
+    StateVariable(0)
+}
+
+// The answer of a call, from a well-formed journal, what its scan told, and a state within it. Says whether operations remain.
+pub fn write_answer(
+    area: &mut [u8],
+    j: &[u8],
+    row: &[u8; 15],
+    counts: Counts,
+    marks: &[u64; 128],
+    noted: usize,
+    state: StateVariable,
+) -> bool
+    requires { ⌜ (length (now area) ≡ 4096) × Source (now row) (now j) counts (now marks) noted × (state .0 ≤ total counts) ⌝ }
+    ensures { λ r. ⌜ r ≡ remains (reportable (now (row .entry)) (now (j .entry))) (state .0) ⌝ }
+    ensures { λ _. ⌜ now (area .exit) ≡ written (now (area .entry)) (reportable (now (row .entry)) (now (j .entry))) (state .0) ⌝ }
+    ensures claims { λ _. ⌜ AreaClaims ⌝ }
+{
+    let k = state.0 as usize;
+    let run = longest_run(counts_left(counts, k));
+    let after = k + (run.deletes + run.updates + run.additions);
+    let more = after < counts.deletes + counts.updates + counts.additions;
+    write_head(area, state_after(after, more));
+    write_body(area, j, row, counts, marks, noted, k, run);
+    more
+}
