@@ -1,0 +1,142 @@
+-- The text of an input, from what a check tells of it, and that it fits its buffer.
+use mathlib.Core.Path.{_≡_, refl, sym, ap, _∙_}
+use mathlib.Core.Bool.{Bool, true, false, cond, not}
+use mathlib.Core.List.{List, [], _∷_, _++_}
+use Prim.Native.Nat.{ℕ, zero, suc, _+_, _*_, _-_, _/_, _%_, _≤_}
+use native.Mathlib.Omega.{arith}
+use lib.Dec.{ltb, eqb}
+use lib.ListN.{length, take, drop, length-append, length-drop}
+use lib.Seq.{slice, sets, length-sets, length-take-le}
+use borrow.Author.Tests.{eqb-true, ne-eqb, not-false}
+use Rattle.words.specs.Numbers.{words, zeros, be32}
+use Rattle.words.proofs.Words.{length-words}
+use Rattle.journal.specs.declared.operation.Operation.{Operation}
+use Rattle.journal.specs.declared.operation.Operation.the-variants.{Delete, Update, Add}
+use Rattle.journal.proofs.Choice.{choose}
+use Rattle.nodes.specs.declared.reading.Refusal.{Refusal}
+use Rattle.nodes.specs.declared.reading.Refusal.the-variants.{Size, Reserved}
+use Rattle.nodes.specs.declared.reading.Check.the-variants.{Entries, Refused}
+use Rattle.nodes.specs.Reading.{Reading, read, refused, Verdict, good, bad, verdict, reading, readBy, refusalNumber, operationsAt, opcodeIn, countIn, checkOf}
+use Rattle.nodes.specs.Cursor.{remaining, startOf}
+use Rattle.nodes.proofs.Verdicts.{entries-in-order}
+use Rattle.print_nodes.specs.Put.{Fits}
+use Rattle.print_nodes.specs.Text.{digits, decimal, hexDigits, hex, numbered, ended, operand, line, lines, text, textOf, LongInput, newline, space, state-, delete-, update-, add-, end-, refused-, -at-}
+
+-- ---- pieces
+
+length-digits : (n v : ℕ) → length (digits n v) ≤ n
+unfolding digits
+length-digits zero v = omega arith
+length-digits (suc n) v =
+    choose (ltb v 10) (λ (s : List ℕ). length s ≤ suc n) (λ _. omega arith) (λ _. omega (arith, length-digits n (v / 10), length-append (digits n (v / 10)) ((48 + v % 10) ∷ [])))
+
+length-hexDigits : (n v : ℕ) → length (hexDigits n v) ≡ n
+unfolding hexDigits
+length-hexDigits zero v = refl
+length-hexDigits (suc n) v = rw (length-append, length-hexDigits n (v / 16)) (omega arith)
+
+length-numbered : (word : List ℕ) (v : ℕ) → length (numbered word v) ≤ length word + 20
+unfolding numbered decimal
+length-numbered word v = omega (arith, length-append word (digits 20 v), length-digits 20 v)
+
+length-ended : (word : List ℕ) (v : ℕ) → length (ended word v) ≤ length word + 21
+unfolding ended
+length-ended word v = omega (arith, length-append (numbered word v) newline, length-numbered word v)
+
+length-operand : (word : List ℕ) (v : ℕ) → length (operand word v) ≡ length word + 8
+unfolding operand hex
+length-operand word v = rw (length-append, length-hexDigits 8 v)
+
+length-line : (o : Operation) → length (line o) ≤ 22
+unfolding line
+length-line (Delete p) = omega (arith, length-append (operand delete- p) newline, length-operand delete- p)
+length-line (Update p) = omega (arith, length-append (operand update- p) newline, length-operand update- p)
+length-line (Add p i) = omega (arith, length-append (operand add- p ++ operand space i) newline, length-append (operand add- p) (operand space i), length-operand add- p, length-operand space i)
+
+length-lines : (os : List Operation) → length (lines os) ≤ 22 * length os
+unfolding lines
+length-lines [] = omega arith
+length-lines (o ∷ os) = omega (arith, length-append (line o) (lines os), length-line o, length-lines os)
+
+-- ---- how many operations an area has
+
+length-operations : (ws : List ℕ) (code n : ℕ) → length (operationsAt ws code n) ≤ length ws
+unfolding operationsAt
+length-operations [] code n = omega arith
+length-operations (w ∷ ws) code zero = choose (eqb w 0) (λ (os : List Operation). length os ≤ suc (length ws)) (λ _. omega arith) (λ _. omega (arith, length-operations ws (opcodeIn w) (countIn w)))
+length-operations (w ∷ []) code (suc n) = choose (eqb code 3) (λ (os : List Operation). length os ≤ 1) (λ _. omega arith) (λ _. omega arith)
+length-operations (w ∷ v ∷ ws) code (suc n) =
+    choose (eqb code 3) (λ (os : List Operation). length os ≤ suc (suc (length ws))) (λ _. omega (arith, length-operations ws code (n - 1))) (λ _. omega (arith, length-operations (v ∷ ws) code n))
+
+read-of : (a b : Bool) (v : Verdict) (os ps : List Operation) → cond a (refused Size 0) (cond b (refused Reserved 4) (readBy v os)) ≡ read ps → (a ≡ false) × (os ≡ ps)
+read-of true b v os ps e = (cc, cc)
+read-of false true v os ps e = (cc, cc)
+read-of false false good os ps e = (refl, cc)
+read-of false false (bad r at) os ps e = (cc, cc)
+
+-- an area that is read
+record Area (area : List ℕ) (os : List Operation) : Type 0 where
+  pub size : length area ≡ 4096
+  pub few : length os ≤ 1024
+
+area-read : (area : List ℕ) (os : List Operation) → reading area ≡ read os → Area area os
+unfolding reading
+area-read area os e =
+    let ws = drop 4 (words area) in
+    let r = read-of (not (eqb (length area) 4096)) (not (zeros (slice 4 16 area))) (verdict 0 16 0 ws) (operationsAt ws 0 0) os e in
+    let size : length area ≡ 4096 = eqb-true (length area) 4096 (not-false (eqb (length area) 4096) (r .0)) in
+    record { size = size; few = rw (← (r .1)) (omega (arith, length-operations ws 0 0, length-drop 4 (words area), length-words 1024 area size)) }
+
+-- ---- the text, from what a check tells of an area
+
+contrary : {A : Type 0} → _≡_ {A = ℕ} 0 1 → A
+contrary z = absurd (omega arith)
+
+module _ (input : List ℕ) where
+  -- the text of an area with n operations
+  pub area-text : (n state : ℕ) → checkOf (reading input) ≡ Entries n → state ≡ be32 input 0
+      → (length input ≡ 4096) × (text input ≡ ended state- state ++ (lines (remaining input startOf) ++ ended end- n))
+  unfolding text
+  area-text n state e w = go (reading input) refl e
+    where
+      go : (r : Reading) → reading input ≡ r → checkOf r ≡ Entries n
+          → (length input ≡ 4096) × (textOf (be32 input 0) (reading input) ≡ ended state- state ++ (lines (remaining input startOf) ++ ended end- n))
+      go (read os) g h = let same : length os ≡ n = cc in (area-read input os g .size, rw (g, entries-in-order input os g, same, w))
+      go (refused r at) g h = contrary (cc)
+
+  pub refused-text : (r : Refusal) (at : ℕ) → checkOf (reading input) ≡ Refused r at → text input ≡ numbered refused- (refusalNumber r) ++ ended -at- at
+  unfolding text
+  refused-text r at e = go (reading input) refl e
+    where
+      go : (x : Reading) → reading input ≡ x → checkOf x ≡ Refused r at → textOf (be32 input 0) (reading input) ≡ numbered refused- (refusalNumber r) ++ ended -at- at
+      go (read os) g h = contrary (cc)
+      go (refused q k) g h = let same : refused q k ≡ refused r at = cc in rw g (ap (textOf (be32 input 0)) same)
+
+-- ---- the text fits
+
+pub refusal-fits : (n at : ℕ) → Fits 0 (numbered refused- n ++ ended -at- at)
+refusal-fits n at = omega (arith, length-append (numbered refused- n) (ended -at- at), length-numbered refused- n, length-ended -at- at)
+
+pub text-fits : (input : List ℕ) → Fits 0 (text input)
+unfolding text
+text-fits input = go (reading input) refl
+  where
+    go : (r : Reading) → reading input ≡ r → Fits 0 (textOf (be32 input 0) (reading input))
+    go (read os) g =
+        let first = ended state- (be32 input 0) in
+        let last = ended end- (length os) in
+        rw g (omega (arith, area-read input os g .few, length-append first (lines os ++ last), length-append (lines os) last, length-ended state- (be32 input 0), length-lines os, length-ended end- (length os)))
+    go (refused r at) g = rw g (refusal-fits (refusalNumber r) at)
+
+-- the text stays inside its buffer
+pub text-room : (input l m : List ℕ) (r : ℕ) → length l ≡ 32768 → r ≡ length (text input) → m ≡ sets l 0 (text input) → r ≤ length m
+text-room input l m r size e s = rw (s, length-sets l 0 (text input)) (omega (arith, text-fits input))
+
+-- ---- an input that is no area
+
+wrong-size : (input : List ℕ) → (length input ≡ 4096 → ⊥) → text input ≡ numbered refused- 20 ++ ended -at- 0
+unfolding text reading
+wrong-size input h = rw (ne-eqb (length input) 4096 h)
+
+pub long-input : LongInput
+long-input input h = wrong-size (take 4097 input) (λ e. omega (arith, length-take-le 4097 input (omega arith))) ∙ sym (wrong-size input (λ e. omega arith))

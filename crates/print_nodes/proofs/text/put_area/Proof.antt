@@ -1,0 +1,56 @@
+-- `text::put_area` meets its contract.
+use mathlib.Core.Path.{refl}
+use mathlib.Core.List.{_++_}
+use native.Mathlib.Omega.{arith}
+use borrow.Author.Needs.{needs}
+use denote.Ref.{now}
+use Rattle.nodes.specs.Cursor.{remaining, startOf}
+use Rattle.print_nodes.specs.Put.{Fits}
+use Rattle.print_nodes.specs.Text.{state-, end-, ended, lines}
+use Rattle.print_nodes.proofs.Puts.{fits-first, fits-then, put-then}
+use Rattle.print_nodes.proofs.Sizes.{area-text, text-fits}
+use Rattle.print_nodes.proofs.text.put_area.Statement.{statement}
+use Rattle.print_nodes.proofs.text.put_area.Tie as tie
+
+read-be32-requires : tie.Need-read-be32-requires
+read-be32-requires c κs = omega (arith, area-text _ _ _ (c .before .pre) refl .0)
+
+slice-aggregate-put-ended : tie.Need-slice-aggregate-put-ended
+slice-aggregate-put-ended c = search needs
+
+cast-put-ended : tie.Need-cast-put-ended
+cast-put-ended c = search needs
+
+whole : (c : tie.After-read-be32) → Fits 0 (ended state- (c .read-be32 .result) ++ (lines (remaining (now (c .before .before .args .input)) startOf) ++ ended end- (c .before .before .args .count)))
+whole c = rw (area-text _ _ _ (c .before .before .pre) (c .read-be32 .ensures) .1) at (text-fits (now (c .before .before .args .input)))
+
+put-ended-requires : tie.Need-put-ended-requires
+put-ended-requires c κs = fits-first 0 (ended state- _) _ (whole (c .before .before))
+
+behind : (c : tie.After-put-ended) → Fits (c .put-ended .result) (lines (remaining (now (c .before .before .before .before .before .args .input)) startOf) ++ ended end- (c .before .before .before .before .before .args .count))
+behind c = fits-then _ (whole (c .before .before .before)) (c .put-ended .ensures)
+
+put-lines-requires : tie.Need-put-lines-requires
+put-lines-requires c κs = fits-first _ (lines _) _ (behind (c .before))
+
+slice-aggregate-put-ended-2 : tie.Need-slice-aggregate-put-ended-2
+slice-aggregate-put-ended-2 c = search needs
+
+put-ended-requires-2 : tie.Need-put-ended-requires-2
+put-ended-requires-2 c κs = fits-then (ended end- _) (behind (c .before .before .before .before)) (c .before .before .put-lines .ensures)
+
+returns : tie.Need-returns
+returns c = rw (area-text _ _ _ (c .before .before .before .before .before .before .before .before .before .before .pre) (c .before .before .before .before .before .before .before .before .read-be32 .ensures) .1) (put-then (c .before .before .before .before .before .put-ended .ensures) (put-then (c .before .before .before .put-lines .ensures) (c .put-ended2 .ensures)))
+
+pub put-area-spec : {M : Type 1} → statement M
+put-area-spec =
+    tie.close
+    (tie.spec
+    read-be32-requires
+    slice-aggregate-put-ended
+    cast-put-ended
+    put-ended-requires
+    put-lines-requires
+    slice-aggregate-put-ended-2
+    put-ended-requires-2
+    returns)

@@ -1,0 +1,53 @@
+-- `text::put_bytes` meets its contract.
+use Prim.Native.Nat.{_-_}
+use native.Mathlib.Omega.{arith}
+use lib.ListN.{length}
+use borrow.Author.Needs.{needs}
+use Rattle.print_nodes.proofs.Puts.{Copied, copied-first, copied-place, copied-byte, copied-all}
+use Rattle.print_nodes.proofs.text.put_bytes.Statement.{statement}
+use Rattle.print_nodes.proofs.text.put_bytes.Tie as tie
+
+abbrev Inv-loop : tie.InvT-loop
+Inv-loop bytes out₀ at i₀ to₀ out i to = Copied bytes out₀ at out i to
+
+abbrev μ-loop : tie.MeasureT-loop
+μ-loop bytes out₀ at i₀ to₀ out i to = length bytes - i
+
+loop-holds : tie.Need-loop-holds Inv-loop μ-loop
+loop-holds c = copied-first _ _ _
+
+shared-slice-read-out : tie.Need-shared-slice-read-out Inv-loop μ-loop
+shared-slice-read-out c = search needs
+
+element-write-out : tie.Need-element-write-out Inv-loop μ-loop
+element-write-out c = omega (arith, copied-place (c .before .before .loop .inv))
+
+add-to : tie.Need-add-to Inv-loop μ-loop
+add-to c = omega (arith, copied-place (c .before .before .loop .inv))
+
+add-i : tie.Need-add-i Inv-loop μ-loop
+add-i c = search needs
+
+loop-less : tie.Need-loop-less Inv-loop μ-loop
+loop-less c = omega arith
+
+loop-again : tie.Need-loop-again Inv-loop μ-loop
+loop-again c = copied-byte (c .before .before .loop .inv) (c .before .loop-test .taken)
+
+returns : tie.Need-returns Inv-loop μ-loop
+returns c = copied-all (c .before .loop .inv) (c .loop-test .left)
+
+pub put-bytes-spec : {M : Type 1} → statement M
+put-bytes-spec =
+    tie.close
+    (tie.spec
+    Inv-loop
+    μ-loop
+    loop-holds
+    shared-slice-read-out
+    element-write-out
+    add-to
+    add-i
+    loop-less
+    loop-again
+    returns)

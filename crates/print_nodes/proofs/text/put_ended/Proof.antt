@@ -1,0 +1,26 @@
+-- `text::put_ended` meets its contract.
+use borrow.Author.Needs.{needs}
+use denote.Ref.{now}
+use Rattle.print_nodes.specs.Text.{newline, numbered, ended}
+use Rattle.print_nodes.proofs.Puts.{fits-first, fits-then, put-then}
+use Rattle.print_nodes.proofs.text.put_ended.Statement.{statement}
+use Rattle.print_nodes.proofs.text.put_ended.Tie as tie
+
+put-number-requires : tie.Need-put-number-requires
+unfolding ended
+put-number-requires c κs = fits-first _ (numbered (now (c .before .before .args .word)) (c .before .before .args .v)) newline (c .before .before .pre)
+
+slice-aggregate-put-bytes : tie.Need-slice-aggregate-put-bytes
+slice-aggregate-put-bytes c = search needs
+
+put-bytes-requires : tie.Need-put-bytes-requires
+unfolding ended
+put-bytes-requires c κs = fits-then newline (c .before .before .before .before .before .pre) (c .before .before .put-number .ensures)
+
+returns : tie.Need-returns
+unfolding ended
+returns c = put-then (c .before .before .before .put-number .ensures) (c .put-bytes .ensures)
+
+pub put-ended-spec : {M : Type 1} → statement M
+put-ended-spec =
+    tie.close (tie.spec put-number-requires slice-aggregate-put-bytes put-bytes-requires returns)

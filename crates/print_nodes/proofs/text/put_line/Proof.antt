@@ -1,0 +1,25 @@
+-- `text::put_line` meets its contract.
+use borrow.Author.Needs.{needs}
+use Rattle.print_nodes.specs.Text.{newline, entry, line}
+use Rattle.print_nodes.proofs.Puts.{fits-first, fits-then, put-then}
+use Rattle.print_nodes.proofs.text.put_line.Statement.{statement}
+use Rattle.print_nodes.proofs.text.put_line.Tie as tie
+
+put-entry-requires : tie.Need-put-entry-requires
+unfolding line
+put-entry-requires c κs = fits-first _ (entry (c .before .args .o)) newline (c .before .pre)
+
+slice-aggregate-put-bytes : tie.Need-slice-aggregate-put-bytes
+slice-aggregate-put-bytes c = search needs
+
+put-bytes-requires : tie.Need-put-bytes-requires
+unfolding line
+put-bytes-requires c κs = fits-then newline (c .before .before .before .before .pre) (c .before .before .put-entry .ensures)
+
+returns : tie.Need-returns
+unfolding line
+returns c = put-then (c .before .before .before .put-entry .ensures) (c .put-bytes .ensures)
+
+pub put-line-spec : {M : Type 1} → statement M
+put-line-spec =
+    tie.close (tie.spec put-entry-requires slice-aggregate-put-bytes put-bytes-requires returns)

@@ -1,0 +1,64 @@
+-- `text::put_lines` meets its contract.
+use mathlib.Core.List.{_++_}
+use lib.ListN.{length}
+use borrow.Author.Needs.{needs}
+use denote.Ref.{now}
+use Rattle.nodes.specs.Cursor.{remaining, startOf}
+use Rattle.print_nodes.specs.Text.{line, lines}
+use Rattle.print_nodes.proofs.Lines.{lines-end, lines-entry, fewer}
+use Rattle.print_nodes.proofs.Puts.{fits-first, Ahead, ahead-first, ahead-then, ahead-none}
+use Rattle.print_nodes.proofs.text.put_lines.Statement.{statement}
+use Rattle.print_nodes.proofs.text.put_lines.Tie as tie
+
+abbrev Inv-loop : tie.InvT-loop
+Inv-loop input out₀ at cursor₀ to₀ out cursor to = Ahead (lines (remaining input startOf)) out₀ at out to (lines (remaining input cursor))
+
+abbrev μ-loop : tie.MeasureT-loop
+μ-loop input out₀ at cursor₀ to₀ out cursor to = length (remaining input cursor)
+
+start-requires : tie.Need-start-requires Inv-loop μ-loop
+start-requires c κs = search needs
+
+loop-holds : tie.Need-loop-holds Inv-loop μ-loop
+loop-holds c = rw (c .start .ensures .0) (ahead-first _ _ _ (c .before .before .pre))
+
+next-requires : tie.Need-next-requires Inv-loop μ-loop
+next-requires c κs = search needs
+
+enum-told : tie.Need-enum-told Inv-loop μ-loop
+enum-told c = search needs
+
+returns : tie.Need-returns Inv-loop μ-loop
+returns c = ahead-none (rw (lines-end _ _ _ (c .before .before .next .ensures) (c .enum-told .given .1)) at (c .before .before .before .loop .inv))
+
+enum-known-step : tie.Need-enum-known-step Inv-loop μ-loop
+enum-known-step c = search needs
+
+-- the line of an operation comes next
+entry : (c : tie.After-step Inv-loop μ-loop) → Ahead (lines (remaining (now (c .before .before .before .before .before .before .args .input)) startOf)) (now (c .before .before .before .before .before .before .args .out)) (c .before .before .before .before .before .before .args .at) (c .before .before .before .loop .out) (c .before .before .before .loop .to) (line (c .step .given .0 .0) ++ lines (remaining (now (c .before .before .before .before .before .before .args .input)) (c .step .given .0 .1 .0)))
+entry c = rw (lines-entry _ _ _ (c .before .before .next .ensures) _ _ (c .step .given .1)) at (c .before .before .before .loop .inv)
+
+put-line-requires : tie.Need-put-line-requires Inv-loop μ-loop
+put-line-requires c κs = fits-first _ (line _) _ (entry (c .before .before) .fits)
+
+loop-less : tie.Need-loop-less Inv-loop μ-loop
+loop-less c = fewer _ _ _ (c .before .before .before .before .before .next .ensures) _ _ (c .before .before .before .step .given .1)
+
+loop-again : tie.Need-loop-again Inv-loop μ-loop
+loop-again c = ahead-then _ (entry (c .before .before .before)) (c .put-line .ensures)
+
+pub put-lines-spec : {M : Type 1} → statement M
+put-lines-spec =
+    tie.close
+    (tie.spec
+    Inv-loop
+    μ-loop
+    start-requires
+    loop-holds
+    next-requires
+    enum-told
+    returns
+    enum-known-step
+    put-line-requires
+    loop-less
+    loop-again)

@@ -1,0 +1,149 @@
+// The text of a node work area, put into a buffer.
+ghost use mathlib.Core.Path.{_≡_};
+ghost use mathlib.Core.List.{_++_};
+ghost use lib.ListN.{length};
+ghost use lib.Seq.{sets};
+ghost use Rattle.nodes.specs.declared.reading.Check.the-variants.{Entries};
+ghost use Rattle.nodes.specs.Reading.{refusalNumber, reading, checkOf};
+ghost use Rattle.nodes.specs.Cursor.{remaining, startOf};
+ghost use Rattle.print_nodes.specs.Text.{refused-, -at-, numbered, ended, operand, entry, line, lines, text, LongInput};
+ghost use Rattle.print_nodes.specs.Put.{Fits, Put};
+use journal::Operation;
+use nodes::Check;
+use nodes::Cursor;
+use nodes::Next;
+use nodes::Refusal;
+
+fn put_bytes(bytes: &[u8], out: &mut [u8; 32768], at: usize) -> usize
+    requires { ⌜ Fits at (now bytes) ⌝ }
+    ensures { λ r. ⌜ Put (now (out .entry)) (now (out .exit)) at r (now (bytes .entry)) ⌝ }
+{
+    let mut i = 0;
+    let mut to = at;
+    while i < bytes.len() {
+        out[to] = bytes[i];
+        to += 1;
+        i += 1;
+    }
+    to
+}
+
+// A word, and a number in decimal digits.
+fn put_number(word: &[u8], v: u64, out: &mut [u8; 32768], at: usize) -> usize
+    requires { ⌜ Fits at (numbered (now word) v) ⌝ }
+    ensures { λ r. ⌜ Put (now (out .entry)) (now (out .exit)) at r (numbered (now (word .entry)) v) ⌝ }
+{
+    let mut digits = [0u8; 20];
+    let n = io::decimal(v, &mut digits);
+    let to = put_bytes(word, out, at);
+    put_bytes(&digits[..n], out, to)
+}
+
+// The same at the end of a line.
+fn put_ended(word: &[u8], v: u64, out: &mut [u8; 32768], at: usize) -> usize
+    requires { ⌜ Fits at (ended (now word) v) ⌝ }
+    ensures { λ r. ⌜ Put (now (out .entry)) (now (out .exit)) at r (ended (now (word .entry)) v) ⌝ }
+{
+    let to = put_number(word, v, out, at);
+    put_bytes(b"\n", out, to)
+}
+
+// A word, and an operand in eight hexadecimal digits.
+fn put_operand(word: &[u8], v: u32, out: &mut [u8; 32768], at: usize) -> usize
+    requires { ⌜ Fits at (operand (now word) v) ⌝ }
+    ensures { λ r. ⌜ Put (now (out .entry)) (now (out .exit)) at r (operand (now (word .entry)) v) ⌝ }
+{
+    let mut digits = [0u8; 16];
+    let n = io::hex(v as u64, 8, &mut digits);
+    let to = put_bytes(word, out, at);
+    put_bytes(&digits[..n], out, to)
+}
+
+fn put_entry(o: Operation, out: &mut [u8; 32768], at: usize) -> usize
+    requires { ⌜ Fits at (entry o) ⌝ }
+    ensures { λ r. ⌜ Put (now (out .entry)) (now (out .exit)) at r (entry o) ⌝ }
+{
+    match o {
+        Operation::Delete(p) => put_operand(b"delete ", p, out, at),
+        Operation::Update(p) => put_operand(b"update ", p, out, at),
+        Operation::Add(p, i) => {
+            let to = put_operand(b"add ", p, out, at);
+            put_operand(b" ", i, out, to)
+        }
+    }
+}
+
+fn put_line(o: Operation, out: &mut [u8; 32768], at: usize) -> usize
+    requires { ⌜ Fits at (line o) ⌝ }
+    ensures { λ r. ⌜ Put (now (out .entry)) (now (out .exit)) at r (line o) ⌝ }
+{
+    let to = put_entry(o, out, at);
+    put_bytes(b"\n", out, to)
+}
+
+// A line for each operation of an area.
+fn put_lines(input: &[u8], out: &mut [u8; 32768], at: usize) -> usize
+    requires { ⌜ Fits at (lines (remaining (now input) startOf)) ⌝ }
+    ensures { λ r. ⌜ Put (now (out .entry)) (now (out .exit)) at r (lines (remaining (now (input .entry)) startOf)) ⌝ }
+{
+    let mut cursor = Cursor::start();
+    let mut to = at;
+    loop {
+        let step = cursor.next(input);
+        match step {
+            Next::End => {
+                return to;
+            }
+            Next::Entry(o, behind) => {
+                to = put_line(o, out, to);
+                cursor = behind;
+            }
+        }
+    }
+}
+
+// An area that has so many operations.
+fn put_area(input: &[u8], count: usize, out: &mut [u8; 32768]) -> usize
+    requires { ⌜ checkOf (reading (now input)) ≡ Entries count ⌝ }
+    ensures { λ r. ⌜ Put (now (out .entry)) (now (out .exit)) 0 r (text (now (input .entry))) ⌝ }
+{
+    let state = words::read_be32(input, 0);
+    let first = put_ended(b"state ", state as u64, out, 0);
+    let last = put_lines(input, out, first);
+    put_ended(b"end ", count as u64, out, last)
+}
+
+fn refusal_number(r: Refusal) -> u64
+    ensures { λ n. ⌜ n ≡ refusalNumber r ⌝ }
+{
+    match r {
+        Refusal::Size => 20,
+        Refusal::Reserved => 21,
+        Refusal::Opcode => 22,
+        Refusal::Count => 23,
+        Refusal::Past => 24,
+        Refusal::Odd => 25,
+        Refusal::Order => 26,
+        Refusal::Unterminated => 27,
+    }
+}
+
+fn put_refusal(number: u64, offset: usize, out: &mut [u8; 32768]) -> usize
+    ensures { λ r. ⌜ Put (now (out .entry)) (now (out .exit)) 0 r (numbered refused- number ++ ended -at- offset) ⌝ }
+{
+    let to = put_number(b"refused ", number, out, 0);
+    put_ended(b" at ", offset as u64, out, to)
+}
+
+// Puts the text of an input at the front of a buffer and gives its length; the rest of the buffer stays.
+pub fn print_area(input: &[u8], out: &mut [u8; 32768]) -> usize
+    ensures { λ r. ⌜ r ≡ length (text (now (input .entry))) ⌝ }
+    ensures { λ _. ⌜ now (out .exit) ≡ sets (now (out .entry)) 0 (text (now (input .entry))) ⌝ }
+    ensures longer { λ _. ⌜ LongInput ⌝ }
+{
+    let found = nodes::check_area(input);
+    match found {
+        Check::Refused(reason, offset) => put_refusal(refusal_number(reason), offset, out),
+        Check::Entries(count) => put_area(input, count, out),
+    }
+}
