@@ -1,0 +1,6 @@
+// The kernel dump registration.
+mod registration;
+
+pub use registration::Phase;
+pub use registration::Registration;
+pub use registration::no_registration;

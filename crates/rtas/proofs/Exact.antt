@@ -1,0 +1,86 @@
+-- Demand 2 of update-nodes: the exact condition of each status, and that what was written reads back.
+use mathlib.Core.Path.{_≡_, refl, sym, ap, _∙_}
+use mathlib.Core.Bool.{Bool, true, false, cond, _&&_, not, false≢true}
+use mathlib.Core.List.{List}
+use Prim.Native.Nat.{ℕ, _≤_}
+use Rattle.words.specs.Numbers.{Bytes, be32}
+use Rattle.journal.specs.Journal.{wellFormed}
+use Rattle.journal.specs.Scope.{valid, rowOf}
+use Rattle.journal.specs.Reportable.{reportable}
+use Rattle.nodes.specs.Run.{run, remains}
+use Rattle.nodes.specs.Area.{written}
+use Rattle.nodes.specs.Reading.{read, reading}
+use Rattle.nodes.proofs.Claims.{area-claims}
+use Rattle.rtas.specs.declared.status.Status.{Status}
+use Rattle.rtas.specs.declared.status.Status.the-variants.{Done, Again, Malformed, Parameter}
+use Rattle.rtas.specs.Status.{isAnswer, isDone, isMalformed}
+use Rattle.rtas.specs.UpdateNodes.{areaAt, placed, reserved, goodState, areaStatus, nodesStatus, nodesMemory}
+use Rattle.rtas.specs.Demands.{Exact, Demand2}
+use Rattle.rtas.proofs.Areas.{state-within}
+use Rattle.rtas.proofs.Calls.{Passed, passed-is, nodes-memory}
+use Rattle.rtas.proofs.Memory.{area-length, area-stored, written-length}
+
+-- the checks as a ladder of tests
+abbrev ladder : Bool → Bool → Bool → Bool → Bool → Bool → Status
+ladder p v w r g m = cond p (cond v (cond w (cond r (cond g (cond m Again Done) Parameter) Parameter) Malformed) Parameter) Parameter
+
+ladder-malformed : (p v w r g m : Bool) → isMalformed (ladder p v w r g m) ≡ (p && (v && not w))
+ladder-malformed false v w r g m = refl
+ladder-malformed true false w r g m = refl
+ladder-malformed true true false r g m = refl
+ladder-malformed true true true false g m = refl
+ladder-malformed true true true true false m = refl
+ladder-malformed true true true true true false = refl
+ladder-malformed true true true true true true = refl
+
+ladder-answers : (p v w r g m : Bool) → isAnswer (ladder p v w r g m) ≡ (p && (v && (w && (r && g))))
+ladder-answers false v w r g m = refl
+ladder-answers true false w r g m = refl
+ladder-answers true true false r g m = refl
+ladder-answers true true true false g m = refl
+ladder-answers true true true true false m = refl
+ladder-answers true true true true true false = refl
+ladder-answers true true true true true true = refl
+
+ladder-done : (p v w r g m : Bool) → isAnswer (ladder p v w r g m) ≡ true → isDone (ladder p v w r g m) ≡ not m
+ladder-done false v w r g m e = absurd (false≢true e)
+ladder-done true false w r g m e = absurd (false≢true e)
+ladder-done true true false r g m e = absurd (false≢true e)
+ladder-done true true true false g m e = absurd (false≢true e)
+ladder-done true true true true false m e = absurd (false≢true e)
+ladder-done true true true true true false e = refl
+ladder-done true true true true true true e = refl
+
+module _ (m : List ℕ) (address scope : ℕ) (j : List ℕ) where
+  abbrev area : List ℕ
+  area = areaAt m address
+
+  abbrev ladder-here : Status
+  ladder-here = ladder (placed m address) (valid scope) (wellFormed j) (reserved area) (goodState (rowOf scope) j area) (remains (reportable (rowOf scope) j) (be32 area 0))
+
+  status-is : nodesStatus m address scope j ≡ ladder-here
+  unfolding nodesStatus areaStatus
+  status-is = refl
+
+  reads-back : Bytes j → isAnswer (nodesStatus m address scope j) ≡ true → reading (areaAt (nodesMemory m address scope j) address) ≡ read (run (reportable (rowOf scope) j) (be32 area 0))
+  reads-back bytes e =
+      let p : Passed m address scope j = passed-is m address scope j e in
+      let os = reportable (rowOf scope) j in
+      let size = area-length m address (p .inside) in
+      let within = state-within (rowOf scope) j area (p .begun) in
+      ap (λ (l : List ℕ). reading (areaAt l address)) (nodes-memory m address scope j p)
+      ∙ ap reading (area-stored m address (p .inside) (written area os (be32 area 0)) (written-length area os (be32 area 0) size within))
+      ∙ area-claims .round-trip area os (be32 area 0) size (area-claims .reportable-listed (rowOf scope) j bytes (p .formed)) within
+
+  exact : Exact m address scope j
+  exact =
+      record {
+        malformed = ap isMalformed status-is ∙ ladder-malformed (placed m address) (valid scope) (wellFormed j) (reserved area) (goodState (rowOf scope) j area) (remains (reportable (rowOf scope) j) (be32 area 0));
+        answers = ap isAnswer status-is ∙ ladder-answers (placed m address) (valid scope) (wellFormed j) (reserved area) (goodState (rowOf scope) j area) (remains (reportable (rowOf scope) j) (be32 area 0));
+        done = λ e. ap isDone status-is
+            ∙ ladder-done (placed m address) (valid scope) (wellFormed j) (reserved area) (goodState (rowOf scope) j area) (remains (reportable (rowOf scope) j) (be32 area 0)) (sym (ap isAnswer status-is) ∙ e);
+        reads-back = reads-back;
+      }
+
+pub demand2 : Demand2
+demand2 = exact

@@ -1,0 +1,10 @@
+pub mod Memory
+pub mod Heads
+pub mod Areas
+pub mod Calls
+pub mod Sessions
+pub mod Exact
+pub mod Confined
+pub mod Readings
+pub mod Witness
+pub mod Claims

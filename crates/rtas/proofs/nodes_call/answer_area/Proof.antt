@@ -1,0 +1,43 @@
+-- `nodes_call::answer_area` meets its contract.
+use mathlib.Core.Path.{_≡_, refl, sym, ap, _∙_}
+use Prim.Native.Nat.{ℕ, _+_, _-_, _*_, _<_, _≤_}
+use native.Mathlib.Omega.{arith}
+use borrow.Author.Needs.{needs}
+use denote.Ref.{now}
+use Rattle.rtas.proofs.Areas.{left-malformed, scanned-malformed, scanned-counted}
+use Rattle.rtas.proofs.nodes_call.answer_area.Statement.{statement}
+use Rattle.rtas.proofs.nodes_call.answer_area.Tie as tie
+
+scan-requires : tie.Need-scan-requires
+scan-requires c κs = search needs
+
+enum-told : tie.Need-enum-told
+enum-told c = search needs
+
+enum-known-judgement : tie.Need-enum-known-judgement
+enum-known-judgement c = search needs
+
+answer-counted-requires : tie.Need-answer-counted-requires
+answer-counted-requires c κs = let s = scanned-counted (now (c .before .before .before .before .before .before .before .before .before .args .row)) (now (c .before .before .before .before .before .before .before .before .before .args .j)) _ _ (c .before .before .before .judgement .given .1) (c .before .before .before .before .before .before .scan .ensures .0 .0) in
+    (c .before .before .before .before .before .before .before .before .before .pre, record { good = s .0; counted = s .1; marked = c .before .before .before .before .before .before .scan .ensures .0 .1 })
+
+returns : tie.Need-returns
+returns c = left-malformed (now (c .before .before .before .before .before .before .args .row)) (now (c .before .before .before .before .before .before .args .j)) (now (c .before .before .before .before .before .before .args .area)) (scanned-malformed (now (c .before .before .before .before .before .before .args .row)) (now (c .before .before .before .before .before .before .args .j)) _ (c .enum-told .given .1) (c .before .before .before .scan .ensures .0 .0))
+
+same-length : tie.Need-same-length
+same-length c = search needs
+
+returns-2 : tie.Need-returns-2
+returns-2 c = search needs
+
+pub answer-area-spec : {M : Type 1} → statement M
+answer-area-spec =
+    tie.close
+    (tie.spec
+    scan-requires
+    enum-told
+    enum-known-judgement
+    answer-counted-requires
+    returns
+    same-length
+    returns-2)

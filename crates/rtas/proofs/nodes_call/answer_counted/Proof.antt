@@ -1,0 +1,110 @@
+-- `nodes_call::answer_counted` meets its contract.
+use mathlib.Core.Bool.{Bool, true, false}
+use mathlib.Core.Path.{_≡_, refl, sym, ap, _∙_}
+use Prim.Native.Nat.{ℕ, _+_, _-_, _*_, _<_, _≤_}
+use native.Mathlib.Omega.{arith}
+use lib.ListN.{length}
+use borrow.Author.Needs.{needs}
+use borrow.Author.Tests.{lt-ltb, le-ltb, le-leb, lt-leb, eq-eqb, ne-eqb, not-true, not-false}
+use denote.Ref.{now}
+use Rattle.journal.specs.Reportable.{reportable}
+use Rattle.nodes.proofs.Answers.{counts-small}
+use Rattle.nodes.proofs.Listed.{total-is}
+use Rattle.nodes.specs.Area.{written}
+use Rattle.nodes.specs.Run.{total}
+use Rattle.rtas.proofs.Areas.{left-reserved, left-state, left-again, left-done, state-is, state-within}
+use Rattle.rtas.specs.UpdateNodes.{reserved, goodState}
+use Rattle.words.specs.Numbers.{be32}
+use Rattle.rtas.proofs.nodes_call.answer_counted.Statement.{statement}
+use Rattle.rtas.proofs.nodes_call.answer_counted.Tie as tie
+
+is-zero-requires : tie.Need-is-zero-requires
+is-zero-requires c κs = search needs
+
+same-length : tie.Need-same-length
+same-length c = search needs
+
+-- the tests of the code are those of the definition
+zero-is : (c : tie.After-is-zero) → c .is-zero .result ≡ reserved (now (c .before .before .before .before .args .area))
+unfolding reserved
+zero-is c = c .is-zero .ensures
+
+returns : tie.Need-returns
+returns c = left-reserved (now (c .before .before .before .before .before .args .row)) (now (c .before .before .before .before .before .args .j)) (now (c .before .before .before .before .before .args .area)) (c .before .before .before .before .before .pre .1 .good) (sym (zero-is (c .before)) ∙ not-true _ (c .if1 .taken))
+
+read-be32-requires : tie.Need-read-be32-requires
+read-be32-requires c κs = search needs
+
+cast-is-state : tie.Need-cast-is-state
+cast-is-state c = search needs
+
+small : (c : tie.Start) → total (c .args .counts) ≤ 3145728
+small c = counts-small (now (c .args .row)) (now (c .args .j)) _ (c .pre .1 .good) (c .pre .1 .counted)
+
+add-is-state : tie.Need-add-is-state
+add-is-state c = omega (arith, small (c .before .before .before .before .before .before .before .before))
+
+add-is-state-2 : tie.Need-add-is-state-2
+add-is-state-2 c = omega (arith, small (c .before .before .before .before .before .before .before .before .before))
+
+is-state-requires : tie.Need-is-state-requires
+is-state-requires c κs = search needs
+
+good-is : (c : tie.After-is-state) → c .is-state .result ≡ goodState (now (c .before .before .before .before .before .before .before .before .before .before .args .row)) (now (c .before .before .before .before .before .before .before .before .before .before .args .j)) (now (c .before .before .before .before .before .before .before .before .before .before .args .area))
+good-is c = c .is-state .ensures ∙ state-is (now (c .before .before .before .before .before .before .before .before .before .before .args .row)) (now (c .before .before .before .before .before .before .before .before .before .before .args .j)) (now (c .before .before .before .before .before .before .before .before .before .before .args .area)) _ _ (c .before .before .before .read-be32 .ensures) (c .before .before .before .before .before .before .before .before .before .before .pre .1 .counted)
+
+zero-yes : (c : tie.Else2) → reserved (now (c .before .before .before .before .before .before .before .before .before .before .before .args .area)) ≡ true
+zero-yes c = sym (zero-is (c .before .before .before .before .before .before .before)) ∙ not-false _ (c .before .before .before .before .before .before .if1 .left)
+
+good-yes : (c : tie.Else2) → goodState (now (c .before .before .before .before .before .before .before .before .before .before .before .args .row)) (now (c .before .before .before .before .before .before .before .before .before .before .before .args .j)) (now (c .before .before .before .before .before .before .before .before .before .before .before .args .area)) ≡ true
+good-yes c = sym (good-is (c .before)) ∙ not-false _ (c .if2 .left)
+
+within : (c : tie.Else2) → c .before .before .before .before .read-be32 .result ≤ total (c .before .before .before .before .before .before .before .before .before .before .before .args .counts)
+within c = rw (c .before .before .before .before .read-be32 .ensures, c .before .before .before .before .before .before .before .before .before .before .before .pre .1 .counted) (rw (← total-is (now (c .before .before .before .before .before .before .before .before .before .before .before .args .row)) (now (c .before .before .before .before .before .before .before .before .before .before .before .args .j))) at (state-within (now (c .before .before .before .before .before .before .before .before .before .before .before .args .row)) (now (c .before .before .before .before .before .before .before .before .before .before .before .args .j)) (now (c .before .before .before .before .before .before .before .before .before .before .before .args .area)) (good-yes c)))
+
+same-length-2 : tie.Need-same-length-2
+same-length-2 c = search needs
+
+returns-2 : tie.Need-returns-2
+returns-2 c = left-state (now (c .before .before .before .before .before .before .before .before .before .before .before .args .row)) (now (c .before .before .before .before .before .before .before .before .before .before .before .args .j)) (now (c .before .before .before .before .before .before .before .before .before .before .before .args .area)) (c .before .before .before .before .before .before .before .before .before .before .before .pre .1 .good) (sym (zero-is (c .before .before .before .before .before .before .before)) ∙ not-false _ (c .before .before .before .before .before .before .if1 .left)) (sym (good-is (c .before)) ∙ not-true _ (c .if2 .taken))
+
+write-answer-requires : tie.Need-write-answer-requires
+write-answer-requires c κs = (c .before .before .before .before .before .before .before .before .before .before .before .before .pre .0, c .before .before .before .before .before .before .before .before .before .before .before .before .pre .1, within (c .before))
+
+same-length-3 : tie.Need-same-length-3
+same-length-3 c = search needs
+
+returns-3 : tie.Need-returns-3
+returns-3 c =
+    let e = c .before .before .before .before .before .before .before .before .before .read-be32 .ensures in
+    let l = left-again (now (c .before .before .before .before .before .before .before .before .before .before .before .before .before .before .before .before .args .row)) (now (c .before .before .before .before .before .before .before .before .before .before .before .before .before .before .before .before .args .j)) (now (c .before .before .before .before .before .before .before .before .before .before .before .before .before .before .before .before .args .area)) (c .before .before .before .before .before .before .before .before .before .before .before .before .before .before .before .before .pre .1 .good) (zero-yes (c .before .before .before .before .before)) (good-yes (c .before .before .before .before .before)) (rw e at (sym (c .before .before .before .write-answer .ensures .0) ∙ c .if3 .taken)) in
+    (l .0, c .before .before .before .write-answer .ensures .1 .0 ∙ ap (written (now (c .before .before .before .before .before .before .before .before .before .before .before .before .before .before .before .before .args .area)) (reportable (now (c .before .before .before .before .before .before .before .before .before .before .before .before .before .before .before .before .args .row)) (now (c .before .before .before .before .before .before .before .before .before .before .before .before .before .before .before .before .args .j)))) e ∙ l .1)
+
+same-length-4 : tie.Need-same-length-4
+same-length-4 c = search needs
+
+returns-4 : tie.Need-returns-4
+returns-4 c =
+    let e = c .before .before .before .before .before .before .before .before .before .read-be32 .ensures in
+    let l = left-done (now (c .before .before .before .before .before .before .before .before .before .before .before .before .before .before .before .before .args .row)) (now (c .before .before .before .before .before .before .before .before .before .before .before .before .before .before .before .before .args .j)) (now (c .before .before .before .before .before .before .before .before .before .before .before .before .before .before .before .before .args .area)) (c .before .before .before .before .before .before .before .before .before .before .before .before .before .before .before .before .pre .1 .good) (zero-yes (c .before .before .before .before .before)) (good-yes (c .before .before .before .before .before)) (rw e at (sym (c .before .before .before .write-answer .ensures .0) ∙ c .if3 .left)) in
+    (l .0, c .before .before .before .write-answer .ensures .1 .0 ∙ ap (written (now (c .before .before .before .before .before .before .before .before .before .before .before .before .before .before .before .before .args .area)) (reportable (now (c .before .before .before .before .before .before .before .before .before .before .before .before .before .before .before .before .args .row)) (now (c .before .before .before .before .before .before .before .before .before .before .before .before .before .before .before .before .args .j)))) e ∙ l .1)
+
+pub answer-counted-spec : {M : Type 1} → statement M
+answer-counted-spec =
+    tie.close
+    (tie.spec
+    is-zero-requires
+    same-length
+    returns
+    read-be32-requires
+    cast-is-state
+    add-is-state
+    add-is-state-2
+    is-state-requires
+    same-length-2
+    returns-2
+    write-answer-requires
+    same-length-3
+    returns-3
+    same-length-4
+    returns-4)

@@ -1,0 +1,20 @@
+-- `nodes_call::is_placed` meets its contract.
+use borrow.Author.Needs.{needs}
+use borrow.Author.Tests.{lt-ltb, le-ltb, le-leb, lt-leb, eq-eqb, ne-eqb, not-true, not-false}
+use Rattle.rtas.specs.UpdateNodes.{placed}
+use Rattle.rtas.proofs.nodes_call.is_placed.Statement.{statement}
+use Rattle.rtas.proofs.nodes_call.is_placed.Tie as tie
+
+add-result : tie.Need-add-result
+add-result c = search needs
+
+returns : tie.Need-returns
+unfolding placed
+returns c = rw (eq-eqb _ _ (c .if1 .taken))
+
+returns-2 : tie.Need-returns-2
+unfolding placed
+returns-2 c = rw (ne-eqb _ _ (c .if1 .left))
+
+pub is-placed-spec : {M : Type 1} → statement M
+is-placed-spec = tie.close (tie.spec add-result returns returns-2)

@@ -1,0 +1,78 @@
+-- `nodes_call::update_nodes` meets its contract.
+use mathlib.Core.Bool.{true}
+use mathlib.Core.List.{List}
+use mathlib.Core.Path.{_≡_, refl, sym, ap, _∙_}
+use Prim.Native.Nat.{ℕ, _+_, _-_, _*_, _<_, _≤_}
+use native.Mathlib.Omega.{arith}
+use lib.ListN.{length}
+use borrow.Author.Needs.{needs}
+use borrow.Author.Tests.{lt-ltb, le-ltb, le-leb, lt-leb, eq-eqb, ne-eqb, not-true, not-false}
+use denote.Ref.{now}
+use Rattle.journal.specs.declared.scope.Row.{Row}
+use Rattle.rtas.proofs.Areas.{placed-inside, left-unplaced, left-invalid, left-area}
+use Rattle.rtas.proofs.Memory.{area-lent, area-length}
+use Rattle.rtas.specs.UpdateNodes.{placed, areaStatus, areaAfter}
+use Rattle.rtas.proofs.nodes_call.update_nodes.Statement.{statement}
+use Rattle.rtas.proofs.nodes_call.update_nodes.Tie as tie
+
+is-placed-requires : tie.Need-is-placed-requires
+is-placed-requires c κs = search needs
+
+same-length : tie.Need-same-length
+same-length c = search needs
+
+returns : tie.Need-returns
+returns c = left-unplaced (now (c .before .before .before .before .before .args .memory)) (c .before .before .before .before .before .args .address) (c .before .before .before .before .before .args .scope) (now (c .before .before .before .before .before .args .j)) (sym (c .before .is-placed .ensures) ∙ not-true _ (c .if1 .taken))
+
+placed-yes : (c : tie.Else1) → placed (now (c .before .before .before .before .before .args .memory)) (c .before .before .before .before .before .args .address) ≡ true
+placed-yes c = sym (c .before .is-placed .ensures) ∙ not-false _ (c .if1 .left)
+
+scope-row-requires : tie.Need-scope-row-requires
+scope-row-requires c κs = search needs
+
+same-length-2 : tie.Need-same-length-2
+same-length-2 c = search needs
+
+returns-2 : tie.Need-returns-2
+returns-2 c = left-invalid (now (c .before .before .before .before .before .before .before .before .args .memory)) (c .before .before .before .before .before .before .before .before .args .address) (c .before .before .before .before .before .before .before .before .args .scope) (now (c .before .before .before .before .before .before .before .before .args .j)) (placed-yes (c .before .before .before)) (ap (λ (r : Row). r .valid) (sym (c .before .before .scope-row .ensures)) ∙ not-true _ (c .if2 .taken))
+
+add-answer-area : tie.Need-add-answer-area
+add-answer-area c = search needs
+
+sub-answer-area : tie.Need-sub-answer-area
+sub-answer-area c = search needs
+
+part-answer-area-start : tie.Need-part-answer-area-start
+part-answer-area-start c = search needs
+
+part-answer-area-end : tie.Need-part-answer-area-end
+part-answer-area-end c = let h = placed-inside (now (c .before .before .before .before .before .before .before .before .before .args .memory)) (c .before .before .before .before .before .before .before .before .before .args .address) (placed-yes (c .before .before .before .before)) in search needs
+
+answer-area-requires : tie.Need-answer-area-requires
+answer-area-requires c κs = search needs
+
+same-length-3 : tie.Need-same-length-3
+same-length-3 c = search needs
+
+returns-3 : tie.Need-returns-3
+returns-3 c = let sets-are = ap (λ (r : Row). r .sets) (c .before .before .before .before .before .before .before .before .scope-row .ensures) in
+    left-area (now (c .before .before .before .before .before .before .before .before .before .before .before .before .before .before .args .memory)) (c .before .before .before .before .before .before .before .before .before .before .before .before .before .before .args .address) (c .before .before .before .before .before .before .before .before .before .before .before .before .before .before .args .scope) (now (c .before .before .before .before .before .before .before .before .before .before .before .before .before .before .args .j)) (placed-yes (c .before .before .before .before .before .before .before .before .before)) (ap (λ (r : Row). r .valid) (sym (c .before .before .before .before .before .before .before .before .scope-row .ensures)) ∙ not-false _ (c .before .before .before .before .before .before .if2 .left)) _ _
+    (c .before .before .answer-area .kept .0 ∙ (let h = placed-inside (now (c .before .before .before .before .before .before .before .before .before .before .before .before .before .before .args .memory)) (c .before .before .before .before .before .before .before .before .before .before .before .before .before .before .args .address) (placed-yes (c .before .before .before .before .before .before .before .before .before)) in ap (λ (l : List ℕ). length l) (area-lent _ _ h) ∙ area-length _ _ h)) (rw sets-are at (c .before .before .answer-area .ensures))
+
+pub update-nodes-spec : {M : Type 1} → statement M
+update-nodes-spec =
+    tie.close
+    (tie.spec
+    is-placed-requires
+    same-length
+    returns
+    scope-row-requires
+    same-length-2
+    returns-2
+    add-answer-area
+    sub-answer-area
+    part-answer-area-start
+    part-answer-area-end
+    answer-area-requires
+    same-length-3
+    returns-3)

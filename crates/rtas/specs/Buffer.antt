@@ -1,0 +1,78 @@
+-- The argument buffer, and a call through it (document 01, "The argument buffer").
+use Prim.Native.Nat.{ℕ, _+_, _*_}
+use mathlib.Core.Bool.{Bool, true, false, cond, _&&_, _||_}
+use mathlib.Core.List.{List, [], _∷_}
+use lib.Dec.{leb, ltb, eqb}
+use lib.ListN.{length}
+use lib.Seq.{sets}
+use Rattle.words.specs.Numbers.{be32, wordBytes}
+use Rattle.dump.specs.declared.registration.Registration.{Registration}
+use Rattle.rtas.specs.declared.status.Number.{Number}
+use Rattle.rtas.specs.declared.status.Number.the-variants.{Given, Short, NoOutputs, TooMany}
+use Rattle.rtas.specs.declared.status.Status.{Status}
+use Rattle.rtas.specs.declared.status.Status.the-variants.{Parameter}
+use Rattle.rtas.specs.Status.{isGiven, isAnswer, statusWord}
+use Rattle.rtas.specs.UpdateNodes.{nodesStatus, nodesMemory}
+
+-- 01: "Token, number of inputs, number of outputs, the inputs, the outputs; the first output is the status."
+abbrev pub token : List ℕ → ℕ
+token b = be32 b 0
+
+abbrev pub inputs : List ℕ → ℕ
+inputs b = be32 b 4
+
+abbrev pub outputs : List ℕ → ℕ
+outputs b = be32 b 8
+
+abbrev pub input : List ℕ → ℕ → ℕ
+input b n = be32 b (12 + 4 * n)
+
+abbrev pub statusAt : List ℕ → ℕ
+statusAt b = 12 + 4 * inputs b
+
+-- 01: "The 12-byte test comes first, then 12, then the declared size, then 11."
+unfoldable pub numberFor : List ℕ → Number
+numberFor b =
+    cond (ltb (length b) 12) Short
+    (cond (ltb 16 (inputs b) || ltb 16 (outputs b)) TooMany
+    (cond (ltb (length b) (12 + 4 * (inputs b + outputs b))) Short
+    (cond (eqb (outputs b) 0) NoOutputs
+    Given)))
+
+-- What a call's own work gives: its status, the output words after the status, memory and the registration afterwards.
+pub record Outcome : Type 0 where
+  pub status : Status
+  pub more : List ℕ
+  pub memory : List ℕ
+  pub registration : Registration
+
+-- a buffer with a call's token and counts
+unfoldable pub asks : ℕ → ℕ → ℕ → List ℕ → Bool
+asks t i o b = eqb (token b) t && (eqb (inputs b) i && eqb (outputs b) o)
+
+abbrev pub isNodes : List ℕ → Bool
+isNodes b = asks 1 2 1 b
+
+-- 01: "Tokens here: 1 update-nodes", "an unknown token or counts unlike the call's own give status -3". Further tokens are added here.
+unfoldable pub outcome : List ℕ → List ℕ → List ℕ → List ℕ → Registration → Outcome
+outcome b m j i r =
+    let nodes : Outcome = record { status = nodesStatus m (input b 0) (input b 1) j; more = []; memory = nodesMemory m (input b 0) (input b 1) j; registration = r } in
+    cond (isNodes b) nodes (record { status = Parameter; more = []; memory = m; registration = r })
+
+-- What a call leaves: its number, the argument buffer, memory, and the registration.
+pub record Result : Type 0 where
+  pub number : Number
+  pub args : List ℕ
+  pub memory : List ℕ
+  pub registration : Registration
+
+-- 01: "Each status below 0 writes the status word only."
+unfoldable pub callOf : List ℕ → List ℕ → List ℕ → List ℕ → Registration → Result
+callOf b m j i r =
+    let o = outcome b m j i r in
+    let given : Result = record { number = Given; args = sets b (statusAt b) (wordBytes (statusWord (o .status) ∷ o .more)); memory = o .memory; registration = o .registration } in
+    cond (isGiven (numberFor b)) given (record { number = numberFor b; args = b; memory = m; registration = r })
+
+-- 01: "A call is answered when its number is 0 and its status 0 or 1; otherwise it is refused."
+unfoldable pub answered : List ℕ → Result → Bool
+answered b x = isGiven (x .number) && leb (be32 (x .args) (statusAt b)) 1

@@ -1,0 +1,90 @@
+// update-nodes on partition memory.
+ghost use mathlib.Core.Path.{_≡_};
+ghost use mathlib.Core.Bool.{_||_};
+ghost use Prim.Native.Nat.{_<_};
+ghost use lib.Dec.{eqb, ltb};
+ghost use lib.ListN.{length};
+ghost use Rattle.nodes.specs.Source.{Source};
+ghost use Rattle.rtas.specs.UpdateNodes.{placed, areaStatus, areaAfter, nodesStatus, nodesMemory};
+use crate::status::Status;
+use journal::Counts;
+use journal::Judgement;
+use nodes::StateVariable;
+
+// Whether an address is a multiple of 4,096 with its area inside memory.
+fn is_placed(memory: &[u8], address: usize) -> bool
+    requires { ⌜ address < 4294967296 ⌝ }
+    ensures { λ r. ⌜ r ≡ placed (now (memory .entry)) address ⌝ }
+{
+    address % 4096 == 0 && address + 4096 <= memory.len()
+}
+
+// Whether a state is 0 or below the number of operations.
+fn is_state(state: usize, all: usize) -> bool
+    ensures { λ r. ⌜ r ≡ (eqb state 0 || ltb state all) ⌝ }
+{
+    state == 0 || state < all
+}
+
+// The answer of a call over a well-formed journal, in its work area.
+fn answer_counted(
+    area: &mut [u8],
+    j: &[u8],
+    row: &[u8; 15],
+    counts: Counts,
+    marks: &[u64; 128],
+    noted: usize,
+) -> Status
+    requires { ⌜ (length (now area) ≡ 4096) × Source (now row) (now j) counts (now marks) noted ⌝ }
+    ensures { λ r. ⌜ r ≡ areaStatus (now (row .entry)) (now (j .entry)) (now (area .entry)) ⌝ }
+    ensures { λ _. ⌜ now (area .exit) ≡ areaAfter (now (row .entry)) (now (j .entry)) (now (area .entry)) ⌝ }
+{
+    if !words::is_zero(area, 4, 16) {
+        return Status::Parameter;
+    }
+    let state = words::read_be32(area, 0);
+    if !is_state(
+        state as usize,
+        counts.deletes + counts.updates + counts.additions,
+    ) {
+        return Status::Parameter;
+    }
+    if nodes::write_answer(area, j, row, counts, marks, noted, StateVariable(state)) {
+        Status::Again
+    } else {
+        Status::Done
+    }
+}
+
+// The answer of a call in its work area: the journal is judged first.
+fn answer_area(area: &mut [u8], j: &[u8], row: &[u8; 15]) -> Status
+    requires { ⌜ length (now area) ≡ 4096 ⌝ }
+    ensures { λ r. ⌜ r ≡ areaStatus (now (row .entry)) (now (j .entry)) (now (area .entry)) ⌝ }
+    ensures { λ _. ⌜ now (area .exit) ≡ areaAfter (now (row .entry)) (now (j .entry)) (now (area .entry)) ⌝ }
+{
+    let scanned = journal::scan(j, row);
+    let judgement = scanned.judgement;
+    let noted = scanned.noted;
+    let marks = scanned.marks;
+    match judgement {
+        Judgement::Malformed => Status::Malformed,
+        Judgement::Counted(counts) => answer_counted(area, j, row, counts, &marks, noted),
+    }
+}
+
+// The call: only the work area is handed down to be written.
+pub fn update_nodes(memory: &mut [u8], j: &[u8], address: u32, scope: u32) -> Status
+    ensures { λ r. ⌜ r ≡ nodesStatus (now (memory .entry)) address scope (now (j .entry)) ⌝ }
+    ensures { λ _. ⌜ now (memory .exit) ≡ nodesMemory (now (memory .entry)) address scope (now (j .entry)) ⌝ }
+{
+    let at = address as usize;
+    if !is_placed(memory, at) {
+        return Status::Parameter;
+    }
+    let row = journal::scope_row(scope);
+    if !row.valid {
+        return Status::Parameter;
+    }
+    let sets = row.sets;
+    answer_area(&mut memory[at..at + 4096], j, &sets)
+}

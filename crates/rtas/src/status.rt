@@ -1,0 +1,30 @@
+// Numbers and statuses.
+ghost use mathlib.Core.Path.{_≡_};
+ghost use Rattle.rtas.specs.Status.{statusWord};
+
+// What the head of an argument buffer gives: a status is in the buffer, or why none is.
+pub enum Number {
+    Given,
+    Short,
+    NoOutputs,
+    TooMany,
+}
+
+pub enum Status {
+    Done,
+    Again,
+    Malformed,
+    Parameter,
+}
+
+// A status as its word in the argument buffer.
+pub fn status_word(status: Status) -> u32
+    ensures { λ r. ⌜ r ≡ statusWord status ⌝ }
+{
+    match status {
+        Status::Done => 0,
+        Status::Again => 1,
+        Status::Malformed => 4294967295,
+        Status::Parameter => 4294967293,
+    }
+}
