@@ -1,5 +1,4 @@
 -- The kernel dump registration (document 01, "Kernel dump registration").
-use Prim.Native.Nat.{ℕ}
 use lib.ListN.{replicate}
 use Rattle.dump.specs.declared.registration.Registration.{Registration}
 use Rattle.dump.specs.declared.registration.Phase.the-variants.{Unregistered}

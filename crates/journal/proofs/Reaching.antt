@@ -1,27 +1,25 @@
 -- A scan going on: past a record, past four of the same header, at a bad record, at the end.
-use mathlib.Core.Path.{_≡_, refl, sym, ap, ap₂, _∙_}
-use mathlib.Core.Bool.{Bool, true, false, cond, _&&_, and-false}
-use mathlib.Core.List.{List, [], _∷_}
-use Prim.Native.Nat.{ℕ, _+_, _-_, _*_, _/_, _%_, _^_, _<_, _≤_}
+use mathlib.Core.Path.{_≡_, refl, sym, ap, _∙_}
+use mathlib.Core.Bool.{true, false, _&&_, and-false}
+use mathlib.Core.List.{List}
+use Prim.Native.Nat.{ℕ, _+_, _*_, _/_, _%_, _<_, _≤_}
 use native.Mathlib.Nat.{div-one, div-div-eq-div-mul, mod-eq-of-lt}
 use native.Mathlib.Omega.{arith}
-use lib.Dec.{leb, eqb}
 use lib.ListN.{length, drop}
 use borrow.Author.Tests.{le-leb, lt-leb}
 use Rattle.words.specs.Numbers.{le}
-use Rattle.records.specs.Records.{sizeOf, firstRecord, records, whole, allGood, wellFormedBy}
+use Rattle.records.specs.Records.{firstRecord, records, whole, allGood, wellFormedBy}
 use Rattle.records.proofs.Steps.{good-step, bad-step, none-good}
-use Rattle.journal.specs.declared.scanning.Judgement.{Judgement}
 use Rattle.journal.specs.declared.scanning.Judgement.the-variants.{Malformed, Counted}
 use Rattle.journal.specs.declared.stride.Position.{Position}
 use Rattle.journal.specs.declared.stride.Step.{Step}
 use Rattle.journal.specs.declared.stride.Step.the-variants.{Bad, Upto}
-use Rattle.journal.specs.Journal.{goodRecord, wellFormed, entries, entryOf}
-use Rattle.journal.specs.Reportable.{reports, chosen, judgementOf}
+use Rattle.journal.specs.Journal.{goodRecord, wellFormed, entries}
+use Rattle.journal.specs.Reportable.{chosen, judgementOf}
 use Rattle.journal.specs.Marks.{count}
 use Rattle.journal.specs.Scanning.{Before, Reached, Went, Judged, fourHeaded, Known, unpacked}
 use Rattle.journal.proofs.Choice.{each-code}
-use Rattle.journal.proofs.Entries.{one-if, before-step, before-none, before-all}
+use Rattle.journal.proofs.Entries.{before-step, before-none, before-all}
 use Rattle.journal.proofs.Judging.{four-equal, judged-size, judged-fits, judged-light, judged-adds}
 
 -- ---- packed counts

@@ -14,9 +14,9 @@ use Rattle.journal.specs.declared.stride.Found.the-variants.{Bad, Good}
 use Rattle.journal.specs.declared.stride.Position.{Position}
 use Rattle.journal.specs.declared.stride.Step.{Step}
 use Rattle.journal.specs.declared.stride.Step.the-variants as step
-use Rattle.journal.specs.Journal.{within, goodFrame, goodRecord, wellFormed, entryOf, entries}
+use Rattle.journal.specs.Journal.{within, goodFrame, goodRecord, wellFormed, entries}
 use Rattle.journal.specs.Scope.{holds}
-use Rattle.journal.specs.Reportable.{reports, chosen}
+use Rattle.journal.specs.Reportable.{chosen}
 use Rattle.journal.specs.Marks.{count}
 
 -- a record of this length, kind and node type is good where so many bytes are left

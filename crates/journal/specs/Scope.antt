@@ -1,6 +1,6 @@
 -- The table of the scopes (document 01, "What each scope reports"). A scope is a 32-bit word.
 use Prim.Native.Nat.{ℕ, _-_, _/_, _%_, _^_}
-use mathlib.Core.Bool.{Bool, true, false, cond, _||_}
+use mathlib.Core.Bool.{Bool, cond, _||_}
 use mathlib.Core.List.{List, [], _∷_}
 use lib.Dec.{leb, eqb}
 use Rattle.journal.specs.declared.scope.Row.{Row}

@@ -1,8 +1,6 @@
 // Marks: places that a scan came to, with the packed counts of what stands before them.
 ghost use mathlib.Core.Path.{_≡_};
-ghost use mathlib.Core.List.{[], _∷_};
 ghost use Prim.Native.Nat.{_+_, _*_, _≤_};
-ghost use lib.ListN.{length};
 ghost use Rattle.journal.specs.Marks.{count, sought};
 ghost use Rattle.journal.specs.Scanning.{Noted};
 use crate::stride::Position;

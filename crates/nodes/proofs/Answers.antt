@@ -9,14 +9,13 @@ use lib.ListN.{length, take, drop, length-append, length-drop}
 use lib.Seq.{sets, sets-eq}
 use Rattle.words.specs.Numbers.{beBytes, wordBytes}
 use Rattle.words.proofs.Stores.{length-wordBytes, words-behind, store-first}
-use Rattle.journal.specs.declared.operation.Operation.{Operation}
 use Rattle.journal.specs.declared.scanning.Counts.{Counts}
 use Rattle.journal.specs.Journal.{wellFormed, entries}
 use Rattle.journal.specs.Reportable.{chosen, reportable, countsOf}
 use Rattle.journal.proofs.Entries.{operations-few}
 use Rattle.journal.proofs.Walks.{within-limit}
-use Rattle.nodes.specs.Run.{operator, partWords, cut, leftOf, total, run, nextState}
-use Rattle.nodes.specs.Area.{wordsOf, part, body, answer, written}
+use Rattle.nodes.specs.Run.{partWords, cut, leftOf, total, run, nextState}
+use Rattle.nodes.specs.Area.{wordsOf, body, answer, written}
 use Rattle.nodes.specs.Writing.{partFrom, bodyFrom}
 use Rattle.nodes.proofs.Cut.{Parts}
 use Rattle.nodes.proofs.Listed.{parts, fits, body-is, total-is, words-ds, words-us, words-adds}

@@ -1,7 +1,7 @@
 -- The writer's steps: what is left to write, stored in the area as it is, gives what was to be written.
 use mathlib.Core.Path.{_≡_, refl, sym, ap, _∙_}
 use mathlib.Core.Bool.{Bool, true, false, cond}
-use mathlib.Core.List.{List, [], _∷_, _++_, append-assoc}
+use mathlib.Core.List.{List, [], _∷_, _++_}
 use Prim.Native.Nat.{ℕ, zero, suc, _+_, _-_, _*_, _<_, _≤_}
 use native.Mathlib.Nat.{mul-zero, mul-one, mul-le-mul-left, mul-le-mul}
 use native.Mathlib.Omega.{arith}
@@ -11,9 +11,9 @@ use lib.Seq.{sets, length-sets, length-take-le}
 use borrow.Author.Tests.{eqb-true, eq-eqb, ne-eqb}
 use Rattle.words.specs.Numbers.{le, beBytes, wordBytes}
 use Rattle.words.proofs.Stores.{sets-over, length-wordBytes, words-behind, store-first}
-use Rattle.records.specs.Records.{kindOf, sizeOf, firstRecord, records, allGood}
+use Rattle.records.specs.Records.{sizeOf, firstRecord}
 use Rattle.journal.specs.declared.operation.Operation.{Operation}
-use Rattle.journal.specs.Journal.{goodRecord, wellFormed, operands, operationOf, entryOf, entries}
+use Rattle.journal.specs.Journal.{wellFormed, operationOf, entryOf, entries}
 use Rattle.journal.specs.Reportable.{reports, chosen}
 use Rattle.journal.specs.Marks.{operandsAt, Resumes}
 use Rattle.journal.proofs.Choice.{each-code}
@@ -23,7 +23,6 @@ use Rattle.journal.proofs.Walks.{all-good, walked, walked-on, walked-fits, walk
 use Rattle.nodes.specs.Run.{partWords, operator}
 use Rattle.nodes.specs.Area.{wordsOf, part}
 use Rattle.nodes.specs.Writing.{width, Due, dueWords, partFrom}
-use Rattle.nodes.proofs.Runs.{operator-pos}
 use Rattle.nodes.proofs.Cut.{Code, code-take, words-one, words-two}
 use Rattle.nodes.proofs.Listed.{chosen-code}
 

@@ -1,5 +1,5 @@
 -- Terms of the contracts of the writer's private functions; no public promise cites them.
-use Prim.Native.Nat.{ℕ, _+_, _-_, _*_, _≤_}
+use Prim.Native.Nat.{ℕ, _-_, _≤_}
 use mathlib.Core.Path.{_≡_}
 use mathlib.Core.Bool.{true, cond}
 use mathlib.Core.List.{List, [], _∷_, _++_}
@@ -10,7 +10,6 @@ use Rattle.journal.specs.declared.scanning.Counts.{Counts}
 use Rattle.journal.specs.Journal.{goodRecord, entries}
 use Rattle.journal.specs.Reportable.{chosen}
 use Rattle.nodes.specs.Area.{wordsOf, part}
-use Rattle.nodes.specs.Run.{partWords, cut, leftOf, total}
 
 -- the operand words of one operation of an opcode
 abbrev pub width : ℕ → ℕ

@@ -1,7 +1,7 @@
 // The longest run, by arithmetic from how many operations of each opcode are left.
 ghost use mathlib.Core.Path.{_≡_};
 ghost use Prim.Native.Nat.{_-_, min};
-ghost use Rattle.nodes.specs.Run.{onesIn, twosIn, partWords, cut, leftOf};
+ghost use Rattle.nodes.specs.Run.{partWords, cut, leftOf};
 use journal::Counts;
 
 // What is left of `a` once `b` is taken away.

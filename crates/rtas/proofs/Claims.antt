@@ -1,5 +1,5 @@
 -- The demands hold.
-use Rattle.words.specs.Numbers.{be, le, beBytes, wordBytes, zeros}
+use Rattle.words.specs.Numbers.{be, beBytes, wordBytes, zeros}
 use Rattle.records.specs.Records.{recordsFrom, records, allGood, wellFormedBy}
 use Rattle.journal.specs.Journal.{wellFormed, entries}
 use Rattle.journal.specs.Scope.{negative, valid, rowOf}

@@ -8,7 +8,7 @@ use native.Mathlib.Omega.{arith}
 use lib.Dec.{leb, ltb}
 use lib.ListN.{length, getD}
 use lib.Seq.{sets, length-sets}
-use borrow.Author.Tests.{le-leb, lt-ltb, leb-true, leb-false, ltb-false}
+use borrow.Author.Tests.{leb-false, ltb-false}
 use Rattle.words.specs.Numbers.{be32, wordBytes}
 use Rattle.words.proofs.Stores.{sets-before, sets-after, length-wordBytes}
 use Rattle.dump.specs.declared.registration.Registration.{Registration}
@@ -16,17 +16,16 @@ use Rattle.journal.specs.Journal.{wellFormed}
 use Rattle.journal.specs.Reportable.{reportable}
 use Rattle.nodes.specs.Run.{remains}
 use Rattle.journal.specs.Scope.{valid, rowOf}
-use Rattle.journal.proofs.Choice.{and-left, and-right}
 use Rattle.rtas.specs.declared.status.Status.{Status}
 use Rattle.rtas.specs.declared.status.Number.the-variants.{Given}
 use Rattle.rtas.specs.declared.status.Status.the-variants.{Done, Again, Malformed, Parameter}
 use Rattle.rtas.specs.Status.{isGiven, isAnswer, statusWord}
 use Rattle.rtas.specs.UpdateNodes.{areaAt, withArea, placed, reserved, goodState, areaStatus, areaAfter, nodesStatus, nodesMemory}
 use Rattle.rtas.specs.Buffer.{outputs, input, statusAt, numberFor, isNodes, Outcome, outcome, Result, callOf, answered}
-use Rattle.rtas.specs.Demands.{inStatus, inOutputs, inArea, Confined, Demand1}
+use Rattle.rtas.specs.Demands.{Confined, Demand1}
 use Rattle.rtas.proofs.Areas.{placed-inside, state-within, nodes-checked}
 use Rattle.rtas.proofs.Calls.{decide, answered-by}
-use Rattle.rtas.proofs.Heads.{Whole, whole-buffer, unchanged, carried-out, status-only}
+use Rattle.rtas.proofs.Heads.{whole-buffer, unchanged, carried-out, status-only}
 use Rattle.rtas.proofs.Memory.{area-length, area-kept, area-before, area-behind, area-same, written-length}
 
 -- a place outside of a range lies before or behind it

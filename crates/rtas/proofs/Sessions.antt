@@ -15,7 +15,7 @@ use Rattle.words.proofs.Numbers.{be-take, be-bytes}
 use Rattle.journal.specs.declared.operation.Operation.{Operation}
 use Rattle.journal.specs.Journal.{wellFormed}
 use Rattle.journal.specs.Scope.{valid, rowOf}
-use Rattle.journal.specs.Reportable.{reportable, operandWords}
+use Rattle.journal.specs.Reportable.{operandWords}
 use Rattle.journal.proofs.Choice.{choose}
 use Rattle.nodes.specs.Run.{run, remains, nextState}
 use Rattle.nodes.specs.Area.{answer, written}
@@ -25,7 +25,7 @@ use Rattle.nodes.proofs.Runs.{RunFacts, run-facts, operandWords-append, operand
 use Rattle.nodes.proofs.Claims.{area-claims}
 use Rattle.rtas.specs.Status.{isGiven}
 use Rattle.rtas.specs.UpdateNodes.{areaAt, reserved, goodState}
-use Rattle.rtas.specs.Buffer.{input, numberFor, asks, isNodes, answered}
+use Rattle.rtas.specs.Buffer.{input, numberFor, asks, isNodes}
 use Rattle.rtas.specs.Session.{Call, isAnswered, address, areaBefore, areaThen, statusThen, Standing, start, after, standing, Continues, Session, WellMade, Driven, joined, readings, reported}
 use Rattle.rtas.specs.Demands.{Bounded, Accounted, Demand3}
 use Rattle.rtas.proofs.Memory.{area-length, area-stored, written-length}

@@ -1,6 +1,6 @@
 -- The argument buffer, and a call through it (document 01, "The argument buffer").
 use Prim.Native.Nat.{ℕ, _+_, _*_}
-use mathlib.Core.Bool.{Bool, true, false, cond, _&&_, _||_}
+use mathlib.Core.Bool.{Bool, cond, _&&_, _||_}
 use mathlib.Core.List.{List, [], _∷_}
 use lib.Dec.{leb, ltb, eqb}
 use lib.ListN.{length}
@@ -11,7 +11,7 @@ use Rattle.rtas.specs.declared.status.Number.{Number}
 use Rattle.rtas.specs.declared.status.Number.the-variants.{Given, Short, NoOutputs, TooMany}
 use Rattle.rtas.specs.declared.status.Status.{Status}
 use Rattle.rtas.specs.declared.status.Status.the-variants.{Parameter}
-use Rattle.rtas.specs.Status.{isGiven, isAnswer, statusWord}
+use Rattle.rtas.specs.Status.{isGiven, statusWord}
 use Rattle.rtas.specs.UpdateNodes.{nodesStatus, nodesMemory}
 
 -- 01: "Token, number of inputs, number of outputs, the inputs, the outputs; the first output is the status."

@@ -14,7 +14,7 @@ use Rattle.journal.specs.Claims.{short, long}
 use Rattle.nodes.specs.Run.{run, remains}
 use Rattle.nodes.specs.Reading.{read, reading}
 use Rattle.rtas.specs.declared.status.Status.{Status}
-use Rattle.rtas.specs.declared.status.Status.the-variants.{Done, Again, Malformed, Parameter}
+use Rattle.rtas.specs.declared.status.Status.the-variants.{Done, Again, Parameter}
 use Rattle.rtas.specs.Status.{isGiven, isAnswer, isDone, isMalformed, statusWord}
 use Rattle.rtas.specs.UpdateNodes.{areaAt, placed, reserved, goodState, nodesStatus, nodesMemory}
 use Rattle.rtas.specs.Buffer.{outputs, input, isNodes, statusAt, callOf, answered}

@@ -3,7 +3,7 @@ ghost use mathlib.Core.Path.{_≡_};
 ghost use Prim.Native.Nat.{_≤_};
 ghost use lib.ListN.{length};
 ghost use Rattle.rtas.specs.Status.{isGiven};
-ghost use Rattle.rtas.specs.Buffer.{numberFor, isNodes, asks, outcome, callOf};
+ghost use Rattle.rtas.specs.Buffer.{numberFor, asks, outcome, callOf};
 ghost use Rattle.rtas.specs.Cases.{BothSides};
 ghost use Rattle.rtas.specs.Demands.{Demand1, Demand2, Demand3, Readings};
 use crate::nodes_call::update_nodes;

@@ -1,11 +1,11 @@
 -- Laws of stored bytes: what is read where they stand, and beside them.
 use mathlib.Core.Path.{_≡_, refl, ap, _∙_, sym}
 use mathlib.Core.List.{List, [], _∷_, _++_, append-assoc, append-nil}
-use Prim.Native.Nat.{ℕ, zero, suc, _+_, _*_, _/_, _%_, _^_, _<_, _≤_}
-use native.Mathlib.Nat.{add-zero, add-assoc, add-suc, suc-add, div-one}
+use Prim.Native.Nat.{ℕ, suc, _+_, _*_, _/_, _%_, _^_, _<_, _≤_}
+use native.Mathlib.Nat.{add-zero, add-suc, suc-add, div-one}
 use native.Mathlib.Numerals.{towards-suc}
 use native.Mathlib.Omega.{arith}
-use lib.ListN.{length, getD, set, take, drop, length-append}
+use lib.ListN.{length, getD, set, take, drop}
 use lib.Seq.{sets, sets-eq, set-comm, set-set, getD-set-other, getD-append-add, length-take-le}
 use Rattle.words.specs.Numbers.{be, beBytes, wordBytes}
 use Rattle.words.proofs.Numbers.{be-same, be-bytes, length-beBytes}

@@ -4,10 +4,10 @@ use mathlib.Core.List.{List, [], _∷_, _++_}
 use Prim.Native.Nat.{ℕ, zero, suc, _+_, _*_, _-_, _<_, _≤_}
 use native.Mathlib.Nat.{add-zero, mod-eq-of-lt}
 use native.Mathlib.Omega.{arith}
-use lib.ListN.{length, drop, length-append, length-drop}
+use lib.ListN.{length, drop, length-drop}
 use lib.Seq.{drop-drop}
 use Rattle.words.specs.Numbers.{Small, be, beBytes, wordBytes, words}
-use Rattle.words.proofs.Numbers.{be-drop, be-bytes, length-beBytes}
+use Rattle.words.proofs.Numbers.{be-drop, be-bytes}
 
 -- the first word of a list
 front : (l : List ℕ) → 4 ≤ length l → words l ≡ be 4 l 0 ∷ words (drop 4 l)

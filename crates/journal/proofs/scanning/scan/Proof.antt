@@ -1,6 +1,6 @@
 -- `scanning::scan` meets its contract.
-use mathlib.Core.Path.{_≡_, refl, sym, ap, _∙_}
-use Prim.Native.Nat.{ℕ, _+_, _-_, _≤_}
+use mathlib.Core.Path.{_≡_, refl, ap, _∙_}
+use Prim.Native.Nat.{_+_, _-_, _≤_}
 use native.Mathlib.Omega.{arith}
 use lib.ListN.{length}
 use borrow.Author.Needs.{needs}
@@ -11,7 +11,6 @@ use Rattle.journal.proofs.Reaching.{position, reached-none, reached-end
 use Rattle.journal.specs.Claims.{WellFormedCases, SizeLimit}
 use Rattle.journal.specs.Marks.{Marked}
 use Rattle.journal.specs.Scanning.{Reached}
-use Rattle.journal.specs.declared.scanning.Counts.{Counts}
 use Rattle.journal.specs.declared.scanning.Judgement.the-variants.{Counted}
 use Rattle.journal.proofs.scanning.scan.Statement.{statement}
 use Rattle.journal.proofs.scanning.scan.Tie as tie

@@ -1,5 +1,4 @@
 -- `stride::four_headers` meets its contract.
-use mathlib.Core.Path.{_≡_}
 use borrow.Author.Needs.{needs}
 use borrow.Author.Tests.{eq-eqb, ne-eqb}
 use Rattle.journal.proofs.stride.four_headers.Statement.{statement}

@@ -1,17 +1,15 @@
 -- `walking::find` meets its contract.
-use mathlib.Core.Path.{_≡_, refl, sym, ap, subst, _∙_}
-use Prim.Native.Nat.{ℕ, _+_, _-_, _<_, _≤_}
+use mathlib.Core.Path.{_≡_}
+use Prim.Native.Nat.{_+_, _-_, _<_}
 use native.Mathlib.Omega.{arith}
 use lib.ListN.{length, drop}
-use borrow.Author.Needs.{needs}
 use denote.Ref.{now}
 use Rattle.journal.proofs.Entries.{one-if-le}
 use Rattle.journal.proofs.MarkLaws.{sought-resumes}
-use Rattle.journal.proofs.Walks.{all-good, walked-fits, still-inside, resumes-step}
+use Rattle.journal.proofs.Walks.{all-good, still-inside, resumes-step}
 use Rattle.journal.specs.Journal.{entryOf}
 use Rattle.journal.specs.Marks.{Resumes}
 use Rattle.journal.specs.Reportable.{reports}
-use Rattle.journal.specs.declared.marks.Place.{Place}
 use Rattle.records.specs.Records.{firstRecord}
 use Rattle.journal.proofs.walking.find.Statement.{statement}
 use Rattle.journal.proofs.walking.find.Tie as tie

@@ -1,5 +1,5 @@
 -- `walking::reported` meets its contract.
-use mathlib.Core.Path.{_≡_, _∙_}
+use mathlib.Core.Path.{_∙_}
 use borrow.Author.Needs.{needs}
 use borrow.Author.Tests.{eq-eqb, ne-eqb}
 use Rattle.journal.proofs.walking.reported.Statement.{statement}

@@ -1,5 +1,4 @@
 -- `writing::width_of` meets its contract.
-use borrow.Author.Needs.{needs}
 use borrow.Author.Tests.{eq-eqb, ne-eqb}
 use Rattle.nodes.proofs.writing.width_of.Statement.{statement}
 use Rattle.nodes.proofs.writing.width_of.Tie as tie

@@ -1,7 +1,7 @@
 -- `writing::write_part` meets its contract.
-use mathlib.Core.List.{List, [], _∷_, _++_}
-use mathlib.Core.Path.{_≡_, refl, sym, ap, _∙_}
-use Prim.Native.Nat.{ℕ, _+_, _-_, _*_, _<_, _≤_}
+use mathlib.Core.List.{List}
+use mathlib.Core.Path.{sym, ap, _∙_}
+use Prim.Native.Nat.{ℕ, _+_, _*_, _≤_}
 use native.Mathlib.Omega.{arith}
 use lib.ListN.{length, take, drop}
 use borrow.Author.Needs.{needs}
@@ -11,7 +11,7 @@ use Rattle.journal.specs.Reportable.{chosen}
 use Rattle.nodes.proofs.Runs.{operator-pos}
 use Rattle.nodes.proofs.Writes.{due-length, found-due, found-words, Sized, sized, no-part, part-stored}
 use Rattle.nodes.specs.Area.{wordsOf}
-use Rattle.nodes.specs.Writing.{width, Due, dueWords}
+use Rattle.nodes.specs.Writing.{width, Due}
 use Rattle.nodes.proofs.writing.write_part.Statement.{statement}
 use Rattle.nodes.proofs.writing.write_part.Tie as tie
 

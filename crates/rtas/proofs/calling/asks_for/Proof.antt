@@ -1,6 +1,6 @@
 -- `calling::asks_for` meets its contract.
 use borrow.Author.Needs.{needs}
-use borrow.Author.Tests.{lt-ltb, le-ltb, le-leb, lt-leb, eq-eqb, ne-eqb, not-true, not-false}
+use borrow.Author.Tests.{eq-eqb, ne-eqb}
 use Rattle.rtas.specs.Buffer.{asks}
 use Rattle.rtas.proofs.calling.asks_for.Statement.{statement}
 use Rattle.rtas.proofs.calling.asks_for.Tie as tie

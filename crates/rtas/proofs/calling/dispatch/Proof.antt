@@ -1,14 +1,12 @@
 -- `calling::dispatch` meets its contract.
-use mathlib.Core.Bool.{true}
-use mathlib.Core.Path.{_≡_, refl, sym, ap, _∙_}
-use Prim.Native.Nat.{ℕ, _+_, _-_, _*_, _<_, _≤_}
+use mathlib.Core.Path.{refl, sym, ap, _∙_}
+use Prim.Native.Nat.{_≤_}
 use native.Mathlib.Omega.{arith}
 use lib.ListN.{length}
 use borrow.Author.Needs.{needs}
-use borrow.Author.Tests.{lt-ltb, le-ltb, le-leb, lt-leb, eq-eqb, ne-eqb, not-true, not-false}
 use denote.Ref.{now}
 use Rattle.rtas.proofs.Heads.{Whole, whole-buffer, asked-counts}
-use Rattle.rtas.specs.Buffer.{outcome, asks}
+use Rattle.rtas.specs.Buffer.{outcome}
 use Rattle.rtas.specs.Status.{isGiven}
 use Rattle.rtas.proofs.calling.dispatch.Statement.{statement}
 use Rattle.rtas.proofs.calling.dispatch.Tie as tie

@@ -1,7 +1,4 @@
 -- `nodes_call::answer_area` meets its contract.
-use mathlib.Core.Path.{_≡_, refl, sym, ap, _∙_}
-use Prim.Native.Nat.{ℕ, _+_, _-_, _*_, _<_, _≤_}
-use native.Mathlib.Omega.{arith}
 use borrow.Author.Needs.{needs}
 use denote.Ref.{now}
 use Rattle.rtas.proofs.Areas.{left-malformed, scanned-malformed, scanned-counted}

@@ -1,11 +1,10 @@
 -- `nodes_call::answer_counted` meets its contract.
-use mathlib.Core.Bool.{Bool, true, false}
-use mathlib.Core.Path.{_≡_, refl, sym, ap, _∙_}
-use Prim.Native.Nat.{ℕ, _+_, _-_, _*_, _<_, _≤_}
+use mathlib.Core.Bool.{true}
+use mathlib.Core.Path.{_≡_, sym, ap, _∙_}
+use Prim.Native.Nat.{_≤_}
 use native.Mathlib.Omega.{arith}
-use lib.ListN.{length}
 use borrow.Author.Needs.{needs}
-use borrow.Author.Tests.{lt-ltb, le-ltb, le-leb, lt-leb, eq-eqb, ne-eqb, not-true, not-false}
+use borrow.Author.Tests.{not-true, not-false}
 use denote.Ref.{now}
 use Rattle.journal.specs.Reportable.{reportable}
 use Rattle.nodes.proofs.Answers.{counts-small}
@@ -14,7 +13,6 @@ use Rattle.nodes.specs.Area.{written}
 use Rattle.nodes.specs.Run.{total}
 use Rattle.rtas.proofs.Areas.{left-reserved, left-state, left-again, left-done, state-is, state-within}
 use Rattle.rtas.specs.UpdateNodes.{reserved, goodState}
-use Rattle.words.specs.Numbers.{be32}
 use Rattle.rtas.proofs.nodes_call.answer_counted.Statement.{statement}
 use Rattle.rtas.proofs.nodes_call.answer_counted.Tie as tie
 

@@ -1,6 +1,6 @@
 -- `nodes_call::is_placed` meets its contract.
 use borrow.Author.Needs.{needs}
-use borrow.Author.Tests.{lt-ltb, le-ltb, le-leb, lt-leb, eq-eqb, ne-eqb, not-true, not-false}
+use borrow.Author.Tests.{eq-eqb, ne-eqb}
 use Rattle.rtas.specs.UpdateNodes.{placed}
 use Rattle.rtas.proofs.nodes_call.is_placed.Statement.{statement}
 use Rattle.rtas.proofs.nodes_call.is_placed.Tie as tie

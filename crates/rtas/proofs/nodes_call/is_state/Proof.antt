@@ -1,6 +1,5 @@
 -- `nodes_call::is_state` meets its contract.
-use borrow.Author.Needs.{needs}
-use borrow.Author.Tests.{lt-ltb, le-ltb, le-leb, lt-leb, eq-eqb, ne-eqb, not-true, not-false}
+use borrow.Author.Tests.{eq-eqb, ne-eqb}
 use Rattle.rtas.proofs.nodes_call.is_state.Statement.{statement}
 use Rattle.rtas.proofs.nodes_call.is_state.Tie as tie
 

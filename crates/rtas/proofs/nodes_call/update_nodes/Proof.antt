@@ -1,17 +1,16 @@
 -- `nodes_call::update_nodes` meets its contract.
 use mathlib.Core.Bool.{true}
 use mathlib.Core.List.{List}
-use mathlib.Core.Path.{_≡_, refl, sym, ap, _∙_}
-use Prim.Native.Nat.{ℕ, _+_, _-_, _*_, _<_, _≤_}
-use native.Mathlib.Omega.{arith}
+use mathlib.Core.Path.{_≡_, sym, ap, _∙_}
+use Prim.Native.Nat.{ℕ}
 use lib.ListN.{length}
 use borrow.Author.Needs.{needs}
-use borrow.Author.Tests.{lt-ltb, le-ltb, le-leb, lt-leb, eq-eqb, ne-eqb, not-true, not-false}
+use borrow.Author.Tests.{not-true, not-false}
 use denote.Ref.{now}
 use Rattle.journal.specs.declared.scope.Row.{Row}
 use Rattle.rtas.proofs.Areas.{placed-inside, left-unplaced, left-invalid, left-area}
 use Rattle.rtas.proofs.Memory.{area-lent, area-length}
-use Rattle.rtas.specs.UpdateNodes.{placed, areaStatus, areaAfter}
+use Rattle.rtas.specs.UpdateNodes.{placed}
 use Rattle.rtas.proofs.nodes_call.update_nodes.Statement.{statement}
 use Rattle.rtas.proofs.nodes_call.update_nodes.Tie as tie
 
