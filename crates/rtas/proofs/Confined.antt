@@ -129,7 +129,7 @@ module _ (b m j i : List ℕ) (r : Registration) where
       (λ e. own-ways (λ (s : Status) (l : List ℕ). isAnswer s ≡ false → l ≡ m) (λ _. nodes-refused m (input b 0) (input b 1) j) (λ _ _. refl)
       (rw e at (sym (answered-by b m j i r) ∙ h)))
 
-  confined : Confined b m j i r
+  confined : Confined b m r (callOf b m j i r)
   confined =
       record {
         no-status = call-ways (λ (x : Result). isGiven (x .number) ≡ false → x .args ≡ b) (λ _ _. refl) (λ _ h. absurd (false≢true (sym h)));

@@ -17,7 +17,7 @@ use Rattle.rtas.specs.declared.status.Status.{Status}
 use Rattle.rtas.specs.declared.status.Status.the-variants.{Done, Again, Parameter}
 use Rattle.rtas.specs.Status.{isGiven, isAnswer, isDone, isMalformed, statusWord}
 use Rattle.rtas.specs.UpdateNodes.{areaAt, placed, reserved, goodState, nodesStatus, nodesMemory}
-use Rattle.rtas.specs.Buffer.{outputs, input, isNodes, statusAt, callOf, answered}
+use Rattle.rtas.specs.Buffer.{outputs, input, isNodes, statusAt, Result, callOf, answered}
 use Rattle.rtas.specs.Session.{Call, isAnswered, Standing, start, standing, Session, WellMade, Driven, readings, reported}
 
 -- ---- demand 1: "A refused call gives the status or refusal number .. a status is written in its word, and nothing else changes.
@@ -33,18 +33,18 @@ inOutputs b k = leb (statusAt b) k && ltb k (statusAt b + 4 * outputs b)
 abbrev pub inArea : List ℕ → ℕ → Bool
 inArea b k = isNodes b && (leb (input b 0) k && ltb k (input b 0 + 4096))
 
-pub record Confined (b m j i : List ℕ) (r : Registration) : Type 0 where
-  pub no-status : isGiven (callOf b m j i r .number) ≡ false → callOf b m j i r .args ≡ b
-  pub refused-args : answered b (callOf b m j i r) ≡ false → (k : ℕ) → inStatus b k ≡ false → getD (callOf b m j i r .args) k 0 ≡ getD b k 0
-  pub refused-memory : answered b (callOf b m j i r) ≡ false → callOf b m j i r .memory ≡ m
-  pub refused-registration : answered b (callOf b m j i r) ≡ false → callOf b m j i r .registration ≡ r
-  pub outside-outputs : (k : ℕ) → inOutputs b k ≡ false → getD (callOf b m j i r .args) k 0 ≡ getD b k 0
-  pub outside-area : (k : ℕ) → inArea b k ≡ false → getD (callOf b m j i r .memory) k 0 ≡ getD m k 0
-  pub args-length : length (callOf b m j i r .args) ≡ length b
-  pub memory-length : length (callOf b m j i r .memory) ≡ length m
+pub record Confined (b m : List ℕ) (r : Registration) (x : Result) : Type 0 where
+  pub no-status : isGiven (x .number) ≡ false → x .args ≡ b
+  pub refused-args : answered b x ≡ false → (k : ℕ) → inStatus b k ≡ false → getD (x .args) k 0 ≡ getD b k 0
+  pub refused-memory : answered b x ≡ false → x .memory ≡ m
+  pub refused-registration : answered b x ≡ false → x .registration ≡ r
+  pub outside-outputs : (k : ℕ) → inOutputs b k ≡ false → getD (x .args) k 0 ≡ getD b k 0
+  pub outside-area : (k : ℕ) → inArea b k ≡ false → getD (x .memory) k 0 ≡ getD m k 0
+  pub args-length : length (x .args) ≡ length b
+  pub memory-length : length (x .memory) ≡ length m
 
 abbrev pub Demand1 : Type 0
-Demand1 = (b m j i : List ℕ) (r : Registration) → Confined b m j i r
+Demand1 = (b m j i : List ℕ) (r : Registration) → Confined b m r (callOf b m j i r)
 
 -- ---- demand 2 for update-nodes: "each status is given exactly when document 01 says so. Reading what was written gives back the same entries."
 
