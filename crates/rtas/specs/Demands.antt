@@ -1,7 +1,7 @@
 -- What is claimed of every call and of every session, cited by the contract of `call`.
 use Prim.Native.Nat.{ℕ, zero, suc, _+_, _*_, _-_, _≤_, _<_}
 use mathlib.Core.Path.{_≡_}
-use mathlib.Core.Bool.{Bool, true, false, cond, _&&_, not}
+use mathlib.Core.Bool.{Bool, true, false, _&&_, not}
 use mathlib.Core.List.{List, [], _∷_, _++_}
 use lib.Dec.{T, leb, ltb, eqb}
 use lib.ListN.{length, take, getD, replicate}
@@ -12,7 +12,7 @@ use Rattle.journal.specs.Scope.{valid, rowOf}
 use Rattle.journal.specs.Reportable.{reportable, operandWords}
 use Rattle.journal.specs.Claims.{short, long}
 use Rattle.nodes.specs.Run.{run, remains}
-use Rattle.nodes.specs.Reading.{read, reading}
+use Rattle.nodes.specs.Reading.{Reading, read, refused, reading}
 use Rattle.rtas.specs.declared.status.Status.{Status}
 use Rattle.rtas.specs.declared.status.Status.the-variants.{Done, Again, Parameter}
 use Rattle.rtas.specs.Status.{isGiven, isAnswer, isDone, isMalformed, statusWord}
@@ -80,7 +80,7 @@ Demand3 = (j : List ℕ) (scope : ℕ) → Bytes j → wellFormed j ≡ true →
 
 -- ---- the table of readings: 01, "Cases marked * are proved of the written rules themselves, gathered into a single table under a single claim."
 
--- so many deletes, updates and additions of node type 10 in the journal, the scope and the state given; the status and the state left
+-- so many deletes, updates and additions of node type 10 in the journal, the scope and the state given; the status, the operations handed out, the state left
 pub record NodesCase : Type 0 where
   pub deletes : ℕ
   pub updates : ℕ
@@ -88,43 +88,48 @@ pub record NodesCase : Type 0 where
   pub scope : ℕ
   pub state : ℕ
   pub status : Status
+  pub handed : ℕ
   pub left : ℕ
 
-abbrev pub case : ℕ → ℕ → ℕ → ℕ → ℕ → Status → ℕ → NodesCase
-case d u a s k t l = record { deletes = d; updates = u; additions = a; scope = s; state = k; status = t; left = l }
+abbrev pub case : ℕ → ℕ → ℕ → ℕ → ℕ → Status → ℕ → ℕ → NodesCase
+case d u a s k t n l = record { deletes = d; updates = u; additions = a; scope = s; state = k; status = t; handed = n; left = l }
 
 abbrev pub nodesCases : List NodesCase
 nodesCases =
-    case 1018 0 0 1 0 Done 0
-    ∷ case 1019 0 0 1 0 Again 1018
-    ∷ case 1019 0 0 1 1018 Done 0
-    ∷ case 0 0 509 1 0 Done 0
-    ∷ case 0 0 510 1 0 Again 509
-    ∷ case 0 0 510 1 509 Done 0
-    ∷ case 1 1013 1 1 0 Done 0
-    ∷ case 1 1014 1 1 0 Again 1015
-    ∷ case 0 0 0 1 0 Done 0
-    ∷ case 3 0 0 2147483648 0 Done 0
-    ∷ case 3 0 0 4294967295 0 Done 0
-    ∷ case 3 0 0 0 0 Parameter 0
-    ∷ case 3 0 0 3 0 Parameter 0
-    ∷ case 3 0 0 4 0 Parameter 0
-    ∷ case 3 0 0 2147483647 0 Parameter 0
-    ∷ case 3 0 0 1 2 Done 0
-    ∷ case 3 0 0 1 3 Parameter 3
+    case 1018 0 0 1 0 Done 1018 0
+    ∷ case 1019 0 0 1 0 Again 1018 1018
+    ∷ case 1019 0 0 1 1018 Done 1 0
+    ∷ case 0 0 509 1 0 Done 509 0
+    ∷ case 0 0 510 1 0 Again 509 509
+    ∷ case 0 0 510 1 509 Done 1 0
+    ∷ case 1 1013 1 1 0 Done 1015 0
+    ∷ case 1 1014 1 1 0 Again 1015 1015
+    ∷ case 0 0 0 1 0 Done 0 0
+    ∷ case 3 0 0 2147483648 0 Done 3 0
+    ∷ case 3 0 0 4294967295 0 Done 3 0
+    ∷ case 3 0 0 0 0 Parameter 0 0
+    ∷ case 3 0 0 3 0 Parameter 0 0
+    ∷ case 3 0 0 4 0 Parameter 0 0
+    ∷ case 3 0 0 2147483647 0 Parameter 0 0
+    ∷ case 3 0 0 1 2 Done 1 0
+    ∷ case 3 0 0 1 3 Parameter 0 3
     ∷ []
 
 abbrev pub times : ℕ → List ℕ → List ℕ
 times zero r = []
 times (suc n) r = r ++ times n r
 
--- the status, the state left, and the terminator at byte 16 where nothing was handed out, over an area of sevens behind the sixteen bytes
+-- an answered area reads as so many operations; a refused one is as it was, sevens behind the sixteen bytes, and does not read
+abbrev pub reads : Status → ℕ → Reading → Bool
+reads s n (read os) = isAnswer s && eqb (length os) n
+reads s n (refused r at) = not (isAnswer s)
+
 abbrev pub agrees : NodesCase → Bool
 agrees c =
     let j = times (c .deletes) (short 8 1 10) ++ (times (c .updates) (short 8 2 10) ++ times (c .additions) (long 12 3 10)) in
     let m = beBytes 4 (c .state) ++ (replicate 12 0 ++ replicate 4080 7) in
     let x = nodesMemory m 0 (c .scope) j in
-    eqb (statusWord (nodesStatus m 0 (c .scope) j)) (statusWord (c .status)) && (eqb (be32 x 0) (c .left) && eqb (be32 x 16) (cond (eqb (length j) 0) 0 (be32 x 16)))
+    eqb (statusWord (nodesStatus m 0 (c .scope) j)) (statusWord (c .status)) && (reads (c .status) (c .handed) (reading (areaAt x 0)) && eqb (be32 x 0) (c .left))
 
 abbrev pub allAgree : List NodesCase → Bool
 allAgree [] = true
