@@ -1,0 +1,45 @@
+-- Zero bytes of a location code, and the code of a record as a part of the inventory.
+use mathlib.Core.Path.{_≡_, refl, sym}
+use mathlib.Core.Bool.{Bool, true, false, cond, _&&_, not}
+use mathlib.Core.List.{List, [], _∷_}
+use Prim.Native.Nat.{ℕ, _+_, _<_, _≤_}
+use native.Mathlib.Nat.{zero-add}
+use native.Mathlib.Numerals.{add-one}
+use native.Mathlib.Omega.{arith}
+use lib.Dec.{eqb}
+use lib.ListN.{length, getD, take, drop}
+use lib.Seq.{slice, slice-cons, slice-empty, take-add, drop-append-add, length-take-le}
+use borrow.Author.Tests.{ne-eqb}
+use Rattle.inventory.specs.Inventory.{nonZero, zeroCount}
+
+-- a test as a number
+abbrev pub one-if : Bool → ℕ
+one-if b = cond b 1 0
+
+pub one-if-le : (b : Bool) → one-if b ≤ 1
+one-if-le true = omega arith
+one-if-le false = omega arith
+
+-- one byte more of a part
+pub zero-count-next : (s : List ℕ) (i to : ℕ) → i < to → to ≤ length s → zeroCount (slice i to s) ≡ one-if (eqb (getD s i 0) 0) + zeroCount (slice (i + 1) to s)
+unfolding zeroCount
+zero-count-next s i to h l = rw (slice-cons i to s 0 h l, add-one)
+
+pub zero-count-end : (s : List ℕ) (i to : ℕ) → i ≡ to → zeroCount (slice i to s) ≡ 0
+unfolding zeroCount
+zero-count-end s i to e = rw (e, slice-empty to s)
+
+pub non-zero-is : (s : List ℕ) → nonZero s ≡ eqb (zeroCount s) 0
+unfolding nonZero zeroCount
+non-zero-is [] = refl
+non-zero-is (b ∷ bs) = go (eqb b 0) (non-zero-is bs)
+  where
+    go : (t : Bool) → nonZero bs ≡ eqb (zeroCount bs) 0 → (not t && nonZero bs) ≡ eqb (cond t 1 0 + zeroCount bs) 0
+    go true e = sym (ne-eqb (1 + zeroCount bs) 0 (λ q. omega arith))
+    go false e = rw zero-add e
+
+-- a part of what stands behind a place is a part of the whole
+pub drop-part : (s : List ℕ) (at k size : ℕ) → at ≤ length s → drop k (take size (drop at s)) ≡ slice (at + k) (at + size) s
+drop-part s at k size h =
+    let e : length (take at s) ≡ at = length-take-le at s h in
+    rw (take-add at size s) (rw e at (sym (drop-append-add (take at s) (take size (drop at s)) k)))

@@ -1,0 +1,4 @@
+pub mod Codes
+pub mod RecordLaws
+pub mod Entries
+pub mod Claims

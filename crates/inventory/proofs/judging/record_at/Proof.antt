@@ -1,0 +1,85 @@
+-- `judging::record_at` meets its contract.
+use mathlib.Core.Path.{_≡_, refl, sym, ap, _∙_}
+use mathlib.Core.Bool.{_&&_, and-false}
+use Prim.Native.Nat.{ℕ, _+_, _-_, _≤_}
+use native.Mathlib.Omega.{arith}
+use lib.Dec.{eqb}
+use lib.ListN.{length, drop}
+use lib.Seq.{slice}
+use borrow.Author.Needs.{needs}
+use borrow.Author.Tests.{eq-eqb, ne-eqb, not-true, not-false}
+use denote.Ref.{now}
+use Rattle.records.specs.Records.{sizeOf}
+use Rattle.records.specs.declared.framing.Frame.{Frame}
+use Rattle.inventory.specs.Inventory.{zeroCount}
+use Rattle.inventory.proofs.RecordLaws.{goodHere, framed-bounds, good-read, short-bad, none-given, size-given}
+use Rattle.inventory.proofs.judging.record_at.Statement.{statement}
+use Rattle.inventory.proofs.judging.record_at.Tie as tie
+
+sub-left : tie.Need-sub-left
+sub-left c = search needs
+
+returns : tie.Need-returns
+returns c = none-given (now (c .before .before .args .s)) (c .before .before .args .at) (short-bad (now (c .before .before .args .s)) (c .before .before .args .at) (c .if1 .taken))
+
+read-frame-requires : tie.Need-read-frame-requires
+read-frame-requires c κs = search needs
+
+record-size-requires : tie.Need-record-size-requires
+record-size-requires c κs = search needs
+
+add-read-le16 : tie.Need-add-read-le16
+add-read-le16 c = search needs
+
+read-le16-requires : tie.Need-read-le16-requires
+read-le16-requires c κs = search needs
+
+is-framed-requires : tie.Need-is-framed-requires
+is-framed-requires c κs = search needs
+
+-- the size that was read, and the record judged by what was read
+size-is : (c : tie.After-is-framed) → c .before .before .record-size .result ≡ sizeOf (drop (c .before .before .before .before .before .before .args .at) (now (c .before .before .before .before .before .before .args .s)))
+size-is c = c .before .before .record-size .ensures ∙ ap (λ (f : Frame). f .length + 2) (c .before .before .before .read-frame .ensures)
+
+judged : (c : tie.After-is-framed) (zeros : ℕ) → zeros ≡ zeroCount (slice (c .before .before .before .before .before .before .args .at + 14) (c .before .before .before .before .before .before .args .at + c .before .before .record-size .result) (now (c .before .before .before .before .before .before .args .s))) → goodHere (now (c .before .before .before .before .before .before .args .s)) (c .before .before .before .before .before .before .args .at) ≡ (c .is-framed .result && eqb zeros 0)
+judged c zeros z =
+    good-read (now (c .before .before .before .before .before .before .args .s)) (c .before .before .before .before .before .before .args .at) _ _ _ zeros _ (size-is c) (ap (λ (f : Frame). f .kind) (c .before .before .before .read-frame .ensures)) (c .before .read-le16 .ensures) (c .is-framed .ensures) z
+
+returns-2 : tie.Need-returns-2
+returns-2 c = none-given (now (c .before .before .before .before .before .before .before .args .s)) (c .before .before .before .before .before .before .before .args .at) (judged (c .before) _ refl ∙ rw (not-true (c .before .is-framed .result) (c .if2 .taken)))
+
+fits : (c : tie.Else2) → (15 ≤ c .before .before .before .record-size .result) × (c .before .before .before .record-size .result ≤ length (now (c .before .before .before .before .before .before .before .args .s)) - c .before .before .before .before .before .before .before .args .at)
+fits c = framed-bounds _ _ (c .before .before .before .before .read-frame .result .kind) (c .before .before .read-le16 .result) (sym (c .before .is-framed .ensures) ∙ not-false _ (c .if2 .left))
+
+add-zero-bytes : tie.Need-add-zero-bytes
+add-zero-bytes c = omega (arith, fits c)
+
+add-zero-bytes-2 : tie.Need-add-zero-bytes-2
+add-zero-bytes-2 c = omega (arith, fits c)
+
+zero-bytes-requires : tie.Need-zero-bytes-requires
+zero-bytes-requires c κs = omega (arith, fits c)
+
+returns-3 : tie.Need-returns-3
+returns-3 c = none-given (now (c .before .before .before .before .before .before .before .before .before .args .s)) (c .before .before .before .before .before .before .before .before .before .args .at) (judged (c .before .before .before) _ (c .before .zero-bytes .ensures) ∙ rw (ne-eqb (c .before .zero-bytes .result) 0 (λ e. omega arith), and-false))
+
+returns-4 : tie.Need-returns-4
+returns-4 c = size-given (now (c .before .before .before .before .before .before .before .before .before .args .s)) (c .before .before .before .before .before .before .before .before .before .args .at) _ (size-is (c .before .before .before)) (judged (c .before .before .before) _ (c .before .zero-bytes .ensures) ∙ rw (not-false (c .before .before .before .is-framed .result) (c .before .before .if2 .left), eq-eqb (c .before .zero-bytes .result) 0 (omega arith)))
+
+pub record-at-spec : {M : Type 1} → statement M
+record-at-spec =
+    tie.close
+    (tie.spec
+    sub-left
+    returns
+    read-frame-requires
+    record-size-requires
+    add-read-le16
+    read-le16-requires
+    is-framed-requires
+    returns-2
+    add-zero-bytes
+    add-zero-bytes-2
+    zero-bytes-requires
+    returns-3
+    returns-4)

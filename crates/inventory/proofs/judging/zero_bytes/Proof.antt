@@ -1,0 +1,62 @@
+-- `judging::zero_bytes` meets its contract.
+use mathlib.Core.Path.{_≡_, sym}
+use Prim.Native.Nat.{_+_, _-_, _≤_}
+use native.Mathlib.Nat.{zero-add}
+use native.Mathlib.Omega.{arith}
+use lib.Dec.{eqb}
+use lib.ListN.{getD}
+use lib.Seq.{slice}
+use borrow.Author.Needs.{needs}
+use denote.Ref.{now}
+use Rattle.inventory.specs.Inventory.{zeroCount}
+use Rattle.inventory.proofs.Codes.{one-if-le, zero-count-next, zero-count-end}
+use Rattle.inventory.proofs.judging.zero_bytes.Statement.{statement}
+use Rattle.inventory.proofs.judging.zero_bytes.Tie as tie
+
+abbrev Inv-loop : tie.InvT-loop
+Inv-loop s from to i₀ zeros₀ i zeros = (i ≤ to) × (zeros ≤ i) × (zeroCount (slice from to s) ≡ zeros + zeroCount (slice i to s))
+
+abbrev μ-loop : tie.MeasureT-loop
+μ-loop s from to i₀ zeros₀ i zeros = to - i
+
+loop-holds : tie.Need-loop-holds Inv-loop μ-loop
+loop-holds c = (search needs, search needs, sym (zero-add _))
+
+shared-slice-read-one-if : tie.Need-shared-slice-read-one-if Inv-loop μ-loop
+shared-slice-read-one-if c = search needs
+
+one-if-requires : tie.Need-one-if-requires Inv-loop μ-loop
+one-if-requires c κs = search needs
+
+one : (c : tie.After-one-if Inv-loop μ-loop) → c .one-if .result ≤ 1
+one c = rw (c .one-if .ensures) (one-if-le (eqb (getD (now (c .before .before .before .before .before .args .s)) (c .before .before .before .loop .i) 0) 0))
+
+add-zeros : tie.Need-add-zeros Inv-loop μ-loop
+add-zeros c = omega (arith, one c)
+
+add-i : tie.Need-add-i Inv-loop μ-loop
+add-i c = search needs
+
+loop-less : tie.Need-loop-less Inv-loop μ-loop
+loop-less c = search needs
+
+loop-again : tie.Need-loop-again Inv-loop μ-loop
+loop-again c = (search needs, omega (arith, one c), omega (arith, c .before .before .before .loop .inv .2, c .one-if .ensures, zero-count-next (now (c .before .before .before .before .before .args .s)) (c .before .before .before .loop .i) (c .before .before .before .before .before .args .to) (omega arith) (omega arith)))
+
+returns : tie.Need-returns Inv-loop μ-loop
+returns c = omega (arith, c .before .loop .inv .2, zero-count-end (now (c .before .before .before .args .s)) (c .before .loop .i) (c .before .before .before .args .to) (omega arith))
+
+pub zero-bytes-spec : {M : Type 1} → statement M
+zero-bytes-spec =
+    tie.close
+    (tie.spec
+    Inv-loop
+    μ-loop
+    loop-holds
+    shared-slice-read-one-if
+    one-if-requires
+    add-zeros
+    add-i
+    loop-less
+    loop-again
+    returns)

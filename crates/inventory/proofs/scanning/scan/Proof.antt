@@ -1,0 +1,89 @@
+-- `scanning::scan` meets its contract.
+use mathlib.Core.Path.{ap, _∙_}
+use mathlib.Core.Logic.{⊎-elim}
+use Prim.Native.Nat.{_-_, _≤_}
+use native.Mathlib.Omega.{arith}
+use lib.ListN.{length}
+use borrow.Author.Needs.{needs}
+use denote.Ref.{now}
+use Rattle.inventory.specs.Claims.{WellFormedCases, SizeLimit}
+use Rattle.inventory.proofs.Claims.{well-formed-cases, size-limit}
+use Rattle.inventory.proofs.Codes.{one-if, one-if-le}
+use Rattle.inventory.proofs.Entries.{oversized, from-bad, Scanned, scanned-start, found-here, found-before, scanned-step, scanned-end}
+use Rattle.inventory.proofs.RecordLaws.{Stands, stands, none-stands}
+use Rattle.inventory.proofs.scanning.scan.Statement.{statement}
+use Rattle.inventory.proofs.scanning.scan.Tie as tie
+
+rules : WellFormedCases × SizeLimit
+rules = (well-formed-cases, size-limit)
+
+abbrev Inv-loop : tie.InvT-loop
+Inv-loop inventory flag kind number at₀ count₀ due₀ at count due = Scanned flag kind number inventory at count due
+
+abbrev μ-loop : tie.MeasureT-loop
+μ-loop inventory flag kind number at₀ count₀ due₀ at count due = length inventory - at
+
+returns : tie.Need-returns Inv-loop μ-loop
+returns c = (oversized (now (c .before .before .args .inventory)) (c .if1 .taken), rules)
+
+loop-holds : tie.Need-loop-holds Inv-loop μ-loop
+loop-holds c = scanned-start _ _ _ _
+
+record-at-requires : tie.Need-record-at-requires Inv-loop μ-loop
+record-at-requires c κs = search needs
+
+returns-2 : tie.Need-returns-2 Inv-loop μ-loop
+returns-2 c = (from-bad (c .before .before .before .loop .inv .passed) (c .before .before .loop-test .taken) (none-stands (now (c .before .before .before .before .before .before .args .inventory)) (c .before .before .before .loop .at) _ (c .before .record-at .ensures) (c .if2 .taken)), rules)
+
+-- the good record that a turn passes
+standing : (c : tie.Else2 Inv-loop μ-loop) → Stands (now (c .before .before .before .before .before .before .args .inventory)) (c .before .before .before .loop .at) (c .before .record-at .result)
+standing c = stands (c .before .record-at .ensures) (c .if2 .left)
+
+add-if3 : tie.Need-add-if3 Inv-loop μ-loop
+add-if3 c = search needs
+
+has-type-requires : tie.Need-has-type-requires Inv-loop μ-loop
+has-type-requires c κs = let g = standing (c .before) in (omega (arith, g .large, g .size-is), omega (arith, g .fits, g .size-is))
+
+one-if-requires : tie.Need-one-if-requires Inv-loop μ-loop
+one-if-requires c κs = search needs
+
+one : (c : tie.After-one-if Inv-loop μ-loop) → c .one-if .result ≤ 1
+one c = rw (c .one-if .ensures) (one-if-le (c .before .has-type .result))
+
+add-count : tie.Need-add-count Inv-loop μ-loop
+add-count c = omega (arith, one c, c .before .before .before .before .before .before .loop .inv .few)
+
+add-at : tie.Need-add-at Inv-loop μ-loop
+add-at c = omega (arith, standing (c .before .before .before) .fits)
+
+loop-less : tie.Need-loop-less Inv-loop μ-loop
+loop-less c = omega (arith, standing (c .before .before .before) .fits, standing (c .before .before .before) .large)
+
+loop-again : tie.Need-loop-again Inv-loop μ-loop
+loop-again c =
+    let scanned = c .before .before .before .before .before .before .loop .inv in
+    scanned-step scanned _ _ _ (c .before .before .before .before .before .loop-test .taken) (standing (c .before .before .before)) (c .one-if .ensures ∙ ap one-if (c .before .has-type .ensures))
+    (λ a b. ⊎-elim (λ w. rw (w .1) (found-here scanned (w .0 .taken))) (λ w. rw (w .1) (found-before scanned _ (one c) (w .0 .left) a b)) (c .before .before .if3 .came))
+
+returns-3 : tie.Need-returns-3 Inv-loop μ-loop
+returns-3 c = (scanned-end (c .before .loop .inv) (c .before .before .if1 .left) (c .loop-test .left), rules)
+
+pub scan-spec : {M : Type 1} → statement M
+scan-spec =
+    tie.close
+    (tie.spec
+    Inv-loop
+    μ-loop
+    returns
+    loop-holds
+    record-at-requires
+    returns-2
+    add-if3
+    has-type-requires
+    one-if-requires
+    add-count
+    add-at
+    loop-less
+    loop-again
+    returns-3)

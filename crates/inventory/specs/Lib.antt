@@ -1,0 +1,4 @@
+pub mod Inventory
+pub mod Listing
+pub mod Scanning
+pub mod Claims

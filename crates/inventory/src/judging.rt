@@ -1,0 +1,77 @@
+// Judging a record of the inventory.
+ghost use mathlib.Core.Path.{_≡_};
+ghost use mathlib.Core.Bool.{cond};
+ghost use Prim.Native.Nat.{_+_, _≤_, _<_};
+ghost use lib.ListN.{length, drop};
+ghost use lib.Seq.{slice};
+ghost use Rattle.records.specs.Records.{sizeOf, firstRecord};
+ghost use Rattle.inventory.specs.Inventory.{zeroCount, framedAt, goodSize};
+ghost use Rattle.inventory.specs.Listing.{matches};
+
+// A test as a number, to be added.
+pub fn one_if(b: bool) -> usize
+    ensures { λ r. ⌜ r ≡ cond b 1 0 ⌝ }
+{
+    if b { 1 } else { 0 }
+}
+
+// How many bytes from one place up to another are zero. It does not stop at the first, so that many are looked at at once.
+fn zero_bytes(s: &[u8], from: usize, to: usize) -> usize
+    requires { ⌜ (from ≤ to) × (to ≤ length (now s)) ⌝ }
+    ensures { λ r. ⌜ r ≡ zeroCount (slice from to (now (s .entry))) ⌝ }
+{
+    let mut i = from;
+    let mut zeros: usize = 0;
+    while i < to {
+        zeros += one_if(s[i] == 0);
+        i += 1;
+    }
+    zeros
+}
+
+// The size of the record at a place, or 0 where no good record stands there.
+pub fn record_at(s: &[u8], at: usize) -> usize
+    requires { ⌜ at < length (now s) ⌝ }
+    ensures { λ r. ⌜ r ≡ goodSize (drop at (now (s .entry))) ⌝ }
+{
+    let left = s.len() - at;
+    if left < 15 {
+        return 0;
+    }
+    let frame = records::read_frame(s, at);
+    let size = records::record_size(frame);
+    if !is_framed(left, size, frame.kind, words::read_le16(s, at + 4)) {
+        return 0;
+    }
+    if 0 < zero_bytes(s, at + 14, at + size) {
+        return 0;
+    }
+    size
+}
+
+// Whether a record of this size, kind and flag can stand where so many bytes are left.
+fn is_framed(left: usize, size: usize, kind: u16, flag: u16) -> bool
+    ensures { λ r. ⌜ r ≡ framedAt left size kind flag ⌝ }
+{
+    if size < 15 {
+        return false;
+    }
+    if 93 < size {
+        return false;
+    }
+    if left < size {
+        return false;
+    }
+    if kind != 16 {
+        return false;
+    }
+    flag <= 1
+}
+
+// Whether a record at a place has this flag and type.
+pub fn has_type(s: &[u8], at: usize, flag: u32, kind: u32) -> bool
+    requires { ⌜ (14 ≤ sizeOf (drop at (now s))) × (at + sizeOf (drop at (now s)) ≤ length (now s)) ⌝ }
+    ensures { λ r. ⌜ r ≡ matches flag kind (firstRecord (drop at (now (s .entry)))) ⌝ }
+{
+    words::read_le16(s, at + 4) as u32 == flag && words::read_le32(s, at + 6) == kind
+}

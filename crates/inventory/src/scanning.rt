@@ -1,0 +1,38 @@
+// The scan: the inventory judged, its entries of a flag and type counted, and the entry due found, in one pass.
+ghost use Rattle.inventory.specs.Claims.{WellFormedCases, SizeLimit};
+ghost use Rattle.inventory.specs.Scanning.{Tells};
+use crate::judging::has_type;
+use crate::judging::one_if;
+use crate::judging::record_at;
+
+// What a scan finds: the number of entries, and the place of the entry due, which means nothing where there is none.
+pub enum Judgement {
+    Malformed,
+    Counted(usize, usize),
+}
+
+// The inventory judged, and its entries of a flag and type counted. Entries are numbered from 1.
+pub fn scan(inventory: &[u8], flag: u32, kind: u32, number: usize) -> Judgement
+    ensures { λ r. ⌜ Tells flag kind number (now (inventory .entry)) r ⌝ }
+    ensures rules { λ _. ⌜ WellFormedCases × SizeLimit ⌝ }
+{
+    if 1048576 < inventory.len() {
+        return Judgement::Malformed;
+    }
+    let mut at: usize = 0;
+    let mut count: usize = 0;
+    let mut due: usize = 0;
+    while at < inventory.len() {
+        let size = record_at(inventory, at);
+        if size == 0 {
+            return Judgement::Malformed;
+        }
+        // The next entry is the one due: the last place noted so is its own.
+        if count + 1 == number {
+            due = at;
+        }
+        count += one_if(has_type(inventory, at, flag, kind));
+        at += size;
+    }
+    Judgement::Counted(count, due)
+}
