@@ -24,10 +24,10 @@ and-right true b e = e
 and-right false b e = absurd (false≢true e)
 
 -- what the code's test of the numbers tells
-pub framed-bounds : (left n kind flag : ℕ) → framedAt left n kind flag ≡ true → (15 ≤ n) × (n ≤ left)
+pub framed-bounds : (left n kind flag : ℕ) → framedAt left n kind flag ≡ true → (15 ≤ n) × (n ≤ 93) × (n ≤ left)
 framed-bounds left n kind flag e =
-    let more = and-right (leb n 93) _ (and-right (leb 15 n) _ e) in
-    (leb-true 15 n (and-left _ _ e), leb-true n left (and-left _ _ more))
+    let more = and-right (leb 15 n) _ e in
+    (leb-true 15 n (and-left _ _ e), leb-true n 93 (and-left _ _ more), leb-true n left (and-left _ _ (and-right (leb n 93) _ more)))
 
 -- the tests of a whole record, in the definition's order and in the code's
 reorder : (k f z n : Bool) → (k && (f && (z && n))) ≡ ((z && (k && f)) && n)
@@ -97,7 +97,7 @@ module _ (s : List ℕ) (at : ℕ) where
       go true false p q = rw (whole-at s at) (simp (q, and-false))
       go false u p q = rw p (simp (short-code (leb-false 15 size p), and-false))
 
-  bounds : framedHere ≡ true → (15 ≤ size) × (size ≤ length s - at)
+  bounds : framedHere ≡ true → (15 ≤ size) × (size ≤ 93) × (size ≤ length s - at)
   bounds e = framed-bounds (length s - at) size (kindOf (drop at s)) (le 2 s (at + 4)) e
 
   -- too few bytes for any record

@@ -9,19 +9,19 @@ ghost use Rattle.inventory.specs.Inventory.{zeroCount, framedAt, goodSiz
 ghost use Rattle.inventory.specs.Listing.{matches};
 
 // A test as a number, to be added.
-pub fn one_if(b: bool) -> usize
+pub fn one_if(b: bool) -> u8
     ensures { λ r. ⌜ r ≡ cond b 1 0 ⌝ }
 {
     if b { 1 } else { 0 }
 }
 
-// How many bytes from one place up to another are zero. It does not stop at the first, so that many are looked at at once.
-fn zero_bytes(s: &[u8], from: usize, to: usize) -> usize
-    requires { ⌜ (from ≤ to) × (to ≤ length (now s)) ⌝ }
+// How many of at most 255 bytes are zero. It does not stop at the first and counts in a byte, so that many are looked at at once.
+fn zero_bytes(s: &[u8], from: usize, to: usize) -> u8
+    requires { ⌜ (from ≤ to) × (to ≤ from + 255) × (to ≤ length (now s)) ⌝ }
     ensures { λ r. ⌜ r ≡ zeroCount (slice from to (now (s .entry))) ⌝ }
 {
     let mut i = from;
-    let mut zeros: usize = 0;
+    let mut zeros: u8 = 0;
     while i < to {
         zeros += one_if(s[i] == 0);
         i += 1;

@@ -31,7 +31,7 @@ pub fn scan(inventory: &[u8], flag: u32, kind: u32, number: usize) -> Judgement
         if count + 1 == number {
             due = at;
         }
-        count += one_if(has_type(inventory, at, flag, kind));
+        count += one_if(has_type(inventory, at, flag, kind)) as usize;
         at += size;
     }
     Judgement::Counted(count, due)

@@ -48,7 +48,7 @@ judged c zeros z =
 returns-2 : tie.Need-returns-2
 returns-2 c = none-given (now (c .before .before .before .before .before .before .before .args .s)) (c .before .before .before .before .before .before .before .args .at) (judged (c .before) _ refl ∙ rw (not-true (c .before .is-framed .result) (c .if2 .taken)))
 
-fits : (c : tie.Else2) → (15 ≤ c .before .before .before .record-size .result) × (c .before .before .before .record-size .result ≤ length (now (c .before .before .before .before .before .before .before .args .s)) - c .before .before .before .before .before .before .before .args .at)
+fits : (c : tie.Else2) → (15 ≤ c .before .before .before .record-size .result) × (c .before .before .before .record-size .result ≤ 93) × (c .before .before .before .record-size .result ≤ length (now (c .before .before .before .before .before .before .before .args .s)) - c .before .before .before .before .before .before .before .args .at)
 fits c = framed-bounds _ _ (c .before .before .before .before .read-frame .result .kind) (c .before .before .read-le16 .result) (sym (c .before .is-framed .ensures) ∙ not-false _ (c .if2 .left))
 
 add-zero-bytes : tie.Need-add-zero-bytes

@@ -14,13 +14,13 @@ use Rattle.inventory.proofs.judging.zero_bytes.Statement.{statement}
 use Rattle.inventory.proofs.judging.zero_bytes.Tie as tie
 
 abbrev Inv-loop : tie.InvT-loop
-Inv-loop s from to i₀ zeros₀ i zeros = (i ≤ to) × (zeros ≤ i) × (zeroCount (slice from to s) ≡ zeros + zeroCount (slice i to s))
+Inv-loop s from to i₀ zeros₀ i zeros = (i ≤ to) × (from ≤ i) × (zeros ≤ i - from) × (zeroCount (slice from to s) ≡ zeros + zeroCount (slice i to s))
 
 abbrev μ-loop : tie.MeasureT-loop
 μ-loop s from to i₀ zeros₀ i zeros = to - i
 
 loop-holds : tie.Need-loop-holds Inv-loop μ-loop
-loop-holds c = (search needs, search needs, sym (zero-add _))
+loop-holds c = (search needs, search needs, search needs, sym (zero-add _))
 
 shared-slice-read-one-if : tie.Need-shared-slice-read-one-if Inv-loop μ-loop
 shared-slice-read-one-if c = search needs
@@ -41,7 +41,7 @@ loop-less : tie.Need-loop-less Inv-loop μ-loop
 loop-less c = search needs
 
 loop-again : tie.Need-loop-again Inv-loop μ-loop
-loop-again c = (search needs, omega (arith, one c), omega (arith, c .before .before .before .loop .inv .2, c .one-if .ensures, zero-count-next (now (c .before .before .before .before .before .args .s)) (c .before .before .before .loop .i) (c .before .before .before .before .before .args .to) (omega arith) (omega arith)))
+loop-again c = (search needs, search needs, omega (arith, one c), omega (arith, c .before .before .before .loop .inv .2, c .one-if .ensures, zero-count-next (now (c .before .before .before .before .before .args .s)) (c .before .before .before .loop .i) (c .before .before .before .before .before .args .to) (omega arith) (omega arith)))
 
 returns : tie.Need-returns Inv-loop μ-loop
 returns c = omega (arith, c .before .loop .inv .2, zero-count-end (now (c .before .before .before .args .s)) (c .before .loop .i) (c .before .before .before .args .to) (omega arith))

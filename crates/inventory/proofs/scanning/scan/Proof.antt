@@ -51,6 +51,9 @@ one-if-requires c κs = search needs
 one : (c : tie.After-one-if Inv-loop μ-loop) → c .one-if .result ≤ 1
 one c = rw (c .one-if .ensures) (one-if-le (c .before .has-type .result))
 
+cast-count : tie.Need-cast-count Inv-loop μ-loop
+cast-count c = search needs
+
 add-count : tie.Need-add-count Inv-loop μ-loop
 add-count c = omega (arith, one c, c .before .before .before .before .before .before .loop .inv .few)
 
@@ -82,6 +85,7 @@ scan-spec =
     add-if3
     has-type-requires
     one-if-requires
+    cast-count
     add-count
     add-at
     loop-less
