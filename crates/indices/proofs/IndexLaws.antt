@@ -1,0 +1,234 @@
+-- Laws of reading an index work area.
+use mathlib.Core.Path.{_≡_, refl, sym, ap, _∙_}
+use mathlib.Core.Bool.{Bool, true, false, cond, not}
+use mathlib.Core.List.{List, [], _∷_}
+use Prim.Native.Nat.{ℕ, zero, suc, _+_, _-_, _<_, _≤_, min}
+use native.Mathlib.Nat.{zero-add, add-zero, add-assoc}
+use native.Mathlib.Numerals.{add-one}
+use native.Mathlib.Omega.{arith}
+use lib.Dec.{leb, ltb, eqb}
+use lib.ListN.{length, take, drop, getD, length-take, length-drop}
+use lib.Seq.{take-length, take-nil, drop-nil, take-take, drop-drop, slice, slice-cons, slice-empty, length-slice}
+use borrow.Author.Tests.{eq-eqb, ne-eqb, ltb-false, lt-ltb, le-ltb, le-leb, lt-leb}
+use Rattle.words.specs.Numbers.{be32, zeros}
+use Rattle.inventory.specs.Listing.{Entry}
+use Rattle.indices.specs.declared.reading.Refusal.{Refusal}
+use Rattle.indices.specs.declared.reading.Refusal.the-variants.{Short, Past, Length, Code}
+use Rattle.indices.specs.declared.reading.Fault.{Fault}
+use Rattle.indices.specs.declared.reading.Fault.the-variants.{Fine, Bad}
+use Rattle.indices.specs.declared.reading.Check.{Check}
+use Rattle.indices.specs.declared.reading.Check.the-variants.{Entries, Refused}
+use Rattle.indices.specs.Reading.{lengthAt, fieldAt, codeIn, goodLength, goodField, faultAt, entryAt, Reading, read, refused, withEntry, judgedBy, readFrom, reading, checkOf}
+use Rattle.indices.specs.Cursor.{entriesFrom, remaining, EntriesInOrder}
+
+-- ---- the code of a field
+
+module _ (s : List ℕ) (i to : ℕ) (more : i < to) (fits : to ≤ length s) where
+  pub code-next : (getD s i 0 ≡ 0 → ⊥) → i + length (codeIn (slice i to s)) ≡ i + 1 + length (codeIn (slice (i + 1) to s))
+  unfolding codeIn
+  code-next h = rw (add-one i, slice-cons i to s 0 more fits, ne-eqb (getD s i 0) 0 h) (omega arith)
+
+  pub code-here : getD s i 0 ≡ 0 → i + length (codeIn (slice i to s)) ≡ i
+  unfolding codeIn
+  code-here h = rw (slice-cons i to s 0 more fits, eq-eqb (getD s i 0) 0 h, add-zero i)
+
+pub code-none : (s : List ℕ) (i to : ℕ) → i ≡ to → i + length (codeIn (slice i to s)) ≡ to
+unfolding codeIn
+code-none s i to e = rw (e, slice-empty to s, add-zero to)
+
+-- a code is the front of its field
+code-short : (f : List ℕ) → length (codeIn f) ≤ length f
+unfolding codeIn
+code-short [] = omega arith
+code-short (b ∷ bs) = go (eqb b 0) (code-short bs)
+  where
+    go : (t : Bool) → length (codeIn bs) ≤ length bs → length (cond t [] (b ∷ codeIn bs)) ≤ suc (length bs)
+    go true h = omega arith
+    go false h = omega arith
+
+code-front : (f : List ℕ) → codeIn f ≡ take (length (codeIn f)) f
+unfolding codeIn
+code-front [] = refl
+code-front (b ∷ bs) = go (eqb b 0) (code-front bs)
+  where
+    go : (t : Bool) → codeIn bs ≡ take (length (codeIn bs)) bs → cond t [] (b ∷ codeIn bs) ≡ take (length (cond t [] (b ∷ codeIn bs))) (b ∷ bs)
+    go true e = refl
+    go false e = ap (λ (l : List ℕ). b ∷ l) e
+
+-- the judgement on a field whose code ends at a place
+module _ (s : List ℕ) (from to end : ℕ) (fits : (from ≤ to) × (to ≤ length s)) (found : end ≡ from + length (codeIn (slice from to s))) where
+  size : length (slice from to s) ≡ to - from
+  size = length-slice from to s (fits .1)
+
+  pub field-empty : end ≤ from → false ≡ goodField (slice from to s)
+  unfolding goodField
+  field-empty h = rw (lt-leb 1 (length (codeIn (slice from to s))) (omega arith))
+
+  module _ (some : from < end) where
+    non-empty : leb 1 (length (codeIn (slice from to s))) ≡ true
+    non-empty = le-leb 1 (length (codeIn (slice from to s))) (omega arith)
+
+    pub field-open : to ≤ end → false ≡ goodField (slice from to s)
+    unfolding goodField
+    field-open h = rw (non-empty, size, lt-leb (length (codeIn (slice from to s)) + 1) (to - from) (omega arith))
+
+    module _ (ended : end < to) where
+      one-nul : leb (length (codeIn (slice from to s)) + 1) (to - from) ≡ true
+      one-nul = le-leb (length (codeIn (slice from to s)) + 1) (to - from) (omega arith)
+
+      pub field-long : end + 4 < to → false ≡ goodField (slice from to s)
+      unfolding goodField
+      field-long h = rw (non-empty, size, one-nul, lt-leb (to - from) (length (codeIn (slice from to s)) + 4) (omega arith))
+
+      pub field-zeros : to ≤ end + 4 → zeros (slice end to s) ≡ goodField (slice from to s)
+      unfolding goodField
+      field-zeros h = rw (non-empty, size, one-nul, le-leb (to - from) (length (codeIn (slice from to s)) + 4) (omega arith), drop-drop (length (codeIn (slice from to s))) from (take to s), ← found)
+
+-- ---- the field of a set
+
+-- a part by its start and its length
+part : (f n : ℕ) (l : List ℕ) → slice f (f + n) l ≡ take n (drop f l)
+part zero n l = rw (zero-add n)
+part (suc f) n [] = rw (take-nil (suc f + n), drop-nil (suc f), take-nil n)
+part (suc f) n (x ∷ l) = let e : suc f + n ≡ suc (f + n) = omega arith in rw e (part f n l)
+
+take-min : (n : ℕ) (l : List ℕ) → take n l ≡ take (min n (length l)) l
+take-min n l = sym (take-length (take n l)) ∙ ap (λ (k : ℕ). take k (take n l)) (length-take n l) ∙ take-take (min n (length l)) n l (omega arith)
+
+pub field-part : (area : List ℕ) (at n : ℕ) → n ≡ lengthAt area at → slice (at + 8) (at + 8 + n) area ≡ fieldAt area at
+unfolding fieldAt
+field-part area at n e = rw (part (at + 8) n area, e)
+
+-- as much of a field as there is
+field-there : (area : List ℕ) (at n k : ℕ) → n ≡ lengthAt area at → k ≡ min n (length area - at - 8) → slice (at + 8) (at + 8 + k) area ≡ fieldAt area at
+unfolding fieldAt
+field-there area at n k e m =
+    let there : k ≡ min n (length (drop (at + 8) area)) = omega (arith, length-drop (at + 8) area) in
+    rw (part (at + 8) k area, ← e, there) (sym (take-min n (drop (at + 8) area)))
+
+-- the code of a set as a part of the area
+code-part : (area : List ℕ) (at : ℕ) → codeIn (fieldAt area at) ≡ take (length (codeIn (fieldAt area at))) (drop (at + 8) area)
+unfolding fieldAt
+code-part area at =
+    let n = lengthAt area at in
+    let l = drop (at + 8) area in
+    code-front (take n l) ∙ take-take (length (codeIn (take n l))) n l (omega (arith, code-short (take n l), length-take n l))
+
+-- ---- the check of an area from a place on
+
+-- a set with no fault is inside the area
+fault-none : (a b c d : Bool) → cond a (Bad Past) (cond (not b) (Bad Length) (cond c (Bad Past) (cond (not d) (Bad Code) Fine))) ≡ Fine → c ≡ false
+fault-none true b c d h = cc
+fault-none false false c d h = cc
+fault-none false true true d h = cc
+fault-none false true false d h = refl
+
+pub fine-inside : (area : List ℕ) (at : ℕ) → faultAt area at ≡ Fine → 8 + lengthAt area at ≤ length area - at
+unfolding faultAt
+fine-inside area at e = ltb-false (length area - at) (8 + lengthAt area at) (fault-none (ltb (length area - at) 8) (goodLength (lengthAt area at)) (ltb (length area - at) (8 + lengthAt area at)) (goodField (fieldAt area at)) e)
+
+one-less : (n : ℕ) → suc n - 1 ≡ n
+one-less n = omega arith
+
+-- the sets that are left, by the first of them
+read-next : (n : ℕ) (area : List ℕ) (at : ℕ) → 0 < n → readFrom n area at ≡ judgedBy (faultAt area at) at (withEntry (entryAt area at) (readFrom (n - 1) area (at + (8 + lengthAt area at))))
+unfolding readFrom
+read-next zero area at h = absurd (omega arith)
+read-next (suc n) area at h = rw (one-less n)
+
+-- what a check tells that has passed so many sets
+abbrev counted : ℕ → Reading → Check
+counted n (read es) = Entries (n + length es)
+counted n (refused r at) = Refused r at
+
+counted-none : (r : Reading) → checkOf r ≡ counted 0 r
+counted-none (read es) = ap Entries (sym (zero-add (length es)))
+counted-none (refused r at) = refl
+
+counted-more : (n : ℕ) (e : Entry) (r : Reading) → counted n (withEntry e r) ≡ counted (n + 1) r
+counted-more n e (read es) = let more : n + suc (length es) ≡ n + 1 + length es = omega arith in ap Entries more
+counted-more n e (refused r at) = refl
+
+-- a check that stands at the place of a set: what it finds from there on is what the whole check finds
+pub record Stands (area : List ℕ) (count at passed : ℕ) : Type 0 where
+  pub inside : at ≤ length area
+  pub few : passed ≤ count
+  pub finds : checkOf (reading area) ≡ counted passed (readFrom (count - passed) area at)
+
+pub short-area : (area : List ℕ) → length area < 4 → Refused Short 0 ≡ checkOf (reading area)
+unfolding reading
+short-area area h = rw (lt-ltb (length area) 4 h)
+
+pub stands-first : (area : List ℕ) (count : ℕ) → 4 ≤ length area → count ≡ be32 area 0 → Stands area count 4 0
+unfolding reading
+stands-first area count h e =
+    let all : count - 0 ≡ count = omega arith in
+    record { inside = h; few = omega arith; finds = rw (le-ltb (length area) 4 h, all, e) (counted-none (readFrom (be32 area 0) area 4)) }
+
+module _ (area : List ℕ) (count at passed : ℕ) (s : Stands area count at passed) where
+  pub stands-end : count ≤ passed → Entries count ≡ checkOf (reading area)
+  unfolding readFrom
+  stands-end h =
+      let none : count - passed ≡ 0 = omega arith in
+      let all : passed + 0 ≡ count = omega (arith, s .few) in
+      rw (s .finds, none, all)
+
+  module _ (more : passed < count) where
+    ahead : readFrom (count - passed) area at ≡ judgedBy (faultAt area at) at (withEntry (entryAt area at) (readFrom (count - passed - 1) area (at + (8 + lengthAt area at))))
+    ahead = read-next (count - passed) area at (omega arith)
+
+    pub stands-bad : (r : Refusal) → faultAt area at ≡ Bad r → Refused r at ≡ checkOf (reading area)
+    stands-bad r e = rw (s .finds, ahead, e)
+
+    pub stands-fine : (n : ℕ) → n ≡ be32 area (at + 4) → faultAt area at ≡ Fine → Stands area count (at + 8 + n) (passed + 1)
+    unfolding lengthAt
+    stands-fine n l e =
+        let less : count - passed - 1 ≡ count - (passed + 1) = omega arith in
+        record {
+          inside = omega (arith, fine-inside area at e);
+          few = omega arith;
+          finds = rw (s .finds, ahead, e, less, ← l, ← add-assoc at 8 n) (counted-more passed (entryAt area at) (readFrom (count - (passed + 1)) area (at + 8 + n)));
+        }
+
+-- ---- the entries from a place on
+
+pub entries-short : (n : ℕ) (area : List ℕ) (at : ℕ) → length area - at < 8 → entriesFrom n area at ≡ []
+unfolding entriesFrom
+entries-short zero area at h = refl
+entries-short (suc n) area at h = rw (lt-ltb (length area - at) 8 h)
+
+entries-next : (n : ℕ) (area : List ℕ) (at : ℕ) → 0 < n → 8 ≤ length area - at → entriesFrom n area at ≡ entryAt area at ∷ entriesFrom (n - 1) area (at + (8 + lengthAt area at))
+unfolding entriesFrom
+entries-next zero area at l h = absurd (omega arith)
+entries-next (suc n) area at l h = rw (one-less n, le-ltb (length area - at) 8 h)
+
+-- the first of them, by where its code stands
+pub entries-step : (left : ℕ) (area : List ℕ) (at n k end : ℕ) → 0 < left → 8 ≤ length area - at → n ≡ be32 area (at + 4) → k ≡ min n (length area - at - 8)
+    → end ≡ at + 8 + length (codeIn (slice (at + 8) (at + 8 + k) area))
+    → entriesFrom left area at ≡ record { index = be32 area at; code = take (end - (at + 8)) (drop (at + 8) area) } ∷ entriesFrom (left - 1) area (at + (8 + n))
+unfolding lengthAt
+entries-step left area at n k end some room size there e =
+    let long : end - (at + 8) ≡ length (codeIn (slice (at + 8) (at + 8 + k) area)) = omega arith in
+    rw (entries-next left area at some room, long, field-there area at n k size there, ← code-part area at, size)
+
+-- ---- the entries of a reading, in order
+
+in-order : (n : ℕ) (area : List ℕ) (at : ℕ) (es : List Entry) → readFrom n area at ≡ read es → entriesFrom n area at ≡ es
+unfolding readFrom entriesFrom
+in-order zero area at es e = cc
+in-order (suc n) area at es e =
+    go (faultAt area at) refl (readFrom n area (at + (8 + lengthAt area at))) (in-order n area (at + (8 + lengthAt area at))) e
+  where
+    go : (f : Fault) → faultAt area at ≡ f → (r : Reading) → ((ds : List Entry) → r ≡ read ds → entriesFrom n area (at + (8 + lengthAt area at)) ≡ ds) → judgedBy f at (withEntry (entryAt area at) r) ≡ read es
+        → cond (ltb (length area - at) 8) [] (entryAt area at ∷ entriesFrom n area (at + (8 + lengthAt area at))) ≡ es
+    go (Bad b) g r more h = cc
+    go Fine g (refused b k) more h = cc
+    go Fine g (read ds) more h = rw (le-ltb (length area - at) 8 (omega (arith, fine-inside area at g)), more ds refl) (cc)
+
+pub entries-in-order : EntriesInOrder
+unfolding reading remaining
+entries-in-order area es e = go (ltb (length area) 4) e
+  where
+    go : (t : Bool) → cond t (refused Short 0) (readFrom (be32 area 0) area 4) ≡ read es → entriesFrom (cond t 0 (be32 area 0)) area 4 ≡ es
+    go true h = cc
+    go false h = in-order (be32 area 0) area 4 es h

@@ -1,0 +1,106 @@
+-- `reading::fault_at` meets its contract.
+use mathlib.Core.Path.{_≡_, sym, ap, _∙_}
+use mathlib.Core.Bool.{true, false}
+use Prim.Native.Nat.{_+_, _-_}
+use lib.Dec.{ltb}
+use lib.ListN.{length}
+use borrow.Author.Tests.{lt-ltb, le-ltb, not-false}
+use borrow.Author.Needs.{needs}
+use denote.Ref.{now}
+use Rattle.indices.proofs.IndexLaws.{field-part}
+use Rattle.indices.specs.Reading.{lengthAt, fieldAt, goodLength, goodField, faultAt}
+use Rattle.indices.proofs.reading.fault_at.Statement.{statement}
+use Rattle.indices.proofs.reading.fault_at.Tie as tie
+
+-- what the calls found
+length-read : (c : tie.After-read-be32) → c .read-be32 .result ≡ lengthAt (now (c .before .before .before .args .area)) (c .before .before .before .args .at)
+unfolding lengthAt
+length-read c = c .read-be32 .ensures
+
+length-told : (c : tie.After-is-length) → c .is-length .result ≡ goodLength (lengthAt (now (c .before .before .before .before .args .area)) (c .before .before .before .before .args .at))
+length-told c = c .is-length .ensures ∙ ap goodLength (length-read (c .before))
+
+field-told : (c : tie.After-is-field) → c .is-field .result ≡ goodField (fieldAt (now (c .before .before .before .before .before .before .before .args .area)) (c .before .before .before .before .before .before .before .args .at))
+field-told c = c .is-field .ensures ∙ ap goodField (field-part (now (c .before .before .before .before .before .before .before .args .area)) (c .before .before .before .before .before .before .before .args .at) (c .before .before .before .before .read-be32 .result) (length-read (c .before .before .before .before)))
+
+-- eight bytes and a good length
+known : (c : tie.Else2) → (ltb (length (now (c .before .before .before .before .before .args .area)) - c .before .before .before .before .before .args .at) 8 ≡ false) × (goodLength (lengthAt (now (c .before .before .before .before .before .args .area)) (c .before .before .before .before .before .args .at)) ≡ true)
+known c = (le-ltb _ 8 (c .before .before .before .if1 .left), sym (length-told (c .before)) ∙ not-false _ (c .if2 .left))
+
+-- and a field inside the area
+inside : (c : tie.Else3) → ltb (length (now (c .before .before .before .before .before .before .args .area)) - c .before .before .before .before .before .before .args .at) (8 + lengthAt (now (c .before .before .before .before .before .before .args .area)) (c .before .before .before .before .before .before .args .at)) ≡ false
+inside c = rw (← length-read (c .before .before .before)) (le-ltb _ _ (c .if3 .left))
+
+sub-left : tie.Need-sub-left
+sub-left c = search needs
+
+returns : tie.Need-returns
+unfolding faultAt
+returns c = rw (lt-ltb _ 8 (c .if1 .taken))
+
+add-read-be32 : tie.Need-add-read-be32
+add-read-be32 c = search needs
+
+read-be32-requires : tie.Need-read-be32-requires
+read-be32-requires c κs = search needs
+
+is-length-requires : tie.Need-is-length-requires
+is-length-requires c κs = search needs
+
+returns-2 : tie.Need-returns-2
+unfolding faultAt
+returns-2 c = rw (le-ltb _ 8 (c .before .before .before .if1 .left), ← length-told (c .before), c .if2 .taken)
+
+cast-if3 : tie.Need-cast-if3
+cast-if3 c = search needs
+
+add-if3 : tie.Need-add-if3
+add-if3 c = search needs
+
+returns-3 : tie.Need-returns-3
+unfolding faultAt
+returns-3 c = rw (known (c .before) .0, known (c .before) .1, ← length-read (c .before .before .before), lt-ltb _ _ (c .if3 .taken))
+
+add-is-field : tie.Need-add-is-field
+add-is-field c = search needs
+
+add-is-field-2 : tie.Need-add-is-field-2
+add-is-field-2 c = search needs
+
+cast-is-field : tie.Need-cast-is-field
+cast-is-field c = search needs
+
+add-is-field-3 : tie.Need-add-is-field-3
+add-is-field-3 c = search needs
+
+is-field-requires : tie.Need-is-field-requires
+is-field-requires c κs = search needs
+
+returns-4 : tie.Need-returns-4
+unfolding faultAt
+returns-4 c = rw (known (c .before .before .before) .0, known (c .before .before .before) .1, inside (c .before .before), ← field-told (c .before), c .if4 .taken)
+
+returns-5 : tie.Need-returns-5
+unfolding faultAt
+returns-5 c = rw (known (c .before .before .before) .0, known (c .before .before .before) .1, inside (c .before .before), ← field-told (c .before), c .if4 .left)
+
+pub fault-at-spec : {M : Type 1} → statement M
+fault-at-spec =
+    tie.close
+    (tie.spec
+    sub-left
+    returns
+    add-read-be32
+    read-be32-requires
+    is-length-requires
+    returns-2
+    cast-if3
+    add-if3
+    returns-3
+    add-is-field
+    add-is-field-2
+    cast-is-field
+    add-is-field-3
+    is-field-requires
+    returns-4
+    returns-5)

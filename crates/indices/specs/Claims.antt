@@ -1,0 +1,81 @@
+-- Readings of index work areas on both sides of each line, cited by the contract of `check_area`.
+use Prim.Native.Nat.{ℕ}
+use mathlib.Core.Bool.{Bool, true, false, _&&_}
+use mathlib.Core.List.{List, [], _∷_, _++_}
+use lib.Dec.{T, eqb}
+use lib.ListN.{replicate}
+use Rattle.words.specs.Numbers.{beBytes}
+use Rattle.indices.specs.declared.reading.Check.{Check}
+use Rattle.indices.specs.declared.reading.Check.the-variants.{Entries, Refused}
+use Rattle.indices.specs.Reading.{refusalNumber, reading, checkOf}
+
+-- what a check is to find: a number of entries, or the number of a refusal and its byte offset
+pub data Found : Type 0 where
+  entries : ℕ → Found
+  refusal : ℕ → ℕ → Found
+
+pub record ReadingCase : Type 0 where
+  pub area : List ℕ
+  pub finds : Found
+
+-- an area of a count and what stands behind it
+abbrev pub case : ℕ → List ℕ → Found → ReadingCase
+case count sets found = record { area = beBytes 4 count ++ sets; finds = found }
+
+-- a set of index 7: its length, and the bytes behind it
+abbrev pub set : ℕ → List ℕ → List ℕ
+set n bytes = beBytes 4 7 ++ (beBytes 4 n ++ bytes)
+
+-- so many letters, then so many NULs
+abbrev pub field : ℕ → ℕ → List ℕ
+field letters nuls = replicate letters 65 ++ replicate nuls 0
+
+abbrev pub readingCases : List ReadingCase
+readingCases =
+    -- under 4 bytes, and a count of 0
+    record { area = []; finds = refusal 30 0 }
+    ∷ record { area = 0 ∷ 0 ∷ 0 ∷ []; finds = refusal 30 0 }
+    ∷ case 0 [] (entries 0)
+    -- codes of three and of four bytes, the shortest and the longest
+    ∷ case 1 (set 4 (field 3 1)) (entries 1)
+    ∷ case 1 (set 8 (field 4 4)) (entries 1)
+    ∷ case 1 (set 4 (field 1 3)) (entries 1)
+    ∷ case 1 (set 80 (field 79 1)) (entries 1)
+    -- under 8 bytes left
+    ∷ case 1 [] (refusal 31 4)
+    ∷ case 1 (beBytes 4 7 ++ (0 ∷ 0 ∷ 0 ∷ [])) (refusal 31 4)
+    -- lengths
+    ∷ case 1 (set 0 []) (refusal 32 4)
+    ∷ case 1 (set 5 (field 4 1)) (refusal 32 4)
+    ∷ case 1 (set 84 (field 80 4)) (refusal 32 4)
+    -- past the end, and a length that is refused before it
+    ∷ case 1 (set 80 (field 78 1)) (refusal 31 4)
+    ∷ case 1 (set 84 (field 78 1)) (refusal 32 4)
+    -- an empty code, no NUL, five NULs, a byte after a NUL
+    ∷ case 1 (set 4 (field 0 4)) (refusal 33 4)
+    ∷ case 1 (set 4 (field 4 0)) (refusal 33 4)
+    ∷ case 1 (set 8 (field 3 5)) (refusal 33 4)
+    ∷ case 1 (set 8 (field 4 3 ++ field 1 0)) (refusal 33 4)
+    -- counts larger than what is there
+    ∷ case 2 (set 4 (field 3 1)) (refusal 31 16)
+    ∷ case 4294967295 (set 4 (field 3 1)) (refusal 31 16)
+    -- bytes after the last set
+    ∷ case 0 (set 0 []) (entries 0)
+    ∷ case 1 (set 4 (field 3 1) ++ field 5 0) (entries 1)
+    -- a second set
+    ∷ case 2 (set 4 (field 3 1) ++ set 8 (field 4 4)) (entries 2)
+    ∷ case 2 (set 4 (field 3 1) ++ set 8 (field 3 5)) (refusal 33 16)
+    ∷ []
+
+abbrev pub agrees : Check → Found → Bool
+agrees (Entries n) (entries m) = eqb n m
+agrees (Entries n) (refusal r at) = false
+agrees (Refused f k) (entries m) = false
+agrees (Refused f k) (refusal r at) = eqb (refusalNumber f) r && eqb k at
+
+abbrev pub allAgree : List ReadingCase → Bool
+allAgree [] = true
+allAgree (c ∷ cs) = agrees (checkOf (reading (c .area))) (c .finds) && allAgree cs
+
+abbrev pub ReadingCases : Type 0
+ReadingCases = T (allAgree readingCases)

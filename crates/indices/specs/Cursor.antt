@@ -1,0 +1,42 @@
+-- Reading the entries of an index work area one at a time.
+use mathlib.Core.Path.{_≡_}
+use mathlib.Core.Bool.{cond}
+use mathlib.Core.List.{List, [], _∷_}
+use Prim.Native.Nat.{ℕ, zero, suc, _+_, _-_}
+use lib.Dec.{ltb}
+use lib.ListN.{length, take, drop}
+use Rattle.inventory.specs.Listing.{Entry}
+use Rattle.words.specs.Numbers.{be32}
+use Rattle.indices.specs.declared.reading.Cursor.{Cursor}
+use Rattle.indices.specs.declared.reading.Set.{Set}
+use Rattle.indices.specs.declared.reading.Next.{Next}
+use Rattle.indices.specs.declared.reading.Next.the-variants.{Found, End}
+use Rattle.indices.specs.Reading.{lengthAt, entryAt, read, reading}
+
+-- the entries of n sets from a byte offset on, as far as there are eight bytes for each
+unfoldable pub entriesFrom : ℕ → List ℕ → ℕ → List Entry
+entriesFrom zero area at = []
+entriesFrom (suc n) area at =
+    let more = entryAt area at ∷ entriesFrom n area (at + (8 + lengthAt area at)) in
+    cond (ltb (length area - at) 8) [] more
+
+-- the entries that a cursor has before it
+unfoldable pub remaining : List ℕ → Cursor → List Entry
+remaining area c = entriesFrom (c .left) area (c .at)
+
+-- the entry that a set tells: its index, and its code as a part of the area
+abbrev pub entryIn : List ℕ → Set → Entry
+entryIn area s = record { index = s .index; code = take (s .length) (drop (s .start) area) }
+
+-- a step gives the first of a list, with a cursor that has the rest before it, or the end where the list is empty
+abbrev pub Gives : List ℕ → List Entry → Next → Type 0
+Gives area es End = es ≡ []
+Gives area es (Found s c) = es ≡ entryIn area s ∷ remaining area c
+
+-- before the first set; an area of under 4 bytes has none
+abbrev pub startOf : List ℕ → Cursor
+startOf area = record { at = 4; left = cond (ltb (length area) 4) 0 (be32 area 0) }
+
+-- From the start a cursor has the entries of the area's reading before it, in order.
+abbrev pub EntriesInOrder : Type 0
+EntriesInOrder = (area : List ℕ) (es : List Entry) → reading area ≡ read es → remaining area (startOf area) ≡ es

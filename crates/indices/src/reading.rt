@@ -1,0 +1,197 @@
+// Reading an index work area: a check of the whole, and a cursor that gives its entries one at a time.
+ghost use mathlib.Core.Path.{_≡_};
+ghost use Prim.Native.Nat.{_+_, _≤_, min};
+ghost use lib.ListN.{length};
+ghost use lib.Seq.{slice};
+ghost use Rattle.indices.specs.Reading.{codeIn, goodLength, goodField, faultAt, reading, checkOf};
+ghost use Rattle.indices.specs.Cursor.{remaining, Gives, startOf, EntriesInOrder};
+ghost use Rattle.indices.specs.Claims.{ReadingCases};
+
+// Why an area is refused.
+pub enum Refusal {
+    Short,
+    Past,
+    Length,
+    Code,
+}
+
+pub enum Fault {
+    Fine,
+    Bad(Refusal),
+}
+
+// What a check of an area finds: the number of its entries, or a refusal with its byte offset.
+pub enum Check {
+    Entries(usize),
+    Refused(Refusal, usize),
+}
+
+// The place of the first NUL from one place up to another, or the end.
+fn code_end(s: &[u8], from: usize, to: usize) -> usize
+    requires { ⌜ (from ≤ to) × (to ≤ length (now s)) ⌝ }
+    ensures { λ r. ⌜ r ≡ from + length (codeIn (slice from to (now (s .entry)))) ⌝ }
+{
+    let mut i = from;
+    let end = loop {
+        if to <= i {
+            break to;
+        }
+        if s[i] == 0 {
+            break i;
+        }
+        i += 1;
+    };
+    end
+}
+
+fn is_length(n: u32) -> bool
+    ensures { λ r. ⌜ r ≡ goodLength n ⌝ }
+{
+    if n < 1 {
+        return false;
+    }
+    if 80 < n {
+        return false;
+    }
+    n % 4 == 0
+}
+
+// Whether a non-empty code, one to four NULs and nothing else stand from one place up to another.
+fn is_field(s: &[u8], from: usize, to: usize) -> bool
+    requires { ⌜ (from ≤ to) × (to ≤ length (now s)) ⌝ }
+    ensures { λ r. ⌜ r ≡ goodField (slice from to (now (s .entry))) ⌝ }
+{
+    let end = code_end(s, from, to);
+    if end <= from {
+        return false;
+    }
+    if to <= end {
+        return false;
+    }
+    if end + 4 < to {
+        return false;
+    }
+    words::is_zero(s, end, to)
+}
+
+// The first fault of the set at a place.
+fn fault_at(area: &[u8], at: usize) -> Fault
+    requires { ⌜ at ≤ length (now area) ⌝ }
+    ensures { λ r. ⌜ r ≡ faultAt (now (area .entry)) at ⌝ }
+{
+    let left = area.len() - at;
+    if left < 8 {
+        return Fault::Bad(Refusal::Past);
+    }
+    let n = words::read_be32(area, at + 4);
+    if !is_length(n) {
+        return Fault::Bad(Refusal::Length);
+    }
+    if left < 8 + n as usize {
+        return Fault::Bad(Refusal::Past);
+    }
+    if !is_field(area, at + 8, at + 8 + n as usize) {
+        return Fault::Bad(Refusal::Code);
+    }
+    Fault::Fine
+}
+
+// The whole area judged: the number of its entries, or the first refusal.
+pub fn check_area(area: &[u8]) -> Check
+    ensures { λ r. ⌜ r ≡ checkOf (reading (now (area .entry))) ⌝ }
+    ensures cases { λ _. ⌜ ReadingCases ⌝ }
+{
+    if area.len() < 4 {
+        return Check::Refused(Refusal::Short, 0);
+    }
+    let count = words::read_be32(area, 0) as usize;
+    let mut at: usize = 4;
+    let mut passed: usize = 0;
+    while passed < count {
+        let found = fault_at(area, at);
+        match found {
+            Fault::Bad(r) => {
+                return Check::Refused(r, at);
+            }
+            Fault::Fine => {
+                at = at + 8 + words::read_be32(area, at + 4) as usize;
+                passed += 1;
+            }
+        }
+    }
+    Check::Entries(count)
+}
+
+// Where a reader stands: so many sets are still to come from byte `at` on.
+pub struct Cursor {
+    pub at: usize,
+    pub left: usize,
+}
+
+// A set: its index, and where its code stands in the area, without its NULs.
+pub struct Set {
+    pub index: u32,
+    pub start: usize,
+    pub length: usize,
+}
+
+// What a step gives: a set with the cursor behind it, or the end.
+pub enum Next {
+    Found(Set, Cursor),
+    End,
+}
+
+fn least(a: usize, b: usize) -> usize
+    ensures { λ r. ⌜ r ≡ min a b ⌝ }
+{
+    if a < b {
+        return a;
+    }
+    b
+}
+
+impl Cursor {
+    // Before the first set; an area of under 4 bytes has none.
+    pub fn start(area: &[u8]) -> Cursor
+        ensures { λ r. ⌜ r ≡ startOf (now (area .entry)) ⌝ }
+        ensures order { λ _. ⌜ EntriesInOrder ⌝ }
+    {
+        if area.len() < 4 {
+            return Cursor { at: 4, left: 0 };
+        }
+        let left = words::read_be32(area, 0) as usize;
+        Cursor { at: 4, left }
+    }
+
+    // The next entry of an area. From the start, in an area that a check passes, the steps are its entries in order, then the end.
+    pub fn next(self, area: &[u8]) -> Next
+        ensures { λ r. ⌜ Gives (now (area .entry)) (remaining (now (area .entry)) self) r ⌝ }
+    {
+        let at = self.at;
+        let left = self.left;
+        if left == 0 {
+            return Next::End;
+        }
+        if area.len() < at {
+            return Next::End;
+        }
+        let rest = area.len() - at;
+        if rest < 8 {
+            return Next::End;
+        }
+        let n = words::read_be32(area, at + 4) as usize;
+        let start = at + 8;
+        let end = code_end(area, start, start + least(n, rest - 8));
+        Next::Found(
+            Set {
+                index: words::read_be32(area, at),
+                start,
+                length: end - start,
+            },
+            Cursor {
+                at: at + (8 + n),
+                left: left - 1,
+            },
+        )
+    }
+}
