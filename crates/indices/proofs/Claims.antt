@@ -1,8 +1,12 @@
 -- The claims about index work areas hold.
 use Rattle.words.specs.Numbers.{be, beBytes, zeros}
-use Rattle.indices.specs.Claims.{ReadingCases}
+use Rattle.indices.specs.Claims.{ReadingCases, AreaClaims}
 use Rattle.indices.specs.Reading.{lengthAt, fieldAt, codeIn, goodLength, goodField, faultAt, readFrom, reading}
+use Rattle.indices.proofs.Written.{round-trip, reads-back, holds-due, fits}
 
-pub reading-cases : ReadingCases
+reading-cases : ReadingCases
 unfolding be beBytes zeros lengthAt fieldAt codeIn goodLength goodField faultAt readFrom reading
 reading-cases = tt
+
+pub area-claims : ReadingCases × AreaClaims
+area-claims = (reading-cases, (round-trip, reads-back, holds-due, fits))

@@ -1,13 +1,45 @@
--- Readings of index work areas on both sides of each line, cited by the contract of `check_area`.
-use Prim.Native.Nat.{ℕ}
+-- Claims about index work areas, cited by the contract of `check_area`.
+use mathlib.Core.Path.{_≡_}
+use Prim.Native.Nat.{ℕ, _-_, _<_, _≤_}
 use mathlib.Core.Bool.{Bool, true, false, _&&_}
 use mathlib.Core.List.{List, [], _∷_, _++_}
 use lib.Dec.{T, eqb}
-use lib.ListN.{replicate}
-use Rattle.words.specs.Numbers.{beBytes}
+use lib.ListN.{length, replicate}
+use Rattle.words.specs.Numbers.{Bytes, beBytes}
+use Rattle.inventory.specs.Inventory.{goodCode, wellFormed}
+use Rattle.inventory.specs.Listing.{Entry, listed}
 use Rattle.indices.specs.declared.reading.Check.{Check}
 use Rattle.indices.specs.declared.reading.Check.the-variants.{Entries, Refused}
-use Rattle.indices.specs.Reading.{refusalNumber, reading, checkOf}
+use Rattle.indices.specs.Area.{run, answer, written}
+use Rattle.indices.specs.Reading.{refusalNumber, read, reading, checkOf}
+
+-- ---- "Reading what was written gives back the same entries": of any entries with 32-bit indices and good codes
+
+unfoldable pub Sound : List Entry → Type 0
+Sound [] = Unit {0}
+Sound (e ∷ es) = (e .index < 4294967296) × (goodCode (e .code) ≡ true) × Sound es
+
+abbrev pub RoundTrip : Type 0
+RoundTrip = (area : List ℕ) (es : List Entry) → length es < 4294967296 → Sound es → reading (written area es) ≡ read es
+
+-- so of every run of the entries of an inventory
+abbrev pub ReadsBack : Type 0
+ReadsBack = (area inventory : List ℕ) (flag type size number : ℕ) → Bytes inventory → wellFormed inventory ≡ true
+    → reading (written area (run size number (listed flag type inventory))) ≡ read (run size number (listed flag type inventory))
+
+-- ---- "never zero entries", "Areas of 92 bytes or more always hold the entry due"
+
+abbrev pub HoldsDue : Type 0
+HoldsDue = (size number : ℕ) (es : List Entry) → Sound es → number - 1 < length es → 92 ≤ size → 1 ≤ length (run size number es)
+
+-- the run and its count fill no more than the area
+abbrev pub Fits : Type 0
+Fits = (size number : ℕ) (es : List Entry) → 4 ≤ size → length (answer (run size number es)) ≤ size
+
+abbrev pub AreaClaims : Type 0
+AreaClaims = RoundTrip × ReadsBack × HoldsDue × Fits
+
+-- ---- readings on both sides of each line
 
 -- what a check is to find: a number of entries, or the number of a refusal and its byte offset
 pub data Found : Type 0 where

@@ -1,3 +1,4 @@
+pub mod Area
 pub mod Reading
 pub mod Cursor
 pub mod Claims

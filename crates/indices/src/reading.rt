@@ -5,7 +5,7 @@ ghost use lib.ListN.{length};
 ghost use lib.Seq.{slice};
 ghost use Rattle.indices.specs.Reading.{codeIn, goodLength, goodField, faultAt, reading, checkOf};
 ghost use Rattle.indices.specs.Cursor.{remaining, Gives, startOf, EntriesInOrder};
-ghost use Rattle.indices.specs.Claims.{ReadingCases};
+ghost use Rattle.indices.specs.Claims.{ReadingCases, AreaClaims};
 
 // Why an area is refused.
 pub enum Refusal {
@@ -99,7 +99,7 @@ fn fault_at(area: &[u8], at: usize) -> Fault
 // The whole area judged: the number of its entries, or the first refusal.
 pub fn check_area(area: &[u8]) -> Check
     ensures { λ r. ⌜ r ≡ checkOf (reading (now (area .entry))) ⌝ }
-    ensures cases { λ _. ⌜ ReadingCases ⌝ }
+    ensures claims { λ _. ⌜ ReadingCases × AreaClaims ⌝ }
 {
     if area.len() < 4 {
         return Check::Refused(Refusal::Short, 0);

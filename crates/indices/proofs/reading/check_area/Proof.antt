@@ -4,7 +4,7 @@ use Prim.Native.Nat.{_-_}
 use native.Mathlib.Omega.{arith}
 use borrow.Author.Needs.{needs}
 use denote.Ref.{now}
-use Rattle.indices.proofs.Claims.{reading-cases}
+use Rattle.indices.proofs.Claims.{area-claims}
 use Rattle.indices.proofs.IndexLaws.{fine-inside, Stands, short-area, stands-first, stands-end, stands-bad, stands-fine}
 use Rattle.indices.specs.declared.reading.Fault.the-variants.{Fine}
 use Rattle.indices.specs.Reading.{faultAt}
@@ -18,7 +18,7 @@ abbrev μ-loop : tie.MeasureT-loop
 μ-loop area count at₀ passed₀ at passed = count - passed
 
 returns : tie.Need-returns Inv-loop μ-loop
-returns c = (short-area _ (c .if1 .taken), reading-cases)
+returns c = (short-area _ (c .if1 .taken), area-claims)
 
 read-be32-requires : tie.Need-read-be32-requires Inv-loop μ-loop
 read-be32-requires c κs = search needs
@@ -36,7 +36,7 @@ enum-known-found : tie.Need-enum-known-found Inv-loop μ-loop
 enum-known-found c = search needs
 
 returns-2 : tie.Need-returns-2 Inv-loop μ-loop
-returns-2 c = (stands-bad (now (c .before .before .before .before .before .before .before .before .before .args .area)) (c .before .before .before .before .before .before .read-be32 .result) (c .before .before .before .before .before .loop .at) (c .before .before .before .before .before .loop .passed) (c .before .before .before .before .before .loop .inv) (c .before .before .before .before .loop-test .taken) _ (sym (c .before .before .before .fault-at .ensures) ∙ c .before .found .given .1), reading-cases)
+returns-2 c = (stands-bad (now (c .before .before .before .before .before .before .before .before .before .args .area)) (c .before .before .before .before .before .before .read-be32 .result) (c .before .before .before .before .before .loop .at) (c .before .before .before .before .before .loop .passed) (c .before .before .before .before .before .loop .inv) (c .before .before .before .before .loop-test .taken) _ (sym (c .before .before .before .fault-at .ensures) ∙ c .before .found .given .1), area-claims)
 
 enum-told : tie.Need-enum-told Inv-loop μ-loop
 enum-told c = search needs
@@ -70,7 +70,7 @@ loop-again : tie.Need-loop-again Inv-loop μ-loop
 loop-again c = stands-fine (now (c .before .before .before .before .before .before .before .before .before .args .area)) (c .before .before .before .before .before .before .read-be32 .result) (c .before .before .before .before .before .loop .at) (c .before .before .before .before .before .loop .passed) (c .before .before .before .before .before .loop .inv) (c .before .before .before .before .loop-test .taken) _ (c .read-be322 .ensures) (fine (c .before))
 
 returns-3 : tie.Need-returns-3 Inv-loop μ-loop
-returns-3 c = (stands-end (now (c .before .before .before .before .before .args .area)) (c .before .before .read-be32 .result) (c .before .loop .at) (c .before .loop .passed) (c .before .loop .inv) (c .loop-test .left), reading-cases)
+returns-3 c = (stands-end (now (c .before .before .before .before .before .args .area)) (c .before .before .read-be32 .result) (c .before .loop .at) (c .before .loop .passed) (c .before .loop .inv) (c .loop-test .left), area-claims)
 
 pub check-area-spec : {M : Type 1} → statement M
 check-area-spec =

@@ -1,0 +1,232 @@
+-- Laws of the written index area: it reads back.
+use mathlib.Core.Path.{_≡_, refl, sym, ap, _∙_}
+use mathlib.Core.Bool.{Bool, true, false, cond, not, _&&_}
+use mathlib.Core.List.{List, [], _∷_, _++_, append-assoc}
+use Prim.Native.Nat.{ℕ, zero, suc, _+_, _*_, _-_, _/_, _%_, _≤_, _<_}
+use native.Mathlib.Nat.{add-zero, mod-eq-of-lt}
+use native.Mathlib.Omega.{arith}
+use lib.Dec.{leb, ltb, eqb}
+use lib.ListN.{length, take, drop, replicate, length-append, length-replicate, length-drop}
+use lib.Seq.{drop-at, take-at, drop-drop}
+use borrow.Author.Tests.{le-leb, le-ltb, leb-true, eq-eqb}
+use Rattle.words.specs.Numbers.{be, be32, beBytes, zeros}
+use Rattle.words.proofs.Numbers.{be-drop, be-bytes, length-beBytes, le-below}
+use Rattle.records.specs.Records.{kindOf, whole, recordsFrom, records, allGood, wellFormedBy}
+use Rattle.records.proofs.Steps.{EachBytes, records-bytes, records-few}
+use Rattle.inventory.specs.Inventory.{flagOf, indexOf, nonZero, goodCode, goodRecord, wellFormed}
+use Rattle.inventory.specs.Listing.{Entry, entryOf, matches, chosen, listed}
+use Rattle.indices.specs.declared.reading.Fault.the-variants.{Fine}
+use Rattle.indices.specs.Area.{filled, entrySize, field, set, sets, fitting, run, answer, written}
+use Rattle.indices.specs.Reading.{lengthAt, fieldAt, codeIn, goodLength, goodField, faultAt, entryAt, read, readFrom, reading}
+use Rattle.indices.specs.Claims.{Sound, RoundTrip, ReadsBack, HoldsDue, Fits}
+
+and-left : (a b : Bool) → (a && b) ≡ true → a ≡ true
+and-left true b e = refl
+and-left false b e = e
+
+and-right : (a b : Bool) → (a && b) ≡ true → b ≡ true
+and-right true b e = e
+and-right false b e = cc
+
+-- ---- a word at a place of which it is known what stands there
+
+word-there : (area : List ℕ) (at v : ℕ) (r : List ℕ) → drop at area ≡ beBytes 4 v ++ r → v < 4294967296 → be32 area at ≡ v
+word-there area at v r e h =
+    let here : be 4 (drop at area) 0 ≡ be 4 area (at + 0) = be-drop 4 at area 0 in
+    ap (λ (k : ℕ). be 4 area k) (sym (add-zero at)) ∙ sym here ∙ ap (λ (l : List ℕ). be 4 l 0) e ∙ be-bytes 4 v r ∙ mod-eq-of-lt h
+
+behind : (area : List ℕ) (at n k : ℕ) (p r : List ℕ) → k ≡ at + n → drop at area ≡ p ++ r → length p ≡ n → drop k area ≡ r
+behind area at n k p r q e h = ap (λ (i : ℕ). drop i area) q ∙ sym (drop-drop n at area) ∙ ap (λ (l : List ℕ). drop n l) e ∙ drop-at p r n h
+
+-- ---- the field of a code
+
+zeros-zero : (n : ℕ) → zeros (replicate n 0) ≡ true
+unfolding zeros
+zeros-zero zero = refl
+zeros-zero (suc n) = zeros-zero n
+
+code-back : (code : List ℕ) (n : ℕ) → nonZero code ≡ true → 1 ≤ n → codeIn (code ++ replicate n 0) ≡ code
+unfolding codeIn nonZero
+code-back [] zero h p = absurd (omega arith)
+code-back [] (suc n) h p = refl
+code-back (b ∷ bs) n h p = go (eqb b 0) (λ e. code-back bs n e p) h
+  where
+    go : (t : Bool) → (nonZero bs ≡ true → codeIn (bs ++ replicate n 0) ≡ bs) → (not t && nonZero bs) ≡ true → cond t [] (b ∷ codeIn (bs ++ replicate n 0)) ≡ b ∷ bs
+    go true rest e = cc
+    go false rest e = ap (λ (l : List ℕ). b ∷ l) (rest e)
+
+module _ (code : List ℕ) (good : goodCode code ≡ true) where
+  some : 1 ≤ length code
+  unfolding goodCode
+  some = leb-true 1 (length code) (and-left _ _ good)
+
+  few : length code ≤ 79
+  unfolding goodCode
+  few = leb-true (length code) 79 (and-left _ _ (and-right (leb 1 (length code)) _ good))
+
+  whole-code : nonZero code ≡ true
+  unfolding goodCode
+  whole-code = and-right (leb (length code) 79) _ (and-right (leb 1 (length code)) _ good)
+
+  field-length : length (field code) ≡ filled (length code)
+  unfolding field
+  field-length = length-append code (replicate (filled (length code) - length code) 0) ∙ rw (length-replicate {A = ℕ} (filled (length code) - length code) 0) (omega arith)
+
+  field-code : codeIn (field code) ≡ code
+  unfolding field
+  field-code = code-back code (filled (length code) - length code) whole-code (omega arith)
+
+  length-good : goodLength (filled (length code)) ≡ true
+  unfolding goodLength
+  length-good = rw (le-leb 1 (filled (length code)) (omega arith), le-leb (filled (length code)) 80 (omega (arith, few)), eq-eqb (filled (length code) % 4) 0 (omega arith))
+
+  nuls : zeros (drop (length code) (field code)) ≡ true
+  unfolding field
+  nuls = rw (drop-at code (replicate (filled (length code) - length code) 0) (length code) refl) (zeros-zero (filled (length code) - length code))
+
+  field-good : goodField (field code) ≡ true
+  unfolding goodField
+  field-good = rw (field-code, field-length, nuls, le-leb 1 (length code) some, le-leb (length code + 1) (filled (length code)) (omega arith), le-leb (filled (length code)) (length code + 4) (omega arith))
+
+-- ---- a set
+
+module _ (area : List ℕ) (at : ℕ) (e : Entry) (r : List ℕ) (stands : drop at area ≡ set e ++ r) (small : e .index < 4294967296) (good : goodCode (e .code) ≡ true) where
+  size : filled (length (e .code)) < 4294967296
+  size = omega (arith, few (e .code) good)
+
+  index-first : drop at area ≡ beBytes 4 (e .index) ++ (beBytes 4 (filled (length (e .code))) ++ (field (e .code) ++ r))
+  unfolding set
+  index-first = stands ∙ append-assoc (beBytes 4 (e .index)) _ r ∙ ap (λ (l : List ℕ). beBytes 4 (e .index) ++ l) (append-assoc (beBytes 4 (filled (length (e .code)))) (field (e .code)) r)
+
+  length-next : drop (at + 4) area ≡ beBytes 4 (filled (length (e .code))) ++ (field (e .code) ++ r)
+  length-next = behind area at 4 (at + 4) (beBytes 4 (e .index)) _ refl index-first (length-beBytes 4 (e .index))
+
+  field-next : drop (at + 8) area ≡ field (e .code) ++ r
+  field-next = behind area (at + 4) 4 (at + 8) (beBytes 4 (filled (length (e .code)))) _ (omega arith) length-next (length-beBytes 4 (filled (length (e .code))))
+
+  length-there : lengthAt area at ≡ filled (length (e .code))
+  unfolding lengthAt
+  length-there = word-there area (at + 4) (filled (length (e .code))) _ length-next size
+
+  field-there : fieldAt area at ≡ field (e .code)
+  unfolding fieldAt
+  field-there = rw (length-there, field-next) (take-at (field (e .code)) r (filled (length (e .code))) (field-length (e .code) good))
+
+  entry-there : entryAt area at ≡ e
+  entry-there = rw (word-there area at (e .index) _ index-first small, field-there, field-code (e .code) good)
+
+  rest-there : drop (at + (8 + lengthAt area at)) area ≡ r
+  rest-there = behind area (at + 8) (filled (length (e .code))) (at + (8 + lengthAt area at)) (field (e .code)) r (omega (arith, length-there)) field-next (field-length (e .code) good)
+
+  room : 8 + filled (length (e .code)) ≤ length area - at
+  room = omega (arith, sym (length-drop at area) ∙ ap length index-first, length-append (beBytes 4 (e .index)) (beBytes 4 (filled (length (e .code))) ++ (field (e .code) ++ r)), length-append (beBytes 4 (filled (length (e .code)))) (field (e .code) ++ r), length-append (field (e .code)) r, length-beBytes 4 (e .index), length-beBytes 4 (filled (length (e .code))), field-length (e .code) good)
+
+  fine : faultAt area at ≡ Fine
+  unfolding faultAt
+  fine = rw (length-there, field-there, length-good (e .code) good, field-good (e .code) good, le-ltb (length area - at) 8 (omega (arith, room)), le-ltb (length area - at) (8 + filled (length (e .code))) room)
+
+-- ---- the whole area
+
+sets-read : (es : List Entry) (area : List ℕ) (at : ℕ) (r : List ℕ) → Sound es → drop at area ≡ sets es ++ r → readFrom (length es) area at ≡ read es
+unfolding readFrom sets Sound
+sets-read [] area at r h e = refl
+sets-read (x ∷ es) area at r h e =
+    let stands : drop at area ≡ set x ++ (sets es ++ r) = e ∙ append-assoc (set x) (sets es) r in
+    let rest : readFrom (length es) area (at + (8 + lengthAt area at)) ≡ read es = sets-read es area _ r (h .2) (rest-there area at x (sets es ++ r) stands (h .0) (h .1)) in
+    rw (fine area at x (sets es ++ r) stands (h .0) (h .1), entry-there area at x (sets es ++ r) stands (h .0) (h .1), rest)
+
+pub round-trip : RoundTrip
+unfolding reading written answer
+round-trip area es few-entries h =
+    let stands : drop 0 (written area es) ≡ beBytes 4 (length es) ++ (sets es ++ drop (length (answer es)) area) = append-assoc (beBytes 4 (length es)) (sets es) _ in
+    let count : be32 (written area es) 0 ≡ length es = word-there (written area es) 0 (length es) _ stands few-entries in
+    let long : ltb (length (written area es)) 4 ≡ false = le-ltb (length (written area es)) 4 (omega (arith, ap length stands, length-append (beBytes 4 (length es)) (sets es ++ drop (length (answer es)) area), length-beBytes 4 (length es))) in
+    rw (long, count) (sets-read es (written area es) 4 _ h (behind (written area es) 0 4 4 (beBytes 4 (length es)) (sets es ++ drop (length (answer es)) area) refl stands (length-beBytes 4 (length es))))
+
+-- ---- runs
+
+sound-drop : (n : ℕ) (es : List Entry) → Sound es → Sound (drop n es)
+unfolding Sound
+sound-drop zero es h = h
+sound-drop (suc n) [] h = h
+sound-drop (suc n) (e ∷ es) h = sound-drop n es (h .2)
+
+sound-fitting : (room : ℕ) (es : List Entry) → Sound es → Sound (fitting room es)
+unfolding fitting Sound
+sound-fitting room [] h = h
+sound-fitting room (e ∷ es) h = go (leb (entrySize (length (e .code))) room) (sound-fitting (room - entrySize (length (e .code))) es (h .2))
+  where
+    go : (t : Bool) → Sound (fitting (room - entrySize (length (e .code))) es) → Sound (cond t (e ∷ fitting (room - entrySize (length (e .code))) es) [])
+    go true k = (h .0, h .1, k)
+    go false k = tt
+
+fitting-few : (room : ℕ) (es : List Entry) → length (fitting room es) ≤ length es
+unfolding fitting
+fitting-few room [] = omega arith
+fitting-few room (e ∷ es) = go (leb (entrySize (length (e .code))) room) (fitting-few (room - entrySize (length (e .code))) es)
+  where
+    go : (t : Bool) → length (fitting (room - entrySize (length (e .code))) es) ≤ length es → length (cond t (e ∷ fitting (room - entrySize (length (e .code))) es) []) ≤ suc (length es)
+    go true k = omega arith
+    go false k = omega arith
+
+-- ---- the entries of an inventory
+
+chosen-sound : (flag type : ℕ) (rs : List (List ℕ)) → EachBytes rs → allGood goodRecord rs ≡ true → Sound (chosen flag type rs)
+unfolding chosen allGood goodRecord indexOf Sound
+chosen-sound flag type [] h g = tt
+chosen-sound flag type (r ∷ rs) h g = go (matches flag type r) (chosen-sound flag type rs (h .1) (and-right (whole r && goodRecord r) _ g))
+  where
+    good : goodRecord r ≡ true
+    good = and-right (whole r) _ (and-left (whole r && goodRecord r) _ g)
+
+    go : (t : Bool) → Sound (chosen flag type rs) → Sound (cond t (entryOf r ∷ chosen flag type rs) (chosen flag type rs))
+    go true k = (le-below r (h .0) 4 10, and-right (leb (flagOf r) 1) _ (and-right (eqb (kindOf r) 16) _ good), k)
+    go false k = k
+
+chosen-few : (flag type : ℕ) (rs : List (List ℕ)) → length (chosen flag type rs) ≤ length rs
+unfolding chosen
+chosen-few flag type [] = omega arith
+chosen-few flag type (r ∷ rs) = go (matches flag type r) (chosen-few flag type rs)
+  where
+    go : (t : Bool) → length (chosen flag type rs) ≤ length rs → length (cond t (entryOf r ∷ chosen flag type rs) (chosen flag type rs)) ≤ suc (length rs)
+    go true k = omega arith
+    go false k = omega arith
+
+pub reads-back : ReadsBack
+unfolding run listed records wellFormed wellFormedBy
+reads-back area inventory flag type size number bytes formed =
+    let es : List Entry = chosen flag type (recordsFrom 0 inventory) in
+    let limit : length inventory ≤ 1048576 = leb-true _ _ (and-left (leb (length inventory) 1048576) _ formed) in
+    round-trip area (fitting (size - 4) (drop (number - 1) es))
+    (omega (arith, limit, fitting-few (size - 4) (drop (number - 1) es), length-drop (number - 1) es, chosen-few flag type (recordsFrom 0 inventory), records-few 0 inventory))
+    (sound-fitting (size - 4) (drop (number - 1) es) (sound-drop (number - 1) es (chosen-sound flag type (recordsFrom 0 inventory) (records-bytes 0 inventory bytes) (and-right (leb (length inventory) 1048576) _ formed))))
+
+-- ---- what an area holds
+
+first-fits : (room : ℕ) (es : List Entry) → Sound es → 1 ≤ length es → 88 ≤ room → 1 ≤ length (fitting room es)
+unfolding fitting Sound
+first-fits room [] h p q = absurd (omega arith)
+first-fits room (e ∷ es) h p q = rw (le-leb (entrySize (length (e .code))) room (omega (arith, few (e .code) (h .1)))) (omega arith)
+
+pub holds-due : HoldsDue
+unfolding run
+holds-due size number es h p q = first-fits (size - 4) (drop (number - 1) es) (sound-drop (number - 1) es h) (omega (arith, length-drop (number - 1) es)) (omega arith)
+
+set-length : (e : Entry) → length (set e) ≡ entrySize (length (e .code))
+unfolding set field
+set-length e =
+    let n = filled (length (e .code)) in
+    omega (arith, length-append (beBytes 4 (e .index)) (beBytes 4 n ++ field (e .code)), length-append (beBytes 4 n) (field (e .code)), length-append (e .code) (replicate (n - length (e .code)) 0), length-replicate {A = ℕ} (n - length (e .code)) 0, length-beBytes 4 (e .index), length-beBytes 4 n)
+
+fitting-length : (room : ℕ) (es : List Entry) → length (sets (fitting room es)) ≤ room
+unfolding fitting sets
+fitting-length room [] = omega arith
+fitting-length room (e ∷ es) = go (leb (entrySize (length (e .code))) room) refl (fitting-length (room - entrySize (length (e .code))) es)
+  where
+    go : (t : Bool) → leb (entrySize (length (e .code))) room ≡ t → length (sets (fitting (room - entrySize (length (e .code))) es)) ≤ room - entrySize (length (e .code)) → length (sets (cond t (e ∷ fitting (room - entrySize (length (e .code))) es) [])) ≤ room
+    go true q k = omega (arith, leb-true (entrySize (length (e .code))) room q, set-length e, length-append (set e) (sets (fitting (room - entrySize (length (e .code))) es)))
+    go false q k = omega arith
+
+pub fits : Fits
+unfolding run answer
+fits size number es h = omega (arith, length-append (beBytes 4 (length (fitting (size - 4) (drop (number - 1) es)))) (sets (fitting (size - 4) (drop (number - 1) es))), length-beBytes 4 (length (fitting (size - 4) (drop (number - 1) es))), fitting-length (size - 4) (drop (number - 1) es))
