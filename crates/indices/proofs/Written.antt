@@ -16,7 +16,7 @@ use Rattle.records.proofs.Steps.{EachBytes, records-bytes, records-few}
 use Rattle.inventory.specs.Inventory.{flagOf, indexOf, nonZero, goodCode, goodRecord, wellFormed}
 use Rattle.inventory.specs.Listing.{Entry, entryOf, matches, chosen, listed}
 use Rattle.indices.specs.declared.reading.Fault.the-variants.{Fine}
-use Rattle.indices.specs.Area.{filled, entrySize, field, set, sets, fitting, run, answer, written}
+use Rattle.indices.specs.Area.{filled, entrySize, codeField, entryBytes, entriesBytes, fitting, run, answer, written}
 use Rattle.indices.specs.Reading.{lengthAt, fieldAt, codeIn, goodLength, goodField, faultAt, entryAt, read, readFrom, reading}
 use Rattle.indices.specs.Claims.{Sound, RoundTrip, ReadsBack, HoldsDue, Fits}
 
@@ -68,58 +68,58 @@ module _ (code : List ℕ) (good : goodCode code ≡ true) where
   unfolding goodCode
   whole-code = and-right (leb (length code) 79) _ (and-right (leb 1 (length code)) _ good)
 
-  field-length : length (field code) ≡ filled (length code)
-  unfolding field
+  field-length : length (codeField code) ≡ filled (length code)
+  unfolding codeField
   field-length = length-append code (replicate (filled (length code) - length code) 0) ∙ rw (length-replicate {A = ℕ} (filled (length code) - length code) 0) (omega arith)
 
-  field-code : codeIn (field code) ≡ code
-  unfolding field
+  field-code : codeIn (codeField code) ≡ code
+  unfolding codeField
   field-code = code-back code (filled (length code) - length code) whole-code (omega arith)
 
   length-good : goodLength (filled (length code)) ≡ true
   unfolding goodLength
   length-good = rw (le-leb 1 (filled (length code)) (omega arith), le-leb (filled (length code)) 80 (omega (arith, few)), eq-eqb (filled (length code) % 4) 0 (omega arith))
 
-  nuls : zeros (drop (length code) (field code)) ≡ true
-  unfolding field
+  nuls : zeros (drop (length code) (codeField code)) ≡ true
+  unfolding codeField
   nuls = rw (drop-at code (replicate (filled (length code) - length code) 0) (length code) refl) (zeros-zero (filled (length code) - length code))
 
-  field-good : goodField (field code) ≡ true
+  field-good : goodField (codeField code) ≡ true
   unfolding goodField
   field-good = rw (field-code, field-length, nuls, le-leb 1 (length code) some, le-leb (length code + 1) (filled (length code)) (omega arith), le-leb (filled (length code)) (length code + 4) (omega arith))
 
 -- ---- a set
 
-module _ (area : List ℕ) (at : ℕ) (e : Entry) (r : List ℕ) (stands : drop at area ≡ set e ++ r) (small : e .index < 4294967296) (good : goodCode (e .code) ≡ true) where
+module _ (area : List ℕ) (at : ℕ) (e : Entry) (r : List ℕ) (stands : drop at area ≡ entryBytes e ++ r) (small : e .index < 4294967296) (good : goodCode (e .code) ≡ true) where
   size : filled (length (e .code)) < 4294967296
   size = omega (arith, few (e .code) good)
 
-  index-first : drop at area ≡ beBytes 4 (e .index) ++ (beBytes 4 (filled (length (e .code))) ++ (field (e .code) ++ r))
-  unfolding set
-  index-first = stands ∙ append-assoc (beBytes 4 (e .index)) _ r ∙ ap (λ (l : List ℕ). beBytes 4 (e .index) ++ l) (append-assoc (beBytes 4 (filled (length (e .code)))) (field (e .code)) r)
+  index-first : drop at area ≡ beBytes 4 (e .index) ++ (beBytes 4 (filled (length (e .code))) ++ (codeField (e .code) ++ r))
+  unfolding entryBytes
+  index-first = stands ∙ append-assoc (beBytes 4 (e .index)) _ r ∙ ap (λ (l : List ℕ). beBytes 4 (e .index) ++ l) (append-assoc (beBytes 4 (filled (length (e .code)))) (codeField (e .code)) r)
 
-  length-next : drop (at + 4) area ≡ beBytes 4 (filled (length (e .code))) ++ (field (e .code) ++ r)
+  length-next : drop (at + 4) area ≡ beBytes 4 (filled (length (e .code))) ++ (codeField (e .code) ++ r)
   length-next = behind area at 4 (at + 4) (beBytes 4 (e .index)) _ refl index-first (length-beBytes 4 (e .index))
 
-  field-next : drop (at + 8) area ≡ field (e .code) ++ r
+  field-next : drop (at + 8) area ≡ codeField (e .code) ++ r
   field-next = behind area (at + 4) 4 (at + 8) (beBytes 4 (filled (length (e .code)))) _ (omega arith) length-next (length-beBytes 4 (filled (length (e .code))))
 
   length-there : lengthAt area at ≡ filled (length (e .code))
   unfolding lengthAt
   length-there = word-there area (at + 4) (filled (length (e .code))) _ length-next size
 
-  field-there : fieldAt area at ≡ field (e .code)
+  field-there : fieldAt area at ≡ codeField (e .code)
   unfolding fieldAt
-  field-there = rw (length-there, field-next) (take-at (field (e .code)) r (filled (length (e .code))) (field-length (e .code) good))
+  field-there = rw (length-there, field-next) (take-at (codeField (e .code)) r (filled (length (e .code))) (field-length (e .code) good))
 
   entry-there : entryAt area at ≡ e
   entry-there = rw (word-there area at (e .index) _ index-first small, field-there, field-code (e .code) good)
 
   rest-there : drop (at + (8 + lengthAt area at)) area ≡ r
-  rest-there = behind area (at + 8) (filled (length (e .code))) (at + (8 + lengthAt area at)) (field (e .code)) r (omega (arith, length-there)) field-next (field-length (e .code) good)
+  rest-there = behind area (at + 8) (filled (length (e .code))) (at + (8 + lengthAt area at)) (codeField (e .code)) r (omega (arith, length-there)) field-next (field-length (e .code) good)
 
   room : 8 + filled (length (e .code)) ≤ length area - at
-  room = omega (arith, sym (length-drop at area) ∙ ap length index-first, length-append (beBytes 4 (e .index)) (beBytes 4 (filled (length (e .code))) ++ (field (e .code) ++ r)), length-append (beBytes 4 (filled (length (e .code)))) (field (e .code) ++ r), length-append (field (e .code)) r, length-beBytes 4 (e .index), length-beBytes 4 (filled (length (e .code))), field-length (e .code) good)
+  room = omega (arith, sym (length-drop at area) ∙ ap length index-first, length-append (beBytes 4 (e .index)) (beBytes 4 (filled (length (e .code))) ++ (codeField (e .code) ++ r)), length-append (beBytes 4 (filled (length (e .code)))) (codeField (e .code) ++ r), length-append (codeField (e .code)) r, length-beBytes 4 (e .index), length-beBytes 4 (filled (length (e .code))), field-length (e .code) good)
 
   fine : faultAt area at ≡ Fine
   unfolding faultAt
@@ -127,21 +127,21 @@ module _ (area : List ℕ) (at : ℕ) (e : Entry) (r : List ℕ) (stands : drop 
 
 -- ---- the whole area
 
-sets-read : (es : List Entry) (area : List ℕ) (at : ℕ) (r : List ℕ) → Sound es → drop at area ≡ sets es ++ r → readFrom (length es) area at ≡ read es
-unfolding readFrom sets Sound
-sets-read [] area at r h e = refl
-sets-read (x ∷ es) area at r h e =
-    let stands : drop at area ≡ set x ++ (sets es ++ r) = e ∙ append-assoc (set x) (sets es) r in
-    let rest : readFrom (length es) area (at + (8 + lengthAt area at)) ≡ read es = sets-read es area _ r (h .2) (rest-there area at x (sets es ++ r) stands (h .0) (h .1)) in
-    rw (fine area at x (sets es ++ r) stands (h .0) (h .1), entry-there area at x (sets es ++ r) stands (h .0) (h .1), rest)
+entries-read : (es : List Entry) (area : List ℕ) (at : ℕ) (r : List ℕ) → Sound es → drop at area ≡ entriesBytes es ++ r → readFrom (length es) area at ≡ read es
+unfolding readFrom entriesBytes Sound
+entries-read [] area at r h e = refl
+entries-read (x ∷ es) area at r h e =
+    let stands : drop at area ≡ entryBytes x ++ (entriesBytes es ++ r) = e ∙ append-assoc (entryBytes x) (entriesBytes es) r in
+    let rest : readFrom (length es) area (at + (8 + lengthAt area at)) ≡ read es = entries-read es area _ r (h .2) (rest-there area at x (entriesBytes es ++ r) stands (h .0) (h .1)) in
+    rw (fine area at x (entriesBytes es ++ r) stands (h .0) (h .1), entry-there area at x (entriesBytes es ++ r) stands (h .0) (h .1), rest)
 
 pub round-trip : RoundTrip
 unfolding reading written answer
 round-trip area es few-entries h =
-    let stands : drop 0 (written area es) ≡ beBytes 4 (length es) ++ (sets es ++ drop (length (answer es)) area) = append-assoc (beBytes 4 (length es)) (sets es) _ in
+    let stands : drop 0 (written area es) ≡ beBytes 4 (length es) ++ (entriesBytes es ++ drop (length (answer es)) area) = append-assoc (beBytes 4 (length es)) (entriesBytes es) _ in
     let count : be32 (written area es) 0 ≡ length es = word-there (written area es) 0 (length es) _ stands few-entries in
-    let long : ltb (length (written area es)) 4 ≡ false = le-ltb (length (written area es)) 4 (omega (arith, ap length stands, length-append (beBytes 4 (length es)) (sets es ++ drop (length (answer es)) area), length-beBytes 4 (length es))) in
-    rw (long, count) (sets-read es (written area es) 4 _ h (behind (written area es) 0 4 4 (beBytes 4 (length es)) (sets es ++ drop (length (answer es)) area) refl stands (length-beBytes 4 (length es))))
+    let long : ltb (length (written area es)) 4 ≡ false = le-ltb (length (written area es)) 4 (omega (arith, ap length stands, length-append (beBytes 4 (length es)) (entriesBytes es ++ drop (length (answer es)) area), length-beBytes 4 (length es))) in
+    rw (long, count) (entries-read es (written area es) 4 _ h (behind (written area es) 0 4 4 (beBytes 4 (length es)) (entriesBytes es ++ drop (length (answer es)) area) refl stands (length-beBytes 4 (length es))))
 
 -- ---- runs
 
@@ -212,21 +212,21 @@ pub holds-due : HoldsDue
 unfolding run
 holds-due size number es h p q = first-fits (size - 4) (drop (number - 1) es) (sound-drop (number - 1) es h) (omega (arith, length-drop (number - 1) es)) (omega arith)
 
-set-length : (e : Entry) → length (set e) ≡ entrySize (length (e .code))
-unfolding set field
-set-length e =
+entry-length : (e : Entry) → length (entryBytes e) ≡ entrySize (length (e .code))
+unfolding entryBytes codeField
+entry-length e =
     let n = filled (length (e .code)) in
-    omega (arith, length-append (beBytes 4 (e .index)) (beBytes 4 n ++ field (e .code)), length-append (beBytes 4 n) (field (e .code)), length-append (e .code) (replicate (n - length (e .code)) 0), length-replicate {A = ℕ} (n - length (e .code)) 0, length-beBytes 4 (e .index), length-beBytes 4 n)
+    omega (arith, length-append (beBytes 4 (e .index)) (beBytes 4 n ++ codeField (e .code)), length-append (beBytes 4 n) (codeField (e .code)), length-append (e .code) (replicate (n - length (e .code)) 0), length-replicate {A = ℕ} (n - length (e .code)) 0, length-beBytes 4 (e .index), length-beBytes 4 n)
 
-fitting-length : (room : ℕ) (es : List Entry) → length (sets (fitting room es)) ≤ room
-unfolding fitting sets
+fitting-length : (room : ℕ) (es : List Entry) → length (entriesBytes (fitting room es)) ≤ room
+unfolding fitting entriesBytes
 fitting-length room [] = omega arith
 fitting-length room (e ∷ es) = go (leb (entrySize (length (e .code))) room) refl (fitting-length (room - entrySize (length (e .code))) es)
   where
-    go : (t : Bool) → leb (entrySize (length (e .code))) room ≡ t → length (sets (fitting (room - entrySize (length (e .code))) es)) ≤ room - entrySize (length (e .code)) → length (sets (cond t (e ∷ fitting (room - entrySize (length (e .code))) es) [])) ≤ room
-    go true q k = omega (arith, leb-true (entrySize (length (e .code))) room q, set-length e, length-append (set e) (sets (fitting (room - entrySize (length (e .code))) es)))
+    go : (t : Bool) → leb (entrySize (length (e .code))) room ≡ t → length (entriesBytes (fitting (room - entrySize (length (e .code))) es)) ≤ room - entrySize (length (e .code)) → length (entriesBytes (cond t (e ∷ fitting (room - entrySize (length (e .code))) es) [])) ≤ room
+    go true q k = omega (arith, leb-true (entrySize (length (e .code))) room q, entry-length e, length-append (entryBytes e) (entriesBytes (fitting (room - entrySize (length (e .code))) es)))
     go false q k = omega arith
 
 pub fits : Fits
 unfolding run answer
-fits size number es h = omega (arith, length-append (beBytes 4 (length (fitting (size - 4) (drop (number - 1) es)))) (sets (fitting (size - 4) (drop (number - 1) es))), length-beBytes 4 (length (fitting (size - 4) (drop (number - 1) es))), fitting-length (size - 4) (drop (number - 1) es))
+fits size number es h = omega (arith, length-append (beBytes 4 (length (fitting (size - 4) (drop (number - 1) es)))) (entriesBytes (fitting (size - 4) (drop (number - 1) es))), length-beBytes 4 (length (fitting (size - 4) (drop (number - 1) es))), fitting-length (size - 4) (drop (number - 1) es))

@@ -16,15 +16,15 @@ abbrev pub entrySize : ℕ → ℕ
 entrySize c = 8 + filled c
 
 -- 01: "for each entry the index, the length and the code"
-unfoldable pub field : List ℕ → List ℕ
-field code = code ++ replicate (filled (length code) - length code) 0
+unfoldable pub codeField : List ℕ → List ℕ
+codeField code = code ++ replicate (filled (length code) - length code) 0
 
-unfoldable pub set : Entry → List ℕ
-set e = beBytes 4 (e .index) ++ (beBytes 4 (filled (length (e .code))) ++ field (e .code))
+unfoldable pub entryBytes : Entry → List ℕ
+entryBytes e = beBytes 4 (e .index) ++ (beBytes 4 (filled (length (e .code))) ++ codeField (e .code))
 
-unfoldable pub sets : List Entry → List ℕ
-sets [] = []
-sets (e ∷ es) = set e ++ sets es
+unfoldable pub entriesBytes : List Entry → List ℕ
+entriesBytes [] = []
+entriesBytes (e ∷ es) = entryBytes e ++ entriesBytes es
 
 -- 01: "The longest fitting run is returned"
 unfoldable pub fitting : ℕ → List Entry → List Entry
@@ -39,7 +39,7 @@ run size number es = fitting (size - 4) (drop (number - 1) es)
 
 -- 01: "The area holds the count, then for each entry the index, the length and the code"
 unfoldable pub answer : List Entry → List ℕ
-answer es = beBytes 4 (length es) ++ sets es
+answer es = beBytes 4 (length es) ++ entriesBytes es
 
 -- 01: "later bytes stay unchanged"
 unfoldable pub written : List ℕ → List Entry → List ℕ

@@ -52,15 +52,15 @@ pub record ReadingCase : Type 0 where
 
 -- an area of a count and what stands behind it
 abbrev pub case : ℕ → List ℕ → Found → ReadingCase
-case count sets found = record { area = beBytes 4 count ++ sets; finds = found }
+case count setsBehind found = record { area = beBytes 4 count ++ setsBehind; finds = found }
 
 -- a set of index 7: its length, and the bytes behind it
-abbrev pub set : ℕ → List ℕ → List ℕ
-set n bytes = beBytes 4 7 ++ (beBytes 4 n ++ bytes)
+abbrev pub setOf : ℕ → List ℕ → List ℕ
+setOf n bytes = beBytes 4 7 ++ (beBytes 4 n ++ bytes)
 
 -- so many letters, then so many NULs
-abbrev pub field : ℕ → ℕ → List ℕ
-field letters nuls = replicate letters 65 ++ replicate nuls 0
+abbrev pub lettersAndNuls : ℕ → ℕ → List ℕ
+lettersAndNuls letters nuls = replicate letters 65 ++ replicate nuls 0
 
 abbrev pub readingCases : List ReadingCase
 readingCases =
@@ -69,34 +69,34 @@ readingCases =
     ∷ record { area = 0 ∷ 0 ∷ 0 ∷ []; finds = refusal 30 0 }
     ∷ case 0 [] (entries 0)
     -- codes of three and of four bytes, the shortest and the longest
-    ∷ case 1 (set 4 (field 3 1)) (entries 1)
-    ∷ case 1 (set 8 (field 4 4)) (entries 1)
-    ∷ case 1 (set 4 (field 1 3)) (entries 1)
-    ∷ case 1 (set 80 (field 79 1)) (entries 1)
+    ∷ case 1 (setOf 4 (lettersAndNuls 3 1)) (entries 1)
+    ∷ case 1 (setOf 8 (lettersAndNuls 4 4)) (entries 1)
+    ∷ case 1 (setOf 4 (lettersAndNuls 1 3)) (entries 1)
+    ∷ case 1 (setOf 80 (lettersAndNuls 79 1)) (entries 1)
     -- under 8 bytes left
     ∷ case 1 [] (refusal 31 4)
     ∷ case 1 (beBytes 4 7 ++ (0 ∷ 0 ∷ 0 ∷ [])) (refusal 31 4)
     -- lengths
-    ∷ case 1 (set 0 []) (refusal 32 4)
-    ∷ case 1 (set 5 (field 4 1)) (refusal 32 4)
-    ∷ case 1 (set 84 (field 80 4)) (refusal 32 4)
+    ∷ case 1 (setOf 0 []) (refusal 32 4)
+    ∷ case 1 (setOf 5 (lettersAndNuls 4 1)) (refusal 32 4)
+    ∷ case 1 (setOf 84 (lettersAndNuls 80 4)) (refusal 32 4)
     -- past the end, and a length that is refused before it
-    ∷ case 1 (set 80 (field 78 1)) (refusal 31 4)
-    ∷ case 1 (set 84 (field 78 1)) (refusal 32 4)
+    ∷ case 1 (setOf 80 (lettersAndNuls 78 1)) (refusal 31 4)
+    ∷ case 1 (setOf 84 (lettersAndNuls 78 1)) (refusal 32 4)
     -- an empty code, no NUL, five NULs, a byte after a NUL
-    ∷ case 1 (set 4 (field 0 4)) (refusal 33 4)
-    ∷ case 1 (set 4 (field 4 0)) (refusal 33 4)
-    ∷ case 1 (set 8 (field 3 5)) (refusal 33 4)
-    ∷ case 1 (set 8 (field 4 3 ++ field 1 0)) (refusal 33 4)
+    ∷ case 1 (setOf 4 (lettersAndNuls 0 4)) (refusal 33 4)
+    ∷ case 1 (setOf 4 (lettersAndNuls 4 0)) (refusal 33 4)
+    ∷ case 1 (setOf 8 (lettersAndNuls 3 5)) (refusal 33 4)
+    ∷ case 1 (setOf 8 (lettersAndNuls 4 3 ++ lettersAndNuls 1 0)) (refusal 33 4)
     -- counts larger than what is there
-    ∷ case 2 (set 4 (field 3 1)) (refusal 31 16)
-    ∷ case 4294967295 (set 4 (field 3 1)) (refusal 31 16)
+    ∷ case 2 (setOf 4 (lettersAndNuls 3 1)) (refusal 31 16)
+    ∷ case 4294967295 (setOf 4 (lettersAndNuls 3 1)) (refusal 31 16)
     -- bytes after the last set
-    ∷ case 0 (set 0 []) (entries 0)
-    ∷ case 1 (set 4 (field 3 1) ++ field 5 0) (entries 1)
+    ∷ case 0 (setOf 0 []) (entries 0)
+    ∷ case 1 (setOf 4 (lettersAndNuls 3 1) ++ lettersAndNuls 5 0) (entries 1)
     -- a second set
-    ∷ case 2 (set 4 (field 3 1) ++ set 8 (field 4 4)) (entries 2)
-    ∷ case 2 (set 4 (field 3 1) ++ set 8 (field 3 5)) (refusal 33 16)
+    ∷ case 2 (setOf 4 (lettersAndNuls 3 1) ++ setOf 8 (lettersAndNuls 4 4)) (entries 2)
+    ∷ case 2 (setOf 4 (lettersAndNuls 3 1) ++ setOf 8 (lettersAndNuls 3 5)) (refusal 33 16)
     ∷ []
 
 abbrev pub agrees : Check → Found → Bool
