@@ -2,14 +2,15 @@
 use mathlib.Core.Path.{_≡_, refl, sym, ap, _∙_}
 use mathlib.Core.Bool.{Bool, true, false, cond, not, _&&_}
 use mathlib.Core.List.{List, [], _∷_, _++_, append-assoc}
-use Prim.Native.Nat.{ℕ, zero, suc, _+_, _*_, _-_, _/_, _%_, _≤_, _<_}
+use Prim.Native.Nat.{ℕ, zero, suc, _+_, _-_, _%_, _≤_, _<_}
 use native.Mathlib.Nat.{add-zero, mod-eq-of-lt}
 use native.Mathlib.Omega.{arith}
 use lib.Dec.{leb, ltb, eqb}
-use lib.ListN.{length, take, drop, replicate, length-append, length-replicate, length-drop}
+use lib.ListN.{length, drop, replicate, length-append, length-replicate, length-drop}
 use lib.Seq.{drop-at, take-at, drop-drop}
 use borrow.Author.Tests.{le-leb, le-ltb, leb-true, eq-eqb}
 use Rattle.words.specs.Numbers.{be, be32, beBytes, zeros}
+use Rattle.words.proofs.Choice.{choose, and-left, and-right}
 use Rattle.words.proofs.Numbers.{be-drop, be-bytes, length-beBytes, le-below}
 use Rattle.records.specs.Records.{kindOf, whole, recordsFrom, records, allGood, wellFormedBy}
 use Rattle.records.proofs.Steps.{EachBytes, records-bytes, records-few}
@@ -19,14 +20,6 @@ use Rattle.indices.specs.declared.reading.Fault.the-variants.{Fine}
 use Rattle.indices.specs.Area.{filled, entrySize, codeField, entryBytes, entriesBytes, fitting, run, answer, written}
 use Rattle.indices.specs.Reading.{lengthAt, fieldAt, codeIn, goodLength, goodField, faultAt, entryAt, read, readFrom, reading}
 use Rattle.indices.specs.Claims.{Sound, RoundTrip, ReadsBack, HoldsDue, Fits}
-
-and-left : (a b : Bool) → (a && b) ≡ true → a ≡ true
-and-left true b e = refl
-and-left false b e = e
-
-and-right : (a b : Bool) → (a && b) ≡ true → b ≡ true
-and-right true b e = e
-and-right false b e = cc
 
 -- ---- a word at a place of which it is known what stands there
 
@@ -154,20 +147,18 @@ sound-drop (suc n) (e ∷ es) h = sound-drop n es (h .2)
 sound-fitting : (room : ℕ) (es : List Entry) → Sound es → Sound (fitting room es)
 unfolding fitting Sound
 sound-fitting room [] h = h
-sound-fitting room (e ∷ es) h = go (leb (entrySize (length (e .code))) room) (sound-fitting (room - entrySize (length (e .code))) es (h .2))
-  where
-    go : (t : Bool) → Sound (fitting (room - entrySize (length (e .code))) es) → Sound (cond t (e ∷ fitting (room - entrySize (length (e .code))) es) [])
-    go true k = (h .0, h .1, k)
-    go false k = tt
+sound-fitting room (e ∷ es) h =
+    choose (leb (entrySize (length (e .code))) room) Sound {x = e ∷ fitting (room - entrySize (length (e .code))) es} {y = []}
+    (λ _. (h .0, h .1, sound-fitting (room - entrySize (length (e .code))) es (h .2)))
+    (λ _. tt)
 
 fitting-few : (room : ℕ) (es : List Entry) → length (fitting room es) ≤ length es
 unfolding fitting
 fitting-few room [] = omega arith
-fitting-few room (e ∷ es) = go (leb (entrySize (length (e .code))) room) (fitting-few (room - entrySize (length (e .code))) es)
-  where
-    go : (t : Bool) → length (fitting (room - entrySize (length (e .code))) es) ≤ length es → length (cond t (e ∷ fitting (room - entrySize (length (e .code))) es) []) ≤ suc (length es)
-    go true k = omega arith
-    go false k = omega arith
+fitting-few room (e ∷ es) =
+    choose (leb (entrySize (length (e .code))) room) (λ l. length l ≤ suc (length es)) {x = e ∷ fitting (room - entrySize (length (e .code))) es} {y = []}
+    (λ _. omega (arith, fitting-few (room - entrySize (length (e .code))) es))
+    (λ _. omega arith)
 
 -- ---- the entries of an inventory
 
@@ -186,11 +177,10 @@ chosen-sound flag type (r ∷ rs) h g = go (matches flag type r) (chosen-sound f
 chosen-few : (flag type : ℕ) (rs : List (List ℕ)) → length (chosen flag type rs) ≤ length rs
 unfolding chosen
 chosen-few flag type [] = omega arith
-chosen-few flag type (r ∷ rs) = go (matches flag type r) (chosen-few flag type rs)
-  where
-    go : (t : Bool) → length (chosen flag type rs) ≤ length rs → length (cond t (entryOf r ∷ chosen flag type rs) (chosen flag type rs)) ≤ suc (length rs)
-    go true k = omega arith
-    go false k = omega arith
+chosen-few flag type (r ∷ rs) =
+    choose (matches flag type r) (λ l. length l ≤ suc (length rs)) {x = entryOf r ∷ chosen flag type rs} {y = chosen flag type rs}
+    (λ _. omega (arith, chosen-few flag type rs))
+    (λ _. omega (arith, chosen-few flag type rs))
 
 pub reads-back : ReadsBack
 unfolding run listed records wellFormed wellFormedBy
@@ -221,11 +211,10 @@ entry-length e =
 fitting-length : (room : ℕ) (es : List Entry) → length (entriesBytes (fitting room es)) ≤ room
 unfolding fitting entriesBytes
 fitting-length room [] = omega arith
-fitting-length room (e ∷ es) = go (leb (entrySize (length (e .code))) room) refl (fitting-length (room - entrySize (length (e .code))) es)
-  where
-    go : (t : Bool) → leb (entrySize (length (e .code))) room ≡ t → length (entriesBytes (fitting (room - entrySize (length (e .code))) es)) ≤ room - entrySize (length (e .code)) → length (entriesBytes (cond t (e ∷ fitting (room - entrySize (length (e .code))) es) [])) ≤ room
-    go true q k = omega (arith, leb-true (entrySize (length (e .code))) room q, entry-length e, length-append (entryBytes e) (entriesBytes (fitting (room - entrySize (length (e .code))) es)))
-    go false q k = omega arith
+fitting-length room (e ∷ es) =
+    choose (leb (entrySize (length (e .code))) room) (λ l. length (entriesBytes l) ≤ room) {x = e ∷ fitting (room - entrySize (length (e .code))) es} {y = []}
+    (λ q. omega (arith, leb-true (entrySize (length (e .code))) room q, entry-length e, length-append (entryBytes e) (entriesBytes (fitting (room - entrySize (length (e .code))) es)), fitting-length (room - entrySize (length (e .code))) es))
+    (λ _. omega arith)
 
 pub fits : Fits
 unfolding run answer

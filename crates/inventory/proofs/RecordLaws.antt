@@ -1,6 +1,6 @@
 -- What is known of the record at a place by its size, kind, flag and zero bytes.
 use mathlib.Core.Path.{_≡_, refl, sym, ap, _∙_}
-use mathlib.Core.Bool.{Bool, true, false, cond, _&&_, and-false, and-true, false≢true}
+use mathlib.Core.Bool.{Bool, true, false, cond, _&&_, and-false, and-true}
 use mathlib.Core.List.{List}
 use Prim.Native.Nat.{ℕ, _+_, _-_, _<_, _≤_}
 use native.Mathlib.Omega.{arith}
@@ -9,19 +9,12 @@ use lib.ListN.{length, drop, length-take, length-drop}
 use lib.Seq.{slice, length-take-le}
 use borrow.Author.Tests.{le-leb, lt-leb, leb-true, leb-false}
 use Rattle.words.specs.Numbers.{le}
+use Rattle.words.proofs.Choice.{and-left, and-right}
 use Rattle.records.specs.Records.{lengthOf, kindOf, sizeOf, firstRecord, whole}
 use Rattle.records.proofs.Steps.{field-at, record-kind, whole-at}
 use Rattle.inventory.specs.Inventory.{flagOf, typeOf, codeOf, zeroCount, goodCode, goodRecord, framedAt, goodSize}
 use Rattle.inventory.specs.Listing.{matches}
 use Rattle.inventory.proofs.Codes.{non-zero-is, drop-part}
-
-and-left : (a b : Bool) → (a && b) ≡ true → a ≡ true
-and-left true b e = refl
-and-left false b e = e
-
-and-right : (a b : Bool) → (a && b) ≡ true → b ≡ true
-and-right true b e = e
-and-right false b e = absurd (false≢true e)
 
 -- what the code's test of the numbers tells
 pub framed-bounds : (left n kind flag : ℕ) → framedAt left n kind flag ≡ true → (15 ≤ n) × (n ≤ 93) × (n ≤ left)

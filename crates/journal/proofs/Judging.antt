@@ -20,7 +20,8 @@ use Rattle.journal.specs.Scope.{holds}
 use Rattle.journal.specs.Reportable.{reports}
 use Rattle.journal.specs.Marks.{count}
 use Rattle.journal.specs.Scanning.{goodAt, weightOf, Judged, FoundAt, Known}
-use Rattle.journal.proofs.Choice.{choose, and-left, and-right, each-code}
+use Rattle.words.proofs.Choice.{choose, and-left, and-right}
+use Rattle.journal.proofs.Opcodes.{each-code}
 use Rattle.journal.proofs.Entries.{one-if}
 
 -- ---- length and kind

@@ -1,4 +1,4 @@
-pub mod Choice
+pub mod Opcodes
 pub mod Entries
 pub mod Judging
 pub mod Reaching

@@ -18,7 +18,7 @@ use Rattle.journal.specs.Journal.{entries}
 use Rattle.journal.specs.Reportable.{chosen}
 use Rattle.journal.specs.Marks.{count, Resumes, Marked, sought}
 use Rattle.journal.specs.Scanning.{Reached, Noted, kept, added}
-use Rattle.journal.proofs.Choice.{choose}
+use Rattle.words.proofs.Choice.{choose}
 
 -- ---- marks noted
 

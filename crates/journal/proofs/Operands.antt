@@ -9,7 +9,7 @@ use Rattle.records.proofs.Steps.{EachBytes, records-bytes}
 use Rattle.journal.specs.declared.operation.Operation.{Operation}
 use Rattle.journal.specs.declared.operation.Operation.the-variants.{Delete, Update, Add}
 use Rattle.journal.specs.Journal.{Entry, operands, operationOf, entryOf, entries}
-use Rattle.journal.proofs.Choice.{choose}
+use Rattle.words.proofs.Choice.{choose}
 
 abbrev SmallOne : Operation → Type 0
 SmallOne o = Small (operands o)

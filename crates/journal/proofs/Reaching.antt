@@ -18,7 +18,7 @@ use Rattle.journal.specs.Journal.{goodRecord, wellFormed, entries}
 use Rattle.journal.specs.Reportable.{chosen, judgementOf}
 use Rattle.journal.specs.Marks.{count}
 use Rattle.journal.specs.Scanning.{Before, Reached, Went, Judged, fourHeaded, Known, unpacked}
-use Rattle.journal.proofs.Choice.{each-code}
+use Rattle.journal.proofs.Opcodes.{each-code}
 use Rattle.journal.proofs.Entries.{before-step, before-none, before-all}
 use Rattle.journal.proofs.Judging.{four-equal, judged-size, judged-fits, judged-light, judged-adds}
 

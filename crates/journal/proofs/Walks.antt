@@ -15,7 +15,8 @@ use Rattle.journal.specs.Journal.{goodRecord, wellFormed, operands, oper
 use Rattle.journal.specs.Reportable.{reports, chosen}
 use Rattle.journal.specs.Marks.{Resumes, operandsAt}
 use Rattle.journal.specs.Scanning.{weightOf, Judged}
-use Rattle.journal.proofs.Choice.{and-left, and-right, each-code}
+use Rattle.words.proofs.Choice.{and-left, and-right}
+use Rattle.journal.proofs.Opcodes.{each-code}
 use Rattle.journal.proofs.Entries.{entries-step, entries-end, one-if, chosen-yes, chosen-no}
 use Rattle.journal.proofs.Judging.{judged-size, judged-fits, judged-kind, judged-kind-low, judged-kind-high, judged-addition}
 

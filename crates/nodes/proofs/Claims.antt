@@ -14,7 +14,7 @@ use Rattle.words.proofs.Words.{words-bytes}
 use Rattle.journal.specs.declared.operation.Operation.{Operation}
 use Rattle.journal.specs.Journal.{Entry, opcode, operands, entries}
 use Rattle.journal.specs.Reportable.{reports, chosen, reportable, operandWords}
-use Rattle.journal.proofs.Choice.{choose}
+use Rattle.words.proofs.Choice.{choose}
 use Rattle.journal.proofs.Entries.{operations-few}
 use Rattle.journal.proofs.Operands.{SmallEntries, entries-small}
 use Rattle.journal.proofs.Walks.{within-limit}

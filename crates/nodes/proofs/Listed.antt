@@ -13,7 +13,7 @@ use Rattle.journal.specs.declared.operation.Operation.{Operation}
 use Rattle.journal.specs.declared.scanning.Counts.{Counts}
 use Rattle.journal.specs.Journal.{Entry, opcode, entries}
 use Rattle.journal.specs.Reportable.{reports, chosen, reportable, countsOf}
-use Rattle.journal.proofs.Choice.{choose, and-left}
+use Rattle.words.proofs.Choice.{choose, and-left}
 use Rattle.nodes.specs.Run.{run, remains, nextState, partWords, cut, leftOf, total}
 use Rattle.nodes.specs.Area.{wordsOf, part, body}
 use Rattle.nodes.proofs.Runs.{run-facts}

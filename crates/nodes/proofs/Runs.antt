@@ -14,7 +14,7 @@ use Rattle.journal.specs.declared.operation.Operation.{Operation}
 use Rattle.journal.specs.declared.operation.Operation.the-variants.{Delete, Update, Add}
 use Rattle.journal.specs.Journal.{opcode, operands}
 use Rattle.journal.specs.Reportable.{operandWords}
-use Rattle.journal.proofs.Choice.{choose}
+use Rattle.words.proofs.Choice.{choose}
 use Rattle.nodes.specs.Run.{present, cost, longest, run, remains, nextState, operator, partWords}
 use Rattle.nodes.specs.Area.{operandsOf, part, body}
 

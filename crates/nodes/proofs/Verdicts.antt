@@ -11,7 +11,7 @@ use lib.Seq.{drop-drop, slice}
 use borrow.Author.Tests.{eq-eqb, ne-eqb, ltb-false, leb-true, leb-false, eqb-true, eqb-false, not-true, not-false}
 use Rattle.words.specs.Numbers.{be, words, zeros}
 use Rattle.words.proofs.Words.{words-step, words-short, words-drop, length-words}
-use Rattle.journal.proofs.Choice.{choose}
+use Rattle.words.proofs.Choice.{choose}
 use Rattle.journal.specs.declared.operation.Operation.{Operation}
 use Rattle.journal.specs.declared.operation.Operation.the-variants.{Add}
 use Rattle.nodes.specs.declared.reading.Refusal.{Refusal}

@@ -16,7 +16,7 @@ use Rattle.journal.specs.declared.operation.Operation.{Operation}
 use Rattle.journal.specs.Journal.{wellFormed, operationOf, entryOf, entries}
 use Rattle.journal.specs.Reportable.{reports, chosen}
 use Rattle.journal.specs.Marks.{operandsAt, Resumes}
-use Rattle.journal.proofs.Choice.{each-code}
+use Rattle.journal.proofs.Opcodes.{each-code}
 use Rattle.journal.proofs.Entries.{one-if}
 use Rattle.journal.proofs.Judging.{judged-kind}
 use Rattle.journal.proofs.Walks.{all-good, walked, walked-on, walked-fits, walked-size, walked-operands, still-inside, chosen-here, chosen-later}

@@ -12,7 +12,7 @@ use Rattle.words.specs.Numbers.{words, zeros, be32}
 use Rattle.words.proofs.Words.{length-words}
 use Rattle.journal.specs.declared.operation.Operation.{Operation}
 use Rattle.journal.specs.declared.operation.Operation.the-variants.{Delete, Update, Add}
-use Rattle.journal.proofs.Choice.{choose}
+use Rattle.words.proofs.Choice.{choose}
 use Rattle.nodes.specs.declared.reading.Refusal.{Refusal}
 use Rattle.nodes.specs.declared.reading.Refusal.the-variants.{Size, Reserved}
 use Rattle.nodes.specs.declared.reading.Check.the-variants.{Entries, Refused}

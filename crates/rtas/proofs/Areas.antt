@@ -20,7 +20,7 @@ use Rattle.nodes.proofs.Listed.{total-is}
 use Rattle.rtas.specs.declared.status.Status.{Status}
 use Rattle.rtas.specs.declared.status.Status.the-variants as status
 use Rattle.rtas.specs.UpdateNodes.{areaAt, withArea, placed, reserved, goodState, areaStatus, areaAfter, nodesStatus, nodesMemory}
-use Rattle.journal.proofs.Choice.{and-right}
+use Rattle.words.proofs.Choice.{and-right}
 use Rattle.rtas.proofs.Memory.{area-lent, area-back}
 
 -- what a status and an area afterwards are to be

@@ -16,7 +16,7 @@ use Rattle.journal.specs.declared.operation.Operation.{Operation}
 use Rattle.journal.specs.Journal.{wellFormed}
 use Rattle.journal.specs.Scope.{valid, rowOf}
 use Rattle.journal.specs.Reportable.{reportable}
-use Rattle.journal.proofs.Choice.{choose, and-left, and-right}
+use Rattle.words.proofs.Choice.{choose, and-left, and-right}
 use Rattle.nodes.specs.Run.{remains}
 use Rattle.nodes.specs.Area.{written}
 use Rattle.rtas.specs.declared.status.Status.{Status}

@@ -8,7 +8,7 @@ use lib.Dec.{ltb, eqb}
 use lib.ListN.{length}
 use lib.Seq.{sets}
 use borrow.Author.Tests.{ltb-false, eqb-false, eqb-true}
-use Rattle.journal.proofs.Choice.{choose, and-left, and-right}
+use Rattle.words.proofs.Choice.{choose, and-left, and-right}
 use Rattle.words.specs.Numbers.{be32, wordBytes}
 use Rattle.dump.specs.declared.registration.Registration.{Registration}
 use Rattle.rtas.specs.declared.status.Number.{Number}

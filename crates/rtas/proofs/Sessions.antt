@@ -16,7 +16,7 @@ use Rattle.journal.specs.declared.operation.Operation.{Operation}
 use Rattle.journal.specs.Journal.{wellFormed}
 use Rattle.journal.specs.Scope.{valid, rowOf}
 use Rattle.journal.specs.Reportable.{operandWords}
-use Rattle.journal.proofs.Choice.{choose}
+use Rattle.words.proofs.Choice.{choose}
 use Rattle.nodes.specs.Run.{run, remains, nextState}
 use Rattle.nodes.specs.Area.{answer, written}
 use Rattle.nodes.specs.Reading.{Reading, read, refused, reading}

@@ -14,7 +14,7 @@ use Rattle.journal.specs.Journal.{goodFrame, nodeType, goodRecord, wellFormed, 
 use Rattle.journal.specs.Scope.{negative, valid, rowOf}
 use Rattle.journal.specs.Reportable.{reports, chosen, reportable, operandWords}
 use Rattle.journal.specs.Claims.{long}
-use Rattle.journal.proofs.Choice.{and-left, and-right}
+use Rattle.words.proofs.Choice.{and-left, and-right}
 use Rattle.nodes.specs.Run.{present, cost, longest, run, remains, nextState}
 use Rattle.nodes.specs.Area.{operandsOf, body, answer, written}
 use Rattle.rtas.specs.UpdateNodes.{areaAt, withArea, placed, reserved, goodState, areaStatus, areaAfter, nodesStatus, nodesMemory}

@@ -1,3 +1,4 @@
+pub mod Choice
 pub mod Numbers
 pub mod Stores
 pub mod Zeros
