@@ -1,3 +1,4 @@
 pub mod IndexLaws
 pub mod Written
+pub mod Writes
 pub mod Claims

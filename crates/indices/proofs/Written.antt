@@ -152,7 +152,7 @@ sound-fitting room (e ∷ es) h =
     (λ _. (h .0, h .1, sound-fitting (room - entrySize (length (e .code))) es (h .2)))
     (λ _. tt)
 
-fitting-few : (room : ℕ) (es : List Entry) → length (fitting room es) ≤ length es
+pub fitting-few : (room : ℕ) (es : List Entry) → length (fitting room es) ≤ length es
 unfolding fitting
 fitting-few room [] = omega arith
 fitting-few room (e ∷ es) =
@@ -202,13 +202,13 @@ pub holds-due : HoldsDue
 unfolding run
 holds-due size number es h p q = first-fits (size - 4) (drop (number - 1) es) (sound-drop (number - 1) es h) (omega (arith, length-drop (number - 1) es)) (omega arith)
 
-entry-length : (e : Entry) → length (entryBytes e) ≡ entrySize (length (e .code))
+pub entry-length : (e : Entry) → length (entryBytes e) ≡ entrySize (length (e .code))
 unfolding entryBytes codeField
 entry-length e =
     let n = filled (length (e .code)) in
     omega (arith, length-append (beBytes 4 (e .index)) (beBytes 4 n ++ codeField (e .code)), length-append (beBytes 4 n) (codeField (e .code)), length-append (e .code) (replicate (n - length (e .code)) 0), length-replicate {A = ℕ} (n - length (e .code)) 0, length-beBytes 4 (e .index), length-beBytes 4 n)
 
-fitting-length : (room : ℕ) (es : List Entry) → length (entriesBytes (fitting room es)) ≤ room
+pub fitting-length : (room : ℕ) (es : List Entry) → length (entriesBytes (fitting room es)) ≤ room
 unfolding fitting entriesBytes
 fitting-length room [] = omega arith
 fitting-length room (e ∷ es) =

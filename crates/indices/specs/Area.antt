@@ -44,3 +44,8 @@ answer es = beBytes 4 (length es) ++ entriesBytes es
 -- 01: "later bytes stay unchanged"
 unfoldable pub written : List ℕ → List Entry → List ℕ
 written area es = answer es ++ drop (length (answer es)) area
+
+-- 01: "never zero entries": without one the area stays as it is
+unfoldable pub left : List ℕ → List Entry → List ℕ
+left area [] = area
+left area (e ∷ es) = written area (e ∷ es)

@@ -1,4 +1,5 @@
 pub mod Area
+pub mod Writing
 pub mod Reading
 pub mod Cursor
 pub mod Claims

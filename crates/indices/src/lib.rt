@@ -1,5 +1,6 @@
-// The index work area: reading it.
+// The index work area: writing it, and reading it.
 mod reading;
+mod writing;
 
 pub use reading::Check;
 pub use reading::Cursor;
@@ -7,3 +8,5 @@ pub use reading::Next;
 pub use reading::Refusal;
 pub use reading::Set;
 pub use reading::check_area;
+pub use writing::StartingNumber;
+pub use writing::write_run;

@@ -41,7 +41,7 @@ module _ (flag type : ℕ) (r : List ℕ) (rs : List (List ℕ)) where
       go true es = refl
       go false es = refl
 
-chosen-none : (flag type : ℕ) → chosen flag type [] ≡ []
+pub chosen-none : (flag type : ℕ) → chosen flag type [] ≡ []
 unfolding chosen
 chosen-none flag type = refl
 

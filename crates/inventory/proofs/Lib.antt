@@ -1,4 +1,5 @@
 pub mod Codes
 pub mod RecordLaws
 pub mod Entries
+pub mod Search
 pub mod Claims

@@ -131,14 +131,17 @@ pub record Stands (s : List ℕ) (at n : ℕ) : Type 0 where
   pub good : goodHere s at ≡ true
   pub size-is : n ≡ sizeOf (drop at s)
   pub large : 15 ≤ n
+  pub small : n ≤ 93
   pub fits : at + n ≤ length s
+
+pub good-stands : {s : List ℕ} {at n : ℕ} → goodHere s at ≡ true → n ≡ sizeOf (drop at s) → Stands s at n
+good-stands {s} {at} g p =
+    let b = bounds s at (and-left (framedHere s at) _ (sym (good-here s at) ∙ g)) in
+    record { good = g; size-is = p; large = omega arith; small = omega arith; fits = omega arith }
 
 pub stands : {s : List ℕ} {at n : ℕ} → n ≡ goodSize (drop at s) → (n ≡ 0 → ⊥) → Stands s at n
 stands {s} {at} {n} e z = go (goodHere s at) refl
   where
     go : (t : Bool) → goodHere s at ≡ t → Stands s at n
-    go true g =
-        let p : n ≡ sizeOf (drop at s) = e ∙ rw g in
-        let b = bounds s at (and-left (framedHere s at) _ (sym (good-here s at) ∙ g)) in
-        record { good = g; size-is = p; large = omega arith; fits = omega arith }
+    go true g = good-stands g (e ∙ rw g)
     go false g = absurd (z (e ∙ rw g))

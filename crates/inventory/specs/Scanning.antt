@@ -1,14 +1,14 @@
--- What a scan of an inventory tells.
+-- What a scan of an inventory tells, and what the search for the next entry finds.
 use Prim.Native.Nat.{ℕ, _+_, _-_, _≤_}
 use mathlib.Core.Path.{_≡_}
 use mathlib.Core.Bool.{true, false}
-use mathlib.Core.List.{List}
+use mathlib.Core.List.{List, _∷_}
 use lib.ListN.{length, drop}
-use Rattle.records.specs.Records.{records, allGood}
+use Rattle.records.specs.Records.{sizeOf, firstRecord, records, allGood}
 use Rattle.inventory.specs.declared.scanning.Judgement.{Judgement}
 use Rattle.inventory.specs.declared.scanning.Judgement.the-variants.{Malformed, Counted}
 use Rattle.inventory.specs.Inventory.{goodRecord, wellFormed}
-use Rattle.inventory.specs.Listing.{chosen, listed}
+use Rattle.inventory.specs.Listing.{entryOf, matches, chosen, listed}
 
 -- From this place on, where a record begins, the list holds what it holds of the whole inventory from an entry on.
 pub record From (flag type : ℕ) (inventory : List ℕ) (passed at : ℕ) : Type 0 where
@@ -22,3 +22,16 @@ abbrev pub Tells : ℕ → ℕ → ℕ → List ℕ → Judgement → Type 0
 Tells flag type number inventory Malformed = wellFormed inventory ≡ false
 Tells flag type number inventory (Counted count at) =
     (wellFormed inventory ≡ true) × (count ≡ length (listed flag type inventory)) × (1 ≤ number → number ≤ count → From flag type inventory (number - 1) at)
+
+-- The bytes from this place on, which may be the end, are good records.
+pub record Onward (inventory : List ℕ) (at : ℕ) : Type 0 where
+  pub inside : at ≤ length inventory
+  pub good : allGood goodRecord (records (drop at inventory)) ≡ true
+
+-- The record here is the next one of the flag and type from a place on: its size, the good records behind it, and the entries from that place on, its own first.
+pub record Next (flag type : ℕ) (inventory : List ℕ) (from at : ℕ) : Type 0 where
+  pub of-type : matches flag type (firstRecord (drop at inventory)) ≡ true
+  pub large : 15 ≤ sizeOf (drop at inventory)
+  pub small : sizeOf (drop at inventory) ≤ 93
+  pub onward : Onward inventory (at + sizeOf (drop at inventory))
+  pub first : chosen flag type (records (drop from inventory)) ≡ entryOf (firstRecord (drop at inventory)) ∷ chosen flag type (records (drop (at + sizeOf (drop at inventory)) inventory))

@@ -3,10 +3,10 @@ use mathlib.Core.Path.{_≡_, refl, ap, _∙_, sym}
 use mathlib.Core.List.{List, [], _∷_, _++_, append-assoc, append-nil}
 use Prim.Native.Nat.{ℕ, suc, _+_, _*_, _/_, _%_, _^_, _<_, _≤_}
 use native.Mathlib.Nat.{add-zero, add-suc, suc-add, div-one}
-use native.Mathlib.Numerals.{towards-suc}
+use native.Mathlib.Numerals.{add-one, towards-suc}
 use native.Mathlib.Omega.{arith}
-use lib.ListN.{length, getD, set, take, drop}
-use lib.Seq.{sets, sets-eq, set-comm, set-set, getD-set-other, getD-append-add, length-take-le}
+use lib.ListN.{length, getD, set, take, drop, length-set, drop-of-length-le}
+use lib.Seq.{drop-cons, sets, sets-eq, set-comm, set-set, getD-set-other, getD-append-add, length-take-le}
 use Rattle.words.specs.Numbers.{be, beBytes, wordBytes}
 use Rattle.words.proofs.Numbers.{be-same, be-bytes, length-beBytes}
 
@@ -24,17 +24,40 @@ pub sets-append : (l : List ℕ) (i : ℕ) (us vs : List ℕ) → sets l i (us +
 sets-append l i [] vs = rw add-zero
 sets-append l i (u ∷ us) vs = sets-append (set l i u) (suc i) us vs ∙ ap (λ (k : ℕ). sets (sets (set l i u) (suc i) us) k vs) (suc-add i (length us) ∙ sym (add-suc i (length us)))
 
--- a store in the place of another that is no longer
+pub sets-behind : (l : List ℕ) (i k : ℕ) (us vs : List ℕ) → k ≡ i + length us → sets (sets l i us) k vs ≡ sets l i (us ++ vs)
+sets-behind l i k us vs h = rw (h, sets-append)
+
+-- a store before another can be made after it
 set-sets : (vs l : List ℕ) (i k v : ℕ) → i < k → set (sets l k vs) i v ≡ sets (set l i v) k vs
 set-sets [] l i k v h = refl
 set-sets (u ∷ vs) l i k v h = set-sets vs (set l k u) i (suc k) v (omega arith) ∙ ap (λ (m : List ℕ). sets m (suc k) vs) (set-comm l k i u v (λ e. omega arith))
 
+pub sets-swap : (us vs l : List ℕ) (i k : ℕ) → i + length us ≤ k → sets (sets l k vs) i us ≡ sets (sets l i us) k vs
+sets-swap [] vs l i k h = refl
+sets-swap (u ∷ us) vs l i k h = ap (λ (m : List ℕ). sets m (suc i) us) (set-sets vs l i k u (omega arith)) ∙ sets-swap us vs (set l i u) (suc i) k (omega arith)
+
+-- a store in the place of another that is no longer
 pub sets-over : (us vs l : List ℕ) (i : ℕ) → length us ≤ length vs → sets (sets l i us) i vs ≡ sets l i vs
 sets-over [] vs l i h = refl
 sets-over (u ∷ us) [] l i h = absurd (omega arith)
 sets-over (u ∷ us) (v ∷ vs) l i h =
     ap (λ (m : List ℕ). sets m (suc i) vs) (set-sets us (set l i u) i (suc i) v (omega arith) ∙ ap (λ (m : List ℕ). sets m (suc i) us) (set-set l i u v))
     ∙ sets-over us vs (set l i v) (suc i) (omega arith)
+
+-- Values are stored one after the other: the list keeps its length, and storing the values from number i on gives the whole store.
+pub record Storing (start : List ℕ) (at : ℕ) (vs : List ℕ) (i : ℕ) (l : List ℕ) : Type 0 where
+  pub same : length l ≡ length start
+  pub rest : sets l (at + i) (drop i vs) ≡ sets start at vs
+
+pub storing-start : (start : List ℕ) (at : ℕ) (vs : List ℕ) → Storing start at vs 0 start
+storing-start start at vs = record { same = refl; rest = rw add-zero }
+
+module _ {start vs l : List ℕ} {at i : ℕ} (t : Storing start at vs i l) where
+  pub storing-next : (v : ℕ) → i < length vs → v ≡ getD vs i 0 → Storing start at vs (i + 1) (set l (at + i) v)
+  storing-next v h e = record { same = length-set l (at + i) v ∙ t .same; rest = rw (e, add-one, add-suc) (rw (drop-cons vs i 0 h) at (t .rest)) }
+
+  pub storing-end : length vs ≤ i → l ≡ sets start at vs
+  storing-end h = rw (drop-of-length-le vs h) at (t .rest)
 
 -- ---- words
 
@@ -54,9 +77,7 @@ wordBytes-one w = append-nil (beBytes 4 w)
 
 -- words stored behind words are one store
 pub words-behind : (l : List ℕ) (i k : ℕ) (ws vs : List ℕ) → k ≡ i + 4 * length ws → sets (sets l i (wordBytes ws)) k (wordBytes vs) ≡ sets l i (wordBytes (ws ++ vs))
-words-behind l i k ws vs h =
-    let e : i + length (wordBytes ws) ≡ k = omega (arith, length-wordBytes ws) in
-    sym (ap (sets l i) (wordBytes-append ws vs) ∙ sets-append l i (wordBytes ws) (wordBytes vs) ∙ ap (λ (n : ℕ). sets (sets l i (wordBytes ws)) n (wordBytes vs)) e)
+words-behind l i k ws vs h = sets-behind l i k (wordBytes ws) (wordBytes vs) (rw length-wordBytes h) ∙ rw wordBytes-append
 
 -- a word stored alone, and a word stored behind others
 module _ (l m : List ℕ) (i v : ℕ) where

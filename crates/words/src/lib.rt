@@ -11,4 +11,6 @@ pub use reading::read_le16;
 pub use reading::read_le32;
 pub use reading::read_le64;
 pub use storing::store_be32;
+pub use storing::store_bytes;
+pub use storing::store_zeros;
 pub use zero::is_zero;

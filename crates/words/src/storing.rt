@@ -1,7 +1,7 @@
 // Storing a number at a place of a slice.
 ghost use mathlib.Core.Path.{_≡_};
 ghost use Prim.Native.Nat.{_+_, _≤_};
-ghost use lib.ListN.{length};
+ghost use lib.ListN.{length, take, drop, replicate};
 ghost use lib.Seq.{sets};
 ghost use Rattle.words.specs.Numbers.{beBytes};
 
@@ -14,4 +14,28 @@ pub fn store_be32(s: &mut [u8], at: usize, v: u32)
     s[at + 1] = (v / 65536 % 256) as u8;
     s[at + 2] = (v / 256 % 256) as u8;
     s[at + 3] = (v % 256) as u8;
+}
+
+// Bytes of another slice, `n` of them, from a place on; every other byte of the slice stays.
+pub fn store_bytes(s: &mut [u8], at: usize, source: &[u8], from: usize, n: usize)
+    requires { ⌜ (at + n ≤ length (now s)) × (from + n ≤ length (now source)) ⌝ }
+    ensures { λ _. ⌜ now (s .exit) ≡ sets (now (s .entry)) at (take n (drop from (now (source .entry)))) ⌝ }
+{
+    let mut i: usize = 0;
+    while i < n {
+        s[at + i] = source[from + i];
+        i += 1;
+    }
+}
+
+// So many zero bytes from a place on; every other byte of the slice stays.
+pub fn store_zeros(s: &mut [u8], at: usize, n: usize)
+    requires { ⌜ at + n ≤ length (now s) ⌝ }
+    ensures { λ _. ⌜ now (s .exit) ≡ sets (now (s .entry)) at (replicate n 0) ⌝ }
+{
+    let mut i: usize = 0;
+    while i < n {
+        s[at + i] = 0;
+        i += 1;
+    }
 }

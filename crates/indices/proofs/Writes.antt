@@ -1,0 +1,169 @@
+-- The writer's steps: the stores of an entry, one entry after the other, and the run with its count.
+use mathlib.Core.Path.{_≡_, refl, sym, ap, _∙_}
+use mathlib.Core.List.{List, [], _∷_, _++_}
+use Prim.Native.Nat.{ℕ, suc, _+_, _-_, _≤_, _<_}
+use native.Mathlib.Nat.{zero-add}
+use native.Mathlib.Omega.{arith}
+use lib.ListN.{length, take, drop, replicate, length-drop, length-append, drop-of-length-le}
+use lib.Seq.{sets, sets-eq, length-sets, length-take-le, take-add, drop-at, drop-drop}
+use borrow.Author.Tests.{le-leb, lt-leb}
+use Rattle.words.specs.Numbers.{beBytes}
+use Rattle.words.proofs.Numbers.{length-beBytes}
+use Rattle.words.proofs.Stores.{sets-behind, sets-swap}
+use Rattle.records.specs.Records.{sizeOf, firstRecord}
+use Rattle.records.proofs.Steps.{field-at}
+use Rattle.inventory.specs.Inventory.{indexOf, codeOf}
+use Rattle.inventory.specs.Listing.{Entry, entryOf, listed}
+use Rattle.inventory.specs.Scanning.{Onward, Next}
+use Rattle.indices.specs.Area.{filled, entrySize, codeField, entryBytes, entriesBytes, fitting, run, answer, written, left}
+use Rattle.indices.specs.Writing.{entryFrom, ahead, Due}
+use Rattle.indices.proofs.Written.{entry-length, fitting-length, fitting-few}
+
+-- ---- an entry
+
+-- the code's four stores
+pub entry-stored : (area : List ℕ) (to n : ℕ) (e : Entry) → length (e .code) ≡ n
+    → sets (sets (sets (sets area to (beBytes 4 (e .index))) (to + 4) (beBytes 4 (filled n))) (to + 8) (e .code)) (to + 8 + n) (replicate (filled n - n) 0) ≡ sets area to (entryBytes e)
+unfolding entryBytes codeField
+entry-stored area to n e h =
+    let index = beBytes 4 (e .index) in
+    let size = beBytes 4 (filled n) in
+    let nuls : List ℕ = replicate (filled n - n) 0 in
+    let first : List ℕ = sets area to index in
+    let second : List ℕ = sets first (to + 4) size in
+    sets-behind second (to + 8) (to + 8 + n) (e .code) nuls (omega arith)
+    ∙ sets-behind first (to + 4) (to + 8) size (e .code ++ nuls) (omega (arith, length-beBytes 4 (filled n)))
+    ∙ sets-behind area to (to + 4) index (size ++ (e .code ++ nuls)) (omega (arith, length-beBytes 4 (e .index)))
+    ∙ rw h
+
+-- the entry that the code takes from a record
+pub code-length : (inventory : List ℕ) (at n : ℕ) → at + (14 + n) ≤ length inventory → length (entryFrom inventory at n .code) ≡ n
+code-length inventory at n h = length-take-le n (drop (at + 14) inventory) (omega (arith, length-drop (at + 14) inventory))
+
+entry-is : (inventory : List ℕ) (at n : ℕ) → n ≡ sizeOf (drop at inventory) → 14 ≤ n → at + n ≤ length inventory → entryOf (firstRecord (drop at inventory)) ≡ entryFrom inventory at (n - 14)
+unfolding indexOf codeOf
+entry-is inventory at n p l h =
+    let here = drop at inventory in
+    let parts : n ≡ 14 + (n - 14) = omega arith in
+    let code : drop 14 (take n here) ≡ take (n - 14) (drop (at + 14) inventory) =
+    ap (λ (k : ℕ). drop 14 (take k here)) parts ∙ ap (drop 14) (take-add 14 (n - 14) here)
+    ∙ drop-at (take 14 here) _ 14 (length-take-le 14 here (omega (arith, length-drop at inventory))) ∙ ap (take (n - 14)) (drop-drop 14 at inventory) in
+    rw (field-at inventory at 4 10 (omega arith), ← p, code)
+
+-- whether it fits
+module _ (room n : ℕ) (e : Entry) (es : List Entry) (sized : length (e .code) ≡ n) where
+  fitting-none : room < entrySize n → fitting room (e ∷ es) ≡ []
+  unfolding fitting
+  fitting-none h = rw (sized, lt-leb (entrySize n) room h)
+
+  fitting-more : entrySize n ≤ room → fitting room (e ∷ es) ≡ e ∷ fitting (room - entrySize n) es
+  unfolding fitting
+  fitting-more h = rw (sized, le-leb (entrySize n) room h)
+
+-- ---- the loop
+
+-- The writer has handed out so many entries of a run and stands at a place of the inventory and of the area:
+-- the entries from there on that fit, stored from there on, give the run.
+pub record Writing (start : List ℕ) (whole : List Entry) (flag kind count : ℕ) (inventory area : List ℕ) (at to handed : ℕ) : Type 0 where
+  pub onward : Onward inventory at
+  pub due : count ≡ handed + length (ahead flag kind inventory at)
+  pub inside : to ≤ length area
+  pub same : length area ≡ length start
+  pub number : handed + length (fitting (length area - to) (ahead flag kind inventory at)) ≡ length whole
+  pub stored : sets area to (entriesBytes (fitting (length area - to) (ahead flag kind inventory at))) ≡ sets start 4 (entriesBytes whole)
+
+pub writing-start : (flag kind count : ℕ) (inventory area : List ℕ) (from : ℕ) → 4 ≤ length area → Onward inventory from → count ≡ length (ahead flag kind inventory from)
+    → Writing area (fitting (length area - 4) (ahead flag kind inventory from)) flag kind count inventory area from 4 0
+writing-start flag kind count inventory area from h o e = record { onward = o; due = omega arith; inside = h; same = refl; number = zero-add _; stored = refl }
+
+module _ {start : List ℕ} {whole : List Entry} {flag kind count : ℕ} {inventory area : List ℕ} {at to handed : ℕ} (w : Writing start whole flag kind count inventory area at to handed) where
+  -- the run is handed out, and its bytes stand in the area
+  abbrev Done : Type 0
+  Done = (handed ≡ length whole) × (area ≡ sets start 4 (entriesBytes whole))
+
+  done : fitting (length area - to) (ahead flag kind inventory at) ≡ [] → Done
+  unfolding entriesBytes
+  done e = (omega (arith, ap length e), rw e at (w .stored))
+
+  -- no entry is left
+  pub writing-end : count ≤ handed → Done
+  unfolding fitting
+  writing-end h = done (ap (fitting (length area - to)) (drop-of-length-le (ahead flag kind inventory at) {i = 0} (omega arith)))
+
+  -- the next entry, by what the code read: its record's place and size, and the bytes that it takes in the area
+  module _ (found size taken : ℕ) (next : Next flag kind inventory at found) (p : size ≡ sizeOf (drop found inventory)) (q : taken ≡ entrySize (size - 14)) where
+    abbrev entry : Entry
+    entry = entryFrom inventory found (size - 14)
+
+    fits : found + size ≤ length inventory
+    fits = omega arith
+
+    sized : length (entry .code) ≡ size - 14
+    sized = code-length inventory found (size - 14) (omega (arith, fits))
+
+    first : ahead flag kind inventory at ≡ entry ∷ ahead flag kind inventory (found + size)
+    first =
+        next .first
+        ∙ ap (λ (e : Entry). e ∷ ahead flag kind inventory (found + sizeOf (drop found inventory))) (entry-is inventory found size p (omega arith) fits)
+        ∙ ap (λ (n : ℕ). entry ∷ ahead flag kind inventory (found + n)) (sym p)
+
+    -- it does not fit
+    pub writing-full : length area - to < taken → Done
+    writing-full h = done (ap (fitting (length area - to)) first ∙ fitting-none (length area - to) (size - 14) entry _ sized (omega arith))
+
+    -- it is stored
+    pub writing-next : taken ≤ length area - to → Writing start whole flag kind count inventory (sets area to (entryBytes entry)) (found + size) (to + taken) (handed + 1)
+    unfolding entriesBytes
+    writing-next h =
+        let same-size : length (sets area to (entryBytes entry)) ≡ length area = length-sets area to (entryBytes entry) in
+        let more = ap (fitting (length area - to)) first ∙ fitting-more (length area - to) (size - 14) entry _ sized (omega arith) in
+        let rest : List Entry = fitting (length area - to - entrySize (size - 14)) (ahead flag kind inventory (found + size)) in
+        let room : length (sets area to (entryBytes entry)) - (to + taken) ≡ length area - to - entrySize (size - 14) = omega arith in
+        record {
+          onward = rw p (next .onward);
+          due = omega (arith, ap length first);
+          inside = omega arith;
+          same = same-size ∙ w .same;
+          number = rw room (omega (arith, ap length more));
+          stored = rw room (sets-behind area to (to + taken) (entryBytes entry) (entriesBytes rest) (omega (arith, entry-length entry, sized)) ∙ ap (λ (l : List Entry). sets area to (entriesBytes l)) (sym more) ∙ w .stored);
+        }
+
+-- ---- the run with its count
+
+-- the area without an entry, and with some behind their count
+left-none : (area : List ℕ) (es : List Entry) → length es ≡ 0 → sets area 4 (entriesBytes es) ≡ left area es
+unfolding left entriesBytes
+left-none area [] h = refl
+left-none area (e ∷ es) h = absurd (omega arith)
+
+left-some : (area : List ℕ) (es : List Entry) → 0 < length es → 4 + length (entriesBytes es) ≤ length area → sets (sets area 4 (entriesBytes es)) 0 (beBytes 4 (length es)) ≡ left area es
+unfolding left written answer
+left-some area [] h l = absurd (omega arith)
+left-some area (e ∷ es) h l =
+    let count = beBytes 4 (suc (length es)) in
+    let bytes = entriesBytes (e ∷ es) in
+    let four = length-beBytes 4 (suc (length es)) in
+    sets-swap count bytes area 0 4 (omega arith) ∙ sets-behind area 0 4 count bytes (omega arith) ∙ sets-eq (count ++ bytes) area 0 (omega (arith, length-append count bytes)) ∙ rw zero-add
+
+module _ (area : List ℕ) {inventory : List ℕ} {flag kind number from count : ℕ} (d : Due flag kind number inventory from count) where
+  abbrev due-run : List Entry
+  due-run = fitting (length area - 4) (ahead flag kind inventory from)
+
+  -- what a call is to hand out and to leave
+  abbrev Answered : ℕ → List ℕ → Type 0
+  Answered handed l = (handed ≡ length (run (length area) number (listed flag kind inventory))) × (l ≡ left area (run (length area) number (listed flag kind inventory)))
+
+  answered : {handed : ℕ} {l : List ℕ} → handed ≡ length due-run → l ≡ left area due-run → Answered handed l
+  unfolding run
+  answered p q = rw (d .rest) (p, q)
+
+  pub run-few : length due-run ≤ 1048576
+  run-few = omega (arith, fitting-few (length area - 4) (ahead flag kind inventory from))
+
+  -- by what the writer of the entries tells, and the count that is stored after them
+  module _ {handed : ℕ} {l : List ℕ} (p : handed ≡ length due-run) (q : l ≡ sets area 4 (entriesBytes due-run)) where
+    pub run-none : handed ≤ 0 → Answered handed l
+    run-none h = answered p (q ∙ left-none area due-run (omega arith))
+
+    pub run-counted : {m : List ℕ} → 4 ≤ length area → 0 < handed → m ≡ sets l 0 (beBytes 4 handed) → Answered handed m
+    run-counted f h e = answered p (e ∙ rw (q, p) (left-some area due-run (omega arith) (omega (arith, fitting-length (length area - 4) (ahead flag kind inventory from)))))

@@ -1,0 +1,84 @@
+// Writing an index work area.
+ghost use mathlib.Core.Path.{_≡_};
+ghost use Prim.Native.Nat.{_+_, _-_, _≤_};
+ghost use lib.ListN.{length};
+ghost use lib.Seq.{sets};
+ghost use Rattle.inventory.specs.Listing.{listed};
+ghost use Rattle.inventory.specs.Scanning.{Onward};
+ghost use Rattle.indices.specs.Area.{filled, entrySize, entryBytes, entriesBytes, fitting, run, left};
+ghost use Rattle.indices.specs.Writing.{entryFrom, ahead, Due};
+
+// The Starting Number: the number of the entry due. It counts from 1.
+pub struct StartingNumber(pub u32);
+
+// The bytes of a code of c bytes with its NULs.
+fn filled_size(c: usize) -> usize
+    requires { ⌜ c ≤ 79 ⌝ }
+    ensures { λ r. ⌜ r ≡ filled c ⌝ }
+{
+    4 * (c / 4 + 1)
+}
+
+// The entry whose record stands at a place, with a code of c bytes; every other byte of the area stays.
+fn store_entry(area: &mut [u8], to: usize, inventory: &[u8], at: usize, c: usize)
+    requires { ⌜ (c ≤ 79) × (to + entrySize c ≤ length (now area)) × (at + (14 + c) ≤ length (now inventory)) ⌝ }
+    ensures { λ _. ⌜ now (area .exit) ≡ sets (now (area .entry)) to (entryBytes (entryFrom (now (inventory .entry)) at c)) ⌝ }
+{
+    let field = filled_size(c);
+    words::store_be32(area, to, words::read_le32(inventory, at + 10));
+    words::store_be32(area, to + 4, field as u32);
+    words::store_bytes(area, to + 8, inventory, at + 14, c);
+    words::store_zeros(area, to + 8 + c, field - c);
+}
+
+// The longest fitting run of the entries from a place on, from byte 4 on. Gives how many they are.
+fn write_entries(
+    area: &mut [u8],
+    inventory: &[u8],
+    flag: u32,
+    kind: u32,
+    from: usize,
+    count: usize,
+) -> usize
+    requires { ⌜ (4 ≤ length (now area)) × Onward (now inventory) from × (count ≡ length (ahead flag kind (now inventory) from)) ⌝ }
+    ensures { λ r. ⌜ r ≡ length (fitting (length (now (area .entry)) - 4) (ahead flag kind (now (inventory .entry)) from)) ⌝ }
+    ensures { λ _. ⌜ now (area .exit) ≡ sets (now (area .entry)) 4 (entriesBytes (fitting (length (now (area .entry)) - 4) (ahead flag kind (now (inventory .entry)) from))) ⌝ }
+{
+    let mut at = from;
+    let mut to: usize = 4;
+    let mut handed: usize = 0;
+    while handed < count {
+        at = inventory::next_entry(inventory, flag, kind, at);
+        let size = records::record_size(records::read_frame(inventory, at));
+        let taken = 8 + filled_size(size - 14);
+        if area.len() - to < taken {
+            return handed;
+        }
+        store_entry(area, to, inventory, at, size - 14);
+        at += size;
+        to += taken;
+        handed += 1;
+    }
+    handed
+}
+
+// The run from a Starting Number on, with its count, or nothing where the entry due does not fit. Gives how many entries it has.
+pub fn write_run(
+    area: &mut [u8],
+    inventory: &[u8],
+    flag: u32,
+    kind: u32,
+    number: StartingNumber,
+    from: usize,
+    count: usize,
+) -> usize
+    requires { ⌜ (4 ≤ length (now area)) × Due flag kind (number .0) (now inventory) from count ⌝ }
+    ensures { λ r. ⌜ r ≡ length (run (length (now (area .entry))) (number .0) (listed flag kind (now (inventory .entry)))) ⌝ }
+    ensures { λ _. ⌜ now (area .exit) ≡ left (now (area .entry)) (run (length (now (area .entry))) (number .0) (listed flag kind (now (inventory .entry)))) ⌝ }
+{
+    let handed = write_entries(area, inventory, flag, kind, from, count);
+    if 0 < handed {
+        words::store_be32(area, 0, handed as u32);
+    }
+    handed
+}

@@ -1,0 +1,19 @@
+// The search for the next entry of a flag and type: it moves from record to record by the record's length.
+ghost use Prim.Native.Nat.{_<_};
+ghost use lib.ListN.{length, drop};
+ghost use Rattle.records.specs.Records.{records};
+ghost use Rattle.inventory.specs.Listing.{chosen};
+ghost use Rattle.inventory.specs.Scanning.{Onward, Next};
+use crate::judging::has_type;
+
+// The place of the next record of a flag and type, from a place on where good records stand and one of them is such.
+pub fn next_entry(inventory: &[u8], flag: u32, kind: u32, from: usize) -> usize
+    requires { ⌜ Onward (now inventory) from × (0 < length (chosen flag kind (records (drop from (now inventory))))) ⌝ }
+    ensures { λ r. ⌜ Next flag kind (now (inventory .entry)) from r ⌝ }
+{
+    let mut at = from;
+    while !has_type(inventory, at, flag, kind) {
+        at += records::record_size(records::read_frame(inventory, at));
+    }
+    at
+}
