@@ -1,4 +1,5 @@
 pub mod Choice
+pub mod Ends
 pub mod Numbers
 pub mod Stores
 pub mod Zeros

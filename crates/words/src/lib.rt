@@ -1,9 +1,11 @@
 // Numbers in bytes: big-endian 16, 32 and 64 bits, little-endian 16, 32 and 64 bits.
 mod join;
+mod nul;
 mod reading;
 mod storing;
 mod zero;
 
+pub use nul::find_nul;
 pub use reading::read_be16;
 pub use reading::read_be32;
 pub use reading::read_be64;

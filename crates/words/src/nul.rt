@@ -1,0 +1,24 @@
+// The end of bytes that a NUL ends.
+ghost use mathlib.Core.Path.{_≡_};
+ghost use Prim.Native.Nat.{_+_, _≤_};
+ghost use lib.ListN.{length};
+ghost use lib.Seq.{slice};
+ghost use Rattle.words.specs.Nul.{untilNul};
+
+// The place of the first NUL from one place up to another, or the end.
+pub fn find_nul(s: &[u8], from: usize, to: usize) -> usize
+    requires { ⌜ (from ≤ to) × (to ≤ length (now s)) ⌝ }
+    ensures { λ r. ⌜ r ≡ from + length (untilNul (slice from to (now (s .entry)))) ⌝ }
+{
+    let mut i = from;
+    let end = loop {
+        if to <= i {
+            break to;
+        }
+        if s[i] == 0 {
+            break i;
+        }
+        i += 1;
+    };
+    end
+}
