@@ -1,1 +1,3 @@
+pub mod Structure
 pub mod Registration
+pub mod Claims

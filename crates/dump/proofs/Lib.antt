@@ -1,0 +1,4 @@
+pub mod Claims
+pub mod StructureLaws
+pub mod Copies
+pub mod Verdicts

@@ -1,0 +1,101 @@
+-- What each command makes of a registration, phase by phase.
+use mathlib.Core.Path.{_≡_, refl}
+use mathlib.Core.Bool.{true, false, _||_}
+use mathlib.Core.List.{List, []}
+use Prim.Native.Nat.{ℕ, zero, suc, _+_, _-_, _≤_}
+use native.Mathlib.Nat.{add-sub-cancel-left}
+use native.Mathlib.Omega.{arith}
+use lib.Dec.{leb, ltb}
+use lib.ListN.{length, take, drop, length-take, length-drop}
+use borrow.Author.Tests.{leb-true, lt-ltb, le-ltb}
+use Rattle.words.proofs.Choice.{and-left, and-right}
+use Rattle.dump.specs.declared.registration.Phase.the-variants.{Unregistered, Registered, Active}
+use Rattle.dump.specs.declared.registration.Registration.{Registration}
+use Rattle.dump.specs.declared.registration.Verdict.{Verdict}
+use Rattle.dump.specs.declared.registration.Verdict.the-variants.{Done, Parameter, AlreadyRegistered, DumpActive}
+use Rattle.dump.specs.declared.registration.Configured.{Configured}
+use Rattle.dump.specs.Registration.{padded, noRegistration, registered, structureAt, acceptable, verdictOf, registrationAfter, configured}
+
+-- an acceptable structure fits into a copy, and stands inside memory
+module _ (m : List ℕ) (address len : ℕ) (good : acceptable m address len ≡ true) where
+  pub acceptable-short : len ≤ 512
+  unfolding acceptable
+  acceptable-short = leb-true len 512 (and-left (leb len 512) _ (and-right (leb 40 len) _ good))
+
+  pub acceptable-inside : address + len ≤ length m
+  unfolding acceptable
+  acceptable-inside = leb-true (address + len) (length m) (and-left (leb (address + len) (length m)) _ (and-right (leb len 512) _ (and-right (leb 40 len) _ good)))
+
+  -- the registration with a copy of it
+  pub registered-is : (copy : List ℕ) → copy ≡ padded (take (address + len - address) (drop address m)) → record { phase = Registered; len = len; copy = copy } ≡ registered (structureAt m address len)
+  registered-is copy e =
+      let h = acceptable-inside in
+      let n : length (structureAt m address len) ≡ len = simp (length-take, length-drop) (omega arith) in
+      rw (e, add-sub-cancel-left address len, n)
+
+-- what came, handed back with a verdict
+pub kept-is : (x : Configured) (r : Registration) (v : Verdict) → (x .next ≡ r) × (x .verdict ≡ v) → x ≡ record { next = r; verdict = v }
+kept-is x r v e = rw (← e .0, ← e .1)
+
+-- a command that is none of the three fails the first test
+outside : (command : ℕ) → (command ≡ 1 → ⊥) → (command ≡ 2 → ⊥) → (command ≡ 3 → ⊥) → (ltb command 1 || ltb 3 command) ≡ true
+outside zero one two three = refl
+outside (suc n) one two three = rw (le-ltb (suc n) 1 (omega arith), lt-ltb 3 (suc n) (omega arith))
+
+module _ (m : List ℕ) (address len : ℕ) (r : Registration) where
+  -- command 1
+  pub register-active : r .phase ≡ Active → configured m 1 address len r ≡ record { next = r; verdict = DumpActive }
+  unfolding verdictOf registrationAfter
+  register-active e = rw e
+
+  pub register-registered : r .phase ≡ Registered → configured m 1 address len r ≡ record { next = r; verdict = AlreadyRegistered }
+  unfolding verdictOf registrationAfter
+  register-registered e = rw e
+
+  pub register-refused : r .phase ≡ Unregistered → acceptable m address len ≡ false → configured m 1 address len r ≡ record { next = r; verdict = Parameter }
+  unfolding verdictOf registrationAfter
+  register-refused e h = rw (e, h)
+
+  pub register-done : r .phase ≡ Unregistered → acceptable m address len ≡ true → configured m 1 address len r ≡ record { next = registered (structureAt m address len); verdict = Done }
+  unfolding verdictOf registrationAfter
+  register-done e h = rw (e, h)
+
+  -- command 2
+  pub unregister-active : r .phase ≡ Active → configured m 2 address len r ≡ record { next = r; verdict = DumpActive }
+  unfolding verdictOf registrationAfter
+  unregister-active e = rw e
+
+  pub unregister-done : r .phase ≡ Registered → configured m 2 address len r ≡ record { next = noRegistration; verdict = Done }
+  unfolding verdictOf registrationAfter
+  unregister-done e = rw e
+
+  pub unregister-none : r .phase ≡ Unregistered → configured m 2 address len r ≡ record { next = r; verdict = Parameter }
+  unfolding verdictOf registrationAfter
+  unregister-none e = rw e
+
+  -- command 3
+  pub complete-done : r .phase ≡ Active → configured m 3 address len r ≡ record { next = noRegistration; verdict = Done }
+  unfolding verdictOf registrationAfter
+  complete-done e = rw e
+
+  pub complete-registered : r .phase ≡ Registered → configured m 3 address len r ≡ record { next = r; verdict = Parameter }
+  unfolding verdictOf registrationAfter
+  complete-registered e = rw e
+
+  pub complete-unregistered : r .phase ≡ Unregistered → configured m 3 address len r ≡ record { next = r; verdict = Parameter }
+  unfolding verdictOf registrationAfter
+  complete-unregistered e = rw e
+
+  -- commands 2 and 3 look at the registration alone
+  pub unregister-ignores : configured m 2 address len r ≡ configured [] 2 0 0 r
+  unfolding verdictOf registrationAfter
+  unregister-ignores = refl
+
+  pub complete-ignores : configured m 3 address len r ≡ configured [] 3 0 0 r
+  unfolding verdictOf registrationAfter
+  complete-ignores = refl
+
+  -- any other command
+  pub other-refused : (command : ℕ) → (command ≡ 1 → ⊥) → (command ≡ 2 → ⊥) → (command ≡ 3 → ⊥) → configured m command address len r ≡ record { next = r; verdict = Parameter }
+  unfolding verdictOf registrationAfter
+  other-refused command one two three = rw (outside command one two three)

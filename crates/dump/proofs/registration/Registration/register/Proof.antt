@@ -1,0 +1,82 @@
+-- `registration::Registration::register` meets its contract.
+use mathlib.Core.Path.{_≡_, sym, _∙_}
+use mathlib.Core.Bool.{true}
+use borrow.Author.Needs.{needs}
+use borrow.Author.Tests.{not-true, not-false}
+use denote.Ref.{now}
+use Rattle.dump.specs.Registration.{acceptable}
+use Rattle.dump.proofs.Verdicts.{acceptable-short, acceptable-inside, registered-is, kept-is, register-active, register-registered, register-refused, register-done}
+use Rattle.dump.proofs.registration.Registration.register.Statement.{statement}
+use Rattle.dump.proofs.registration.Registration.register.Tie as tie
+
+enum-told : tie.Need-enum-told
+enum-told c = search needs
+
+kept-requires : tie.Need-kept-requires
+kept-requires c κs = search needs
+
+enum-told-2 : tie.Need-enum-told-2
+enum-told-2 c = search needs
+
+kept-requires-2 : tie.Need-kept-requires-2
+kept-requires-2 c κs = search needs
+
+enum-told-3 : tie.Need-enum-told-3
+enum-told-3 c = search needs
+
+is-acceptable-requires : tie.Need-is-acceptable-requires
+is-acceptable-requires c κs = search needs
+
+kept-requires-3 : tie.Need-kept-requires-3
+kept-requires-3 c κs = search needs
+
+returns : tie.Need-returns
+returns c = kept-is _ _ _ (c .kept3 .ensures) ∙ sym (register-refused _ _ _ _ (c .before .before .before .enum-told3 .given .1) (sym (c .before .before .is-acceptable .ensures) ∙ not-true _ (c .before .if1 .taken)))
+
+good : (c : tie.Else1) → acceptable (now (c .before .before .before .before .before .args .memory)) (c .before .before .before .before .before .args .address) (c .before .before .before .before .before .args .len) ≡ true
+good c = sym (c .before .is-acceptable .ensures) ∙ not-false _ (c .if1 .left)
+
+add-copied : tie.Need-add-copied
+add-copied c = search needs
+
+sub-copied : tie.Need-sub-copied
+sub-copied c = search needs
+
+part-copied-start : tie.Need-part-copied-start
+part-copied-start c = search needs
+
+part-copied-end : tie.Need-part-copied-end
+part-copied-end c = let h = acceptable-inside _ _ _ (good c) in search needs
+
+copied-requires : tie.Need-copied-requires
+copied-requires c κs = let h = acceptable-short _ _ _ (good (c .before)) in search needs
+
+returns-2 : tie.Need-returns-2
+returns-2 c = kept-is _ _ _ (c .kept .ensures) ∙ sym (register-active _ _ _ _ (c .before .enum-told .given .1))
+
+returns-3 : tie.Need-returns-3
+returns-3 c = kept-is _ _ _ (c .kept2 .ensures) ∙ sym (register-registered _ _ _ _ (c .before .enum-told2 .given .1))
+
+returns-4 : tie.Need-returns-4
+returns-4 c = rw (registered-is _ _ _ (good (c .before .before)) _ (c .copied .ensures)) (sym (register-done _ _ _ _ (c .before .before .before .before .enum-told3 .given .1) (good (c .before .before))))
+
+pub register-spec : {M : Type 1} → statement M
+register-spec =
+    tie.close
+    (tie.spec
+    enum-told
+    kept-requires
+    enum-told-2
+    kept-requires-2
+    enum-told-3
+    is-acceptable-requires
+    kept-requires-3
+    returns
+    add-copied
+    sub-copied
+    part-copied-start
+    part-copied-end
+    copied-requires
+    returns-2
+    returns-3
+    returns-4)

@@ -1,0 +1,51 @@
+-- `registration::copied` meets its contract.
+use mathlib.Core.Path.{_≡_, _∙_}
+use Prim.Native.Nat.{_-_}
+use lib.ListN.{length, take}
+use borrow.Author.Needs.{needs}
+use denote.Ref.{now}
+use Rattle.dump.specs.Registration.{padded}
+use Rattle.dump.proofs.Copies.{padded-none, padded-next, padded-all}
+use Rattle.dump.proofs.registration.copied.Statement.{statement}
+use Rattle.dump.proofs.registration.copied.Tie as tie
+
+abbrev Inv-loop : tie.InvT-loop
+Inv-loop s copy₀ i₀ copy i = copy ≡ padded (take i s)
+
+abbrev μ-loop : tie.MeasureT-loop
+μ-loop s copy₀ i₀ copy i = length s - i
+
+loop-holds : tie.Need-loop-holds Inv-loop μ-loop
+loop-holds c = padded-none
+
+shared-slice-read-copy : tie.Need-shared-slice-read-copy Inv-loop μ-loop
+shared-slice-read-copy c = search needs
+
+array-write-copy : tie.Need-array-write-copy Inv-loop μ-loop
+array-write-copy c = search needs
+
+add-i : tie.Need-add-i Inv-loop μ-loop
+add-i c = search needs
+
+loop-less : tie.Need-loop-less Inv-loop μ-loop
+loop-less c = search needs
+
+loop-again : tie.Need-loop-again Inv-loop μ-loop
+loop-again c = rw (c .before .before .loop .inv) (padded-next (now (c .before .before .before .args .s)) (c .before .before .loop .i) (search needs) (search needs))
+
+returns : tie.Need-returns Inv-loop μ-loop
+returns c = c .before .loop .inv ∙ padded-all (now (c .before .before .args .s)) (c .before .loop .i) (search needs)
+
+pub copied-spec : {M : Type 1} → statement M
+copied-spec =
+    tie.close
+    (tie.spec
+    Inv-loop
+    μ-loop
+    loop-holds
+    shared-slice-read-copy
+    array-write-copy
+    add-i
+    loop-less
+    loop-again
+    returns)

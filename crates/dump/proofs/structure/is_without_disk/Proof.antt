@@ -1,0 +1,59 @@
+-- `structure::is_without_disk` meets its contract.
+use mathlib.Core.Bool.{and-false}
+use borrow.Author.Needs.{needs}
+use borrow.Author.Tests.{eq-eqb, ne-eqb}
+use Rattle.dump.specs.Structure.{withoutDisk}
+use Rattle.dump.proofs.structure.is_without_disk.Statement.{statement}
+use Rattle.dump.proofs.structure.is_without_disk.Tie as tie
+
+read-be64-requires : tie.Need-read-be64-requires
+read-be64-requires c κs = search needs
+
+returns : tie.Need-returns
+unfolding withoutDisk
+returns c = rw (← c .before .read-be64 .ensures, ne-eqb _ 0 (c .if1 .taken))
+
+read-be64-requires-2 : tie.Need-read-be64-requires-2
+read-be64-requires-2 c κs = search needs
+
+returns-2 : tie.Need-returns-2
+unfolding withoutDisk
+returns-2 c = simp (← c .before .read-be642 .ensures, ne-eqb _ 0 (c .if2 .taken), and-false)
+
+read-be32-requires : tie.Need-read-be32-requires
+read-be32-requires c κs = search needs
+
+returns-3 : tie.Need-returns-3
+unfolding withoutDisk
+returns-3 c = simp (← c .before .read-be32 .ensures, ne-eqb _ 0 (c .if3 .taken), and-false)
+
+are-requested-requires : tie.Need-are-requested-requires
+are-requested-requires c κs = search needs
+
+returns-4 : tie.Need-returns-4
+unfolding withoutDisk
+returns-4 c =
+    rw (
+      ← c .before .before .before .before .before .before .read-be64 .ensures,
+      eq-eqb _ 0 (c .before .before .before .before .before .if1 .left),
+      ← c .before .before .before .before .read-be642 .ensures,
+      eq-eqb _ 0 (c .before .before .before .if2 .left),
+      ← c .before .before .read-be32 .ensures,
+      eq-eqb _ 0 (c .before .if3 .left),
+      ← c .before .before .before .before .before .before .before .before .pre .1,
+      ← c .before .before .before .before .before .before .before .before .pre .2,
+    )
+    (c .are-requested .ensures)
+
+pub is-without-disk-spec : {M : Type 1} → statement M
+is-without-disk-spec =
+    tie.close
+    (tie.spec
+    read-be64-requires
+    returns
+    read-be64-requires-2
+    returns-2
+    read-be32-requires
+    returns-3
+    are-requested-requires
+    returns-4)

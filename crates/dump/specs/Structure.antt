@@ -1,0 +1,76 @@
+-- The dump structure and when it is good (document 01, "Kernel dump registration", paragraph "Structure").
+use Prim.Native.Nat.{ℕ, zero, suc, _+_, _*_}
+use mathlib.Core.Bool.{Bool, true, cond, _&&_, _||_}
+use mathlib.Core.List.{List}
+use lib.Dec.{leb, ltb, eqb}
+use lib.ListN.{length, drop}
+use Rattle.words.specs.Numbers.{be16, be32, be64}
+use Rattle.words.specs.Nul.{untilNul}
+
+-- 01: "version (4 bytes) 1; sections (2) 1 to 10; status flags (2) zero; offset of first section (4); block size (4); first block (8);
+-- blocks (8); path offset (4); milliseconds (4), any."
+abbrev pub version : List ℕ → ℕ
+version s = be32 s 0
+
+abbrev pub sections : List ℕ → ℕ
+sections s = be16 s 4
+
+abbrev pub statusFlags : List ℕ → ℕ
+statusFlags s = be16 s 6
+
+abbrev pub firstSection : List ℕ → ℕ
+firstSection s = be32 s 8
+
+abbrev pub blockSize : List ℕ → ℕ
+blockSize s = be32 s 12
+
+abbrev pub firstBlock : List ℕ → ℕ
+firstBlock s = be64 s 16
+
+abbrev pub blocks : List ℕ → ℕ
+blocks s = be64 s 24
+
+abbrev pub pathOffset : List ℕ → ℕ
+pathOffset s = be32 s 32
+
+-- 01: "Sections of 40 bytes follow each other from an offset of at least 40 and end within the length."
+abbrev pub sectionsEnd : List ℕ → ℕ
+sectionsEnd s = firstSection s + 40 * sections s
+
+unfoldable pub goodHeader : List ℕ → Bool
+goodHeader s =
+    eqb (version s) 1
+    && (leb 1 (sections s) && (leb (sections s) 10 && (eqb (statusFlags s) 0 && (leb 40 (firstSection s) && leb (sectionsEnd s) (length s)))))
+
+-- n sections from an offset on, each of which passes a test
+unfoldable pub eachSection : (ℕ → Bool) → ℕ → ℕ → Bool
+eachSection test zero at = true
+eachSection test (suc n) at = test at && eachSection test n (at + 40)
+
+-- 01: "request flags (4), 0 or 0x00000001; type (2), 1, 2, 0x11, 0x12 or 0x100 and up; error flags (2) zero; source (8), requested (8);
+-- actual (8) zero; destination (8)."
+unfoldable pub goodType : ℕ → Bool
+goodType t = eqb t 1 || (eqb t 2 || (eqb t 17 || (eqb t 18 || leb 256 t)))
+
+unfoldable pub goodSection : List ℕ → ℕ → Bool
+goodSection s at = leb (be32 s at) 1 && (goodType (be16 s (at + 4)) && (eqb (be16 s (at + 6)) 0 && eqb (be64 s (at + 24)) 0))
+
+-- request flag 1
+unfoldable pub requested : List ℕ → ℕ → Bool
+requested s at = eqb (be32 s at) 1
+
+-- 01: "Block size 0 means no disk: first block, blocks and path offset are 0 and every section has request flag 1."
+unfoldable pub withoutDisk : List ℕ → Bool
+withoutDisk s = eqb (firstBlock s) 0 && (eqb (blocks s) 0 && (eqb (pathOffset s) 0 && eachSection (requested s) (sections s) (firstSection s)))
+
+-- 01: "the path starts at 40 or later, is not empty, ends at the first NUL inside the length, and with its NUL shares no byte with the sections."
+abbrev pub pathEnd : List ℕ → ℕ
+pathEnd s = pathOffset s + length (untilNul (drop (pathOffset s) s))
+
+unfoldable pub goodPath : List ℕ → Bool
+goodPath s =
+    leb 40 (pathOffset s)
+    && (ltb (pathOffset s) (pathEnd s) && (ltb (pathEnd s) (length s) && (ltb (pathEnd s) (firstSection s) || leb (sectionsEnd s) (pathOffset s))))
+
+unfoldable pub goodStructure : List ℕ → Bool
+goodStructure s = goodHeader s && (eachSection (goodSection s) (sections s) (firstSection s) && cond (eqb (blockSize s) 0) (withoutDisk s) (goodPath s))
