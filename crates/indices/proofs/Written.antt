@@ -6,10 +6,10 @@ use Prim.Native.Nat.{ℕ, zero, suc, _+_, _-_, _%_, _≤_, _<_}
 use native.Mathlib.Nat.{add-zero, mod-eq-of-lt}
 use native.Mathlib.Omega.{arith}
 use lib.Dec.{leb, ltb, eqb}
-use lib.ListN.{length, drop, replicate, length-append, length-replicate, length-drop}
+use lib.ListN.{length, take, drop, replicate, length-append, length-replicate, length-drop}
 use lib.Seq.{drop-at, take-at, drop-drop}
 use borrow.Author.Tests.{le-leb, le-ltb, leb-true, eq-eqb}
-use Rattle.words.specs.Numbers.{be, be32, beBytes, zeros}
+use Rattle.words.specs.Numbers.{Bytes, be, be32, beBytes, zeros}
 use Rattle.words.proofs.Choice.{choose, and-left, and-right}
 use Rattle.words.proofs.Numbers.{be-drop, be-bytes, length-beBytes, le-below}
 use Rattle.records.specs.Records.{kindOf, whole, recordsFrom, records, allGood, wellFormedBy}
@@ -160,6 +160,15 @@ fitting-few room (e ∷ es) =
     (λ _. omega (arith, fitting-few (room - entrySize (length (e .code))) es))
     (λ _. omega arith)
 
+-- a run is the front of the list that it is cut from
+pub fitting-front : (room : ℕ) (es : List Entry) → fitting room es ≡ take (length (fitting room es)) es
+unfolding fitting
+fitting-front room [] = refl
+fitting-front room (e ∷ es) =
+    choose (leb (entrySize (length (e .code))) room) (λ l. l ≡ take (length l) (e ∷ es)) {x = e ∷ fitting (room - entrySize (length (e .code))) es} {y = []}
+    (λ _. ap (λ (l : List Entry). e ∷ l) (fitting-front (room - entrySize (length (e .code))) es))
+    (λ _. refl)
+
 -- ---- the entries of an inventory
 
 chosen-sound : (flag type : ℕ) (rs : List (List ℕ)) → EachBytes rs → allGood goodRecord rs ≡ true → Sound (chosen flag type rs)
@@ -182,14 +191,23 @@ chosen-few flag type (r ∷ rs) =
     (λ _. omega (arith, chosen-few flag type rs))
     (λ _. omega (arith, chosen-few flag type rs))
 
+module _ (flag type : ℕ) (inventory : List ℕ) (formed : wellFormed inventory ≡ true) where
+  pub listed-sound : Bytes inventory → Sound (listed flag type inventory)
+  unfolding listed records wellFormed wellFormedBy
+  listed-sound bytes = chosen-sound flag type (recordsFrom 0 inventory) (records-bytes 0 inventory bytes) (and-right (leb (length inventory) 1048576) _ formed)
+
+  pub listed-few : length (listed flag type inventory) ≤ 1048576
+  unfolding listed records wellFormed wellFormedBy
+  listed-few = omega (arith, leb-true (length inventory) 1048576 (and-left _ _ formed), chosen-few flag type (recordsFrom 0 inventory), records-few 0 inventory)
+
 pub reads-back : ReadsBack
-unfolding run listed records wellFormed wellFormedBy
+unfolding run
 reads-back area inventory flag type size number bytes formed =
-    let es : List Entry = chosen flag type (recordsFrom 0 inventory) in
-    let limit : length inventory ≤ 1048576 = leb-true _ _ (and-left (leb (length inventory) 1048576) _ formed) in
-    round-trip area (fitting (size - 4) (drop (number - 1) es))
-    (omega (arith, limit, fitting-few (size - 4) (drop (number - 1) es), length-drop (number - 1) es, chosen-few flag type (recordsFrom 0 inventory), records-few 0 inventory))
-    (sound-fitting (size - 4) (drop (number - 1) es) (sound-drop (number - 1) es (chosen-sound flag type (recordsFrom 0 inventory) (records-bytes 0 inventory bytes) (and-right (leb (length inventory) 1048576) _ formed))))
+    let es : List Entry = listed flag type inventory in
+    let rest : List Entry = drop (number - 1) es in
+    round-trip area (fitting (size - 4) rest)
+    (omega (arith, fitting-few (size - 4) rest, length-drop (number - 1) es, listed-few flag type inventory formed))
+    (sound-fitting (size - 4) rest (sound-drop (number - 1) es (listed-sound flag type inventory formed bytes)))
 
 -- ---- what an area holds
 

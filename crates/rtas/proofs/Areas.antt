@@ -21,7 +21,7 @@ use Rattle.rtas.specs.declared.status.Status.{Status}
 use Rattle.rtas.specs.declared.status.Status.the-variants as status
 use Rattle.rtas.specs.UpdateNodes.{areaAt, withArea, placed, reserved, goodState, areaStatus, areaAfter, nodesStatus, nodesMemory}
 use Rattle.words.proofs.Choice.{and-right}
-use Rattle.rtas.proofs.Memory.{area-lent, area-back}
+use Rattle.rtas.proofs.Memory.{part-lent, part-back}
 
 -- what a status and an area afterwards are to be
 abbrev Left : List ℕ → List ℕ → List ℕ → Status → List ℕ → Type 0
@@ -111,5 +111,5 @@ module _ (m : List ℕ) (address scope : ℕ) (j : List ℕ) where
     unfolding nodesStatus nodesMemory
     left-area e s v n l =
         let inside = placed-inside m address p in
-        let back = area-back m address inside v n in
-        rw (p, e, back, ← area-lent m address inside) (l .0, ap (withArea m address) (l .1))
+        let back = part-back m address 4096 inside v n in
+        rw (p, e, back, ← part-lent m address 4096 inside) (l .0, ap (withArea m address) (l .1))

@@ -7,7 +7,7 @@ use native.Mathlib.Omega.{arith}
 use lib.Dec.{leb}
 use borrow.Author.Tests.{eqb-true, le-leb, eq-eqb}
 use lib.ListN.{length}
-use lib.Seq.{sets}
+use lib.Seq.{sets, length-sets}
 use Rattle.words.specs.Numbers.{be, be32, beBytes, wordBytes}
 use Rattle.words.proofs.Numbers.{be-same, length-beBytes}
 use Rattle.words.proofs.Stores.{sets-before, sets-append, be-stored}
@@ -23,8 +23,8 @@ use Rattle.rtas.specs.declared.status.Status.{Status}
 use Rattle.rtas.specs.declared.status.Status.the-variants.{Done, Again, Malformed, Parameter}
 use Rattle.rtas.specs.Status.{isGiven, isAnswer, statusWord}
 use Rattle.rtas.specs.UpdateNodes.{areaAt, withArea, placed, reserved, goodState, areaStatus, areaAfter, nodesStatus, nodesMemory}
-use Rattle.rtas.specs.Buffer.{token, input, statusAt, numberFor, isNodes, outcome, Result, callOf, answered}
-use Rattle.rtas.proofs.Heads.{whole-buffer, unchanged, carried-out}
+use Rattle.rtas.specs.Buffer.{token, input, statusAt, numberFor, isNodes, Outcome, nodesOutcome, outcome, Result, callOf, answered}
+use Rattle.rtas.proofs.Heads.{whole-buffer, asked, unchanged, carried-out, outcome-ways, nodes-outcome}
 use Rattle.rtas.proofs.Areas.{placed-inside}
 
 -- a statement, from either value of a test
@@ -101,17 +101,16 @@ module _ (m : List ℕ) (a s : ℕ) (j : List ℕ) where
 
 -- ---- the argument buffer
 
-pub status-answers : (x : Status) → leb (statusWord x) 1 ≡ isAnswer x
-status-answers Done = refl
-status-answers Again = refl
-status-answers Malformed = refl
-status-answers Parameter = refl
-
 word-fits : (x : Status) → statusWord x % 4294967296 ≡ statusWord x
 word-fits Done = refl
 word-fits Again = refl
 word-fits Malformed = refl
 word-fits Parameter = refl
+
+-- the status word of an answer
+pub word-either : (t : Bool) → statusWord (cond t Again Done) ≡ cond t 1 0
+word-either true = refl
+word-either false = refl
 
 -- the first of words that were stored reads back
 first-stored : (l : List ℕ) (at w : ℕ) (ws : List ℕ) → at + 4 ≤ length l → be 4 (sets l at (wordBytes (w ∷ ws))) at ≡ w % 4294967296
@@ -120,6 +119,13 @@ first-stored l at w ws h =
     ap (λ (x : List ℕ). be 4 x at) (sets-append l at (beBytes 4 w) (wordBytes ws))
     ∙ be-same _ (sets l at (beBytes 4 w)) 4 at at (λ n g. sets-before (wordBytes ws) (sets l at (beBytes 4 w)) (at + length (beBytes 4 w)) (at + n) (omega (arith, length-beBytes 4 w)))
     ∙ be-stored l 4 w at h
+
+-- and so does the second
+pub second-stored : (l : List ℕ) (at w v : ℕ) (ws : List ℕ) → at + 8 ≤ length l → be 4 (sets l at (wordBytes (w ∷ v ∷ ws))) (at + 4) ≡ v % 4294967296
+unfolding wordBytes
+second-stored l at w v ws h =
+    ap (λ (x : List ℕ). be 4 x (at + 4)) (sets-append l at (beBytes 4 w) (wordBytes (v ∷ ws)) ∙ rw (length-beBytes 4 w))
+    ∙ first-stored (sets l at (beBytes 4 w)) (at + 4) v ws (omega (arith, length-sets l at (beBytes 4 w)))
 
 -- where a status is given, its word is inside the buffer
 pub status-inside : (b : List ℕ) → isGiven (numberFor b) ≡ true → statusAt b + 4 ≤ length b
@@ -138,7 +144,7 @@ module _ (b m j i : List ℕ) (r : Registration) where
   pub answered-by : answered b called ≡ (isGiven (numberFor b) && isAnswer (outcome b m j i r .status))
   unfolding answered
   answered-by = decide (isGiven (numberFor b))
-      (λ e. rw (ap (λ (x : Result). x .number) (carried-out b m j i r e), e) (ap (λ (n : ℕ). leb n 1) (status-word e) ∙ status-answers (outcome b m j i r .status)))
+      (λ e. rw (ap (λ (x : Result). x .number) (carried-out b m j i r e), e) (ap (λ (n : ℕ). leb n 1) (status-word e)))
       (λ e. rw (unchanged b m j i r e, e))
 
   abbrev at : ℕ
@@ -153,29 +159,25 @@ module _ (b m j i : List ℕ) (r : Registration) where
     pub memory : called .memory ≡ withArea m at (written (areaAt m at) (listed scope j) (state m at))
     pub status : be32 (called .args) (statusAt b) ≡ cond (remains (listed scope j) (state m at)) 1 0
 
-  -- a call with its token and other counts is refused
+  -- an answered call with its token has its counts
   nodes-only : token b ≡ 1 → isAnswer (outcome b m j i r .status) ≡ true → isNodes b ≡ true
-  unfolding outcome
-  nodes-only n h = decide (isNodes b) (λ e. e) (λ e. absurd (false≢true (rw e at h)))
-
-  word-either : (t : Bool) → statusWord (cond t Again Done) ≡ cond t 1 0
-  word-either true = refl
-  word-either false = refl
+  nodes-only n = outcome-ways b m j i r (λ (o : Outcome). isAnswer (o .status) ≡ true → isNodes b ≡ true)
+      (λ e _. e) (λ e _. absurd (omega (arith, n, asked 2 5 2 b e))) (λ h. absurd (false≢true h))
 
   pub answered-is : token b ≡ 1 → answered b called ≡ true → Answered
-  unfolding outcome
+  unfolding nodesOutcome
   answered-is n h =
       let both = sym answered-by ∙ h in
       let given = and-left _ _ both in
       let good = and-right (isGiven (numberFor b)) _ both in
-      let only = nodes-only n good in
-      let passed : Passed m at scope j = passed-is m at scope j (rw only at good) in
+      let work = nodes-outcome b m j i r (nodes-only n good) in
+      let passed : Passed m at scope j = passed-is m at scope j (rw work at good) in
       record {
         passed = passed;
-        memory = rw (carried-out b m j i r given, only) (nodes-memory m at scope j passed);
-        status = status-word given ∙ rw (only, nodes-status m at scope j passed) (word-either (remains (listed scope j) (state m at)));
+        memory = rw (carried-out b m j i r given, work) (nodes-memory m at scope j passed);
+        status = status-word given ∙ rw (work, nodes-status m at scope j passed) (word-either (remains (listed scope j) (state m at)));
       }
 
   pub will-answer : isGiven (numberFor b) ≡ true → isNodes b ≡ true → Passed m at scope j → answered b called ≡ true
-  unfolding outcome
-  will-answer g n p = answered-by ∙ rw (g, n) (nodes-answers m at scope j p)
+  unfolding nodesOutcome
+  will-answer g n p = answered-by ∙ rw (g, nodes-outcome b m j i r n) (nodes-answers m at scope j p)

@@ -1,14 +1,11 @@
 -- Demand 1: what no call changes.
 use mathlib.Core.Path.{_≡_, refl, sym, ap, _∙_}
-use mathlib.Core.Bool.{Bool, true, false, cond, _&&_, false≢true}
+use mathlib.Core.Bool.{Bool, true, false, cond, _&&_, _||_, false≢true}
 use mathlib.Core.List.{List, [], _∷_}
-use mathlib.Core.Logic.{_⊎_, inl, inr, ⊎-elim}
 use Prim.Native.Nat.{ℕ, _+_, _*_, _<_, _≤_}
 use native.Mathlib.Omega.{arith}
-use lib.Dec.{leb, ltb}
 use lib.ListN.{length, getD}
 use lib.Seq.{sets, length-sets}
-use borrow.Author.Tests.{leb-false, ltb-false}
 use Rattle.words.specs.Numbers.{be32, wordBytes}
 use Rattle.words.proofs.Stores.{sets-before, sets-after, length-wordBytes}
 use Rattle.dump.specs.declared.registration.Registration.{Registration}
@@ -16,26 +13,19 @@ use Rattle.journal.specs.Journal.{wellFormed}
 use Rattle.journal.specs.Reportable.{reportable}
 use Rattle.nodes.specs.Run.{remains}
 use Rattle.journal.specs.Scope.{valid, rowOf}
-use Rattle.rtas.specs.declared.status.Status.{Status}
 use Rattle.rtas.specs.declared.status.Number.the-variants.{Given}
 use Rattle.rtas.specs.declared.status.Status.the-variants.{Done, Again, Malformed, Parameter}
 use Rattle.rtas.specs.Status.{isGiven, isAnswer, statusWord}
 use Rattle.rtas.specs.UpdateNodes.{areaAt, withArea, placed, reserved, goodState, areaStatus, areaAfter, nodesStatus, nodesMemory}
-use Rattle.rtas.specs.Buffer.{outputs, input, statusAt, numberFor, isNodes, Outcome, outcome, Result, callOf, answered}
-use Rattle.rtas.specs.Demands.{Confined, Demand1}
+use Rattle.rtas.specs.Buffer.{outputs, input, statusAt, numberFor, isNodes, isIndices, requestOf, Outcome, nodesOutcome, indicesOutcome, refusal, outcome, Result, callOf, answered}
+use Rattle.rtas.specs.Demands.{among, inArea, Confined, Demand1}
 use Rattle.rtas.proofs.Areas.{placed-inside, state-within, nodes-checked}
 use Rattle.rtas.proofs.Calls.{decide, answered-by}
-use Rattle.rtas.proofs.Heads.{whole-buffer, unchanged, carried-out, status-only}
-use Rattle.rtas.proofs.Memory.{area-length, area-kept, area-before, area-behind, area-same, written-length}
-
--- a place outside of a range lies before or behind it
-outside : {P : Type 0} (lo hi k : ℕ) → (leb lo k && ltb k hi) ≡ false → (k < lo → P) → (hi ≤ k → P) → P
-outside {P} lo hi k = go (leb lo k) (ltb k hi) refl refl
-  where
-    go : (t u : Bool) → leb lo k ≡ t → ltb k hi ≡ u → (t && u) ≡ false → (k < lo → P) → (hi ≤ k → P) → P
-    go false u e f g p q = p (leb-false lo k e)
-    go true false e f g p q = q (ltb-false k hi f)
-    go true true e f g p q = absurd (false≢true (sym g))
+use Rattle.rtas.proofs.Heads.{whole-buffer, asked, unchanged, carried-out, outcome-ways}
+use Rattle.rtas.proofs.Memory.{part-length, part-kept, part-before, part-behind, part-same, written-length}
+use Rattle.rtas.specs.GetIndices.{indicesStatus, nextNumber}
+use Rattle.rtas.proofs.Places.{outside}
+use Rattle.rtas.proofs.Requests.{indices-refused, indices-outside, indices-length}
 
 -- ---- the memory that update-nodes leaves
 
@@ -78,7 +68,7 @@ module _ (m : List ℕ) (address scope : ℕ) (j : List ℕ) where
       go false v e h = rw e g
 
   nodes-refused : isAnswer (nodesStatus m address scope j) ≡ false → nodesMemory m address scope j ≡ m
-  nodes-refused e = ways (λ (l : List ℕ). l ≡ m) (λ p v. ap (withArea m address) (after-none (sym (ap isAnswer (status-here p v)) ∙ e)) ∙ area-same m address) refl
+  nodes-refused e = ways (λ (l : List ℕ). l ≡ m) (λ p v. ap (withArea m address) (after-none (sym (ap isAnswer (status-here p v)) ∙ e)) ∙ part-same m address 4096) refl
     where
       status-here : placed m address ≡ true → valid scope ≡ true → nodesStatus m address scope j ≡ areaStatus (rowOf scope) j area
       status-here p v = nodes-checked m address scope j p v
@@ -88,60 +78,112 @@ module _ (m : List ℕ) (address scope : ℕ) (j : List ℕ) where
     inside = placed-inside m address p
 
     size : length next ≡ 4096
-    size = after-length (rowOf scope) j area (area-length m address inside)
+    size = after-length (rowOf scope) j area (part-length m address 4096 inside)
 
   nodes-length : length (nodesMemory m address scope j) ≡ length m
-  nodes-length = ways (λ (l : List ℕ). length l ≡ length m) (λ p v. area-kept m address (inside p) next (size p)) refl
+  nodes-length = ways (λ (l : List ℕ). length l ≡ length m) (λ p v. part-kept m address 4096 (inside p) next (size p)) refl
 
-  nodes-outside : (k : ℕ) → (leb address k && ltb k (address + 4096)) ≡ false → getD (nodesMemory m address scope j) k 0 ≡ getD m k 0
+  nodes-outside : (k : ℕ) → among address 4096 k ≡ false → getD (nodesMemory m address scope j) k 0 ≡ getD m k 0
   nodes-outside k e = ways (λ (l : List ℕ). getD l k 0 ≡ getD m k 0)
-      (λ p v. outside address (address + 4096) k e (area-before m address (inside p) next (size p) k) (area-behind m address (inside p) next (size p) k)) refl
+      (λ p v. outside address 4096 k e (part-before m address 4096 (inside p) next (size p) k) (part-behind m address 4096 (inside p) next (size p) k)) refl
 
--- ---- a call
+-- ---- a call's own work
+
+-- What a call's own work keeps: without an answer nothing else than the status changes, and no byte outside its outputs and its area does.
+record Proper (b m : List ℕ) (r : Registration) (o : Outcome) : Type 0 where
+  outputs-hold : length (o .more) < outputs b
+  refused-more : isAnswer (o .status) ≡ false → o .more ≡ []
+  refused-memory : isAnswer (o .status) ≡ false → o .memory ≡ m
+  refused-registration : isAnswer (o .status) ≡ false → o .registration ≡ r
+  beside : (k : ℕ) → inArea b k ≡ false → getD (o .memory) k 0 ≡ getD m k 0
+  size : length (o .memory) ≡ length m
+
+-- a byte outside the area is outside the area of the call that is asked for
+area-of : (t u : Bool) (x y : Bool) → ((t && x) || (u && y)) ≡ false → (t ≡ true → x ≡ false) × (u ≡ true → y ≡ false)
+area-of true true false false e = (λ _. refl, λ _. refl)
+area-of true true false true e = absurd (false≢true (sym e))
+area-of true u true y e = absurd (false≢true (sym e))
+area-of true false false y e = (λ _. refl, λ h. absurd (false≢true h))
+area-of false true x false e = (λ h. absurd (false≢true h), λ _. refl)
+area-of false true x true e = absurd (false≢true (sym e))
+area-of false false x y e = (λ h. absurd (false≢true h), λ h. absurd (false≢true h))
 
 module _ (b m j i : List ℕ) (r : Registration) where
+  in-area : (k : ℕ) → inArea b k ≡ false → (isNodes b ≡ true → among (input b 0) 4096 k ≡ false) × (isIndices b ≡ true → among (input b 2) (input b 3) k ≡ false)
+  in-area k e = area-of (isNodes b) (isIndices b) (among (input b 0) 4096 k) (among (input b 2) (input b 3) k) e
+
+  nodes-proper : isNodes b ≡ true → Proper b m r (nodesOutcome b m j r)
+  unfolding nodesOutcome
+  nodes-proper e =
+      record {
+        outputs-hold = omega (arith, asked 1 2 1 b e);
+        refused-more = λ _. refl;
+        refused-memory = nodes-refused m (input b 0) (input b 1) j;
+        refused-registration = λ _. refl;
+        beside = λ k h. nodes-outside m (input b 0) (input b 1) j k (in-area k h .0 e);
+        size = nodes-length m (input b 0) (input b 1) j;
+      }
+
+  one-more : (t : Bool) (n : ℕ) → length (cond t (n ∷ []) []) ≤ 1
+  one-more true n = omega arith
+  one-more false n = omega arith
+
+  indices-proper : isIndices b ≡ true → Proper b m r (indicesOutcome b m i r)
+  unfolding indicesOutcome
+  indices-proper e =
+      let q = requestOf b in
+      record {
+        outputs-hold = omega (arith, asked 2 5 2 b e, one-more (isAnswer (indicesStatus m i q)) (nextNumber i q));
+        refused-more = λ h. rw h;
+        refused-memory = indices-refused m i q;
+        refused-registration = λ _. refl;
+        beside = λ k h. indices-outside m i q k (in-area k h .1 e);
+        size = indices-length m i q;
+      }
+
+  refusal-proper : 0 < outputs b → Proper b m r (refusal m r)
+  refusal-proper h =
+      record { outputs-hold = h; refused-more = λ _. refl; refused-memory = λ _. refl; refused-registration = λ _. refl; beside = λ _ _. refl; size = refl }
+
   abbrev o : Outcome
   o = outcome b m j i r
 
-  -- the ways of a call: nothing changes, or the status word is stored and memory is as the call's own work leaves it
+  proper : 0 < outputs b → Proper b m r o
+  proper h = outcome-ways b m j i r (Proper b m r) nodes-proper indices-proper (refusal-proper h)
+
+  -- ---- the call
+
+  abbrev stored : List ℕ
+  stored = wordBytes (statusWord (o .status) ∷ o .more)
+
+  -- the ways of a call: nothing changes, or the outputs are stored and the rest is as the call's own work leaves it
   call-ways : (P : Result → Type 0) → (isGiven (numberFor b) ≡ false → P (record { number = numberFor b; args = b; memory = m; registration = r }))
-      → (isGiven (numberFor b) ≡ true → P (record { number = Given; args = sets b (statusAt b) (wordBytes (statusWord (o .status) ∷ [])); memory = o .memory; registration = r })) → P (callOf b m j i r)
+      → (isGiven (numberFor b) ≡ true → Proper b m r o → P (record { number = Given; args = sets b (statusAt b) stored; memory = o .memory; registration = o .registration })) → P (callOf b m j i r)
   call-ways P f g = decide (isGiven (numberFor b))
-      (λ e. let only = status-only b m j i r in rw (carried-out b m j i r e, only .0, only .1) (g e))
+      (λ e. rw (carried-out b m j i r e) (g e (proper (whole-buffer b e .some-output))))
       (λ e. rw (unchanged b m j i r e) (f e))
 
-  -- the ways of its own work
-  own-ways : (P : Status → List ℕ → Type 0) → (isNodes b ≡ true → P (nodesStatus m (input b 0) (input b 1) j) (nodesMemory m (input b 0) (input b 1) j)) → (isNodes b ≡ false → P Parameter m) → P (o .status) (o .memory)
-  unfolding outcome
-  own-ways P f g = decide (isNodes b) (λ e. rw e (f e)) (λ e. rw e (g e))
+  -- a refused call's own work is refused
+  refused-own : answered b (callOf b m j i r) ≡ false → isGiven (numberFor b) ≡ true → isAnswer (o .status) ≡ false
+  refused-own h e = rw e at (sym (answered-by b m j i r) ∙ h)
 
-  -- bytes outside of the status word
-  abbrev Beside : ℕ → Type 0
-  Beside k = (k < statusAt b) ⊎ (statusAt b + 4 ≤ k)
-
-  word-outside : (k : ℕ) → (isGiven (numberFor b) ≡ true → Beside k) → getD (callOf b m j i r .args) k 0 ≡ getD b k 0
-  word-outside k f = call-ways (λ (x : Result). getD (x .args) k 0 ≡ getD b k 0) (λ _. refl)
-      (λ e. let n = length-wordBytes (statusWord (o .status) ∷ []) in
-      ⊎-elim (sets-before (wordBytes (statusWord (o .status) ∷ [])) b (statusAt b) k) (λ h. sets-after (wordBytes (statusWord (o .status) ∷ [])) b (statusAt b) k (omega arith)) (f e))
-
-  refused-memory : answered b (callOf b m j i r) ≡ false → callOf b m j i r .memory ≡ m
-  refused-memory h = call-ways (λ (x : Result). x .memory ≡ m) (λ _. refl)
-      (λ e. own-ways (λ (s : Status) (l : List ℕ). isAnswer s ≡ false → l ≡ m) (λ _. nodes-refused m (input b 0) (input b 1) j) (λ _ _. refl)
-      (rw e at (sym (answered-by b m j i r) ∙ h)))
+  -- bytes outside of words that were stored
+  words-outside : (ws : List ℕ) (k n : ℕ) → length ws ≤ n → among (statusAt b) (4 * n) k ≡ false → getD (sets b (statusAt b) (wordBytes ws)) k 0 ≡ getD b k 0
+  words-outside ws k n h e = outside (statusAt b) (4 * n) k e (sets-before (wordBytes ws) b (statusAt b) k) (λ g. sets-after (wordBytes ws) b (statusAt b) k (omega (arith, length-wordBytes ws)))
 
   confined : Confined b m r (callOf b m j i r)
   confined =
       record {
-        no-status = call-ways (λ (x : Result). isGiven (x .number) ≡ false → x .args ≡ b) (λ _ _. refl) (λ _ h. absurd (false≢true (sym h)));
-        refused-args = λ h k n. word-outside k (λ _. outside (statusAt b) (statusAt b + 4) k n inl inr);
-        refused-memory = refused-memory;
-        refused-registration = λ _. call-ways (λ (x : Result). x .registration ≡ r) (λ _. refl) (λ _. refl);
-        outside-outputs = λ k n. word-outside k
-            (λ e. let w = whole-buffer b e in outside (statusAt b) (statusAt b + 4 * outputs b) k n inl (λ h. inr (omega arith)));
-        outside-area = λ k n. call-ways (λ (x : Result). getD (x .memory) k 0 ≡ getD m k 0) (λ _. refl)
-            (λ _. own-ways (λ (s : Status) (l : List ℕ). getD l k 0 ≡ getD m k 0) (λ e. nodes-outside m (input b 0) (input b 1) j k (rw e at n)) (λ _. refl));
-        args-length = call-ways (λ (x : Result). length (x .args) ≡ length b) (λ _. refl) (λ _. length-sets b (statusAt b) (wordBytes (statusWord (o .status) ∷ [])));
-        memory-length = call-ways (λ (x : Result). length (x .memory) ≡ length m) (λ _. refl) (λ _. own-ways (λ (s : Status) (l : List ℕ). length l ≡ length m) (λ _. nodes-length m (input b 0) (input b 1) j) (λ _. refl));
+        no-status = call-ways (λ (x : Result). isGiven (x .number) ≡ false → x .args ≡ b) (λ _ _. refl) (λ _ _ h. absurd (false≢true (sym h)));
+        refused-args = λ h k n. call-ways (λ (x : Result). getD (x .args) k 0 ≡ getD b k 0) (λ _. refl)
+            (λ e p. rw (p .refused-more (refused-own h e)) (words-outside (statusWord (o .status) ∷ []) k 1 (omega arith) n));
+        refused-memory = λ h. call-ways (λ (x : Result). x .memory ≡ m) (λ _. refl) (λ e p. p .refused-memory (refused-own h e));
+        refused-registration = λ h. call-ways (λ (x : Result). x .registration ≡ r) (λ _. refl) (λ e p. p .refused-registration (refused-own h e));
+        outside-outputs = λ k n. call-ways (λ (x : Result). getD (x .args) k 0 ≡ getD b k 0) (λ _. refl)
+            (λ e p. words-outside (statusWord (o .status) ∷ o .more) k (outputs b) (omega (arith, p .outputs-hold)) n);
+        outside-area = λ k n. call-ways (λ (x : Result). getD (x .memory) k 0 ≡ getD m k 0) (λ _. refl) (λ e p. p .beside k n);
+        args-length = call-ways (λ (x : Result). length (x .args) ≡ length b) (λ _. refl) (λ _ _. length-sets b (statusAt b) stored);
+        memory-length = call-ways (λ (x : Result). length (x .memory) ≡ length m) (λ _. refl) (λ e p. p .size);
       }
 
 pub demand1 : Demand1

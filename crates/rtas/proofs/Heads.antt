@@ -1,5 +1,5 @@
 -- What the number of a call tells of its argument buffer, and what a call gives by its number.
-use mathlib.Core.Path.{_≡_, refl}
+use mathlib.Core.Path.{_≡_, refl, _∙_}
 use mathlib.Core.Bool.{Bool, true, false, cond, _&&_, _||_, false≢true}
 use mathlib.Core.List.{List, [], _∷_}
 use Prim.Native.Nat.{ℕ, _+_, _*_, _≤_, _<_}
@@ -9,14 +9,18 @@ use lib.ListN.{length}
 use lib.Seq.{sets}
 use borrow.Author.Tests.{ltb-false, eqb-false, eqb-true}
 use Rattle.words.proofs.Choice.{choose, and-left, and-right}
-use Rattle.words.specs.Numbers.{be32, wordBytes}
+use Rattle.words.specs.Numbers.{beBytes, wordBytes}
+use Rattle.words.proofs.Numbers.{length-beBytes}
+use Rattle.words.proofs.Stores.{sets-swap, sets-behind}
 use Rattle.dump.specs.declared.registration.Registration.{Registration}
 use Rattle.rtas.specs.declared.status.Number.{Number}
 use Rattle.rtas.specs.declared.status.Number.the-variants.{Given, Short, NoOutputs, TooMany}
+use Rattle.rtas.specs.declared.status.Status.{Status}
 use Rattle.rtas.specs.declared.status.Status.the-variants.{Parameter}
+use Rattle.rtas.specs.Status.{isGiven, isAnswer, statusWord}
 use Rattle.rtas.specs.UpdateNodes.{nodesStatus, nodesMemory}
-use Rattle.rtas.specs.Status.{isGiven, statusWord}
-use Rattle.rtas.specs.Buffer.{inputs, outputs, input, isNodes, Outcome, statusAt, numberFor, asks, outcome, callOf}
+use Rattle.rtas.specs.GetIndices.{indicesStatus, indicesMemory, nextNumber}
+use Rattle.rtas.specs.Buffer.{token, inputs, outputs, input, requestOf, isNodes, isIndices, Outcome, nodesOutcome, indicesOutcome, refusal, statusAt, numberFor, asks, outcome, callOf}
 
 pub record Whole (b : List ℕ) : Type 0 where
   pub few-inputs : inputs b ≤ 16
@@ -49,12 +53,17 @@ given-number Short e = absurd (false≢true e)
 given-number NoOutputs e = absurd (false≢true e)
 given-number TooMany e = absurd (false≢true e)
 
--- a buffer that asks for a call has its counts
-pub asked-counts : (t i o : ℕ) (b : List ℕ) → asks t i o b ≡ true → (inputs b ≡ i) × (outputs b ≡ o)
+-- a buffer that asks for a call has its token and counts
+pub asked : (t i o : ℕ) (b : List ℕ) → asks t i o b ≡ true → (token b ≡ t) × (inputs b ≡ i) × (outputs b ≡ o)
 unfolding asks
-asked-counts t i o b e =
-    let f = and-right (eqb (be32 b 0) t) (eqb (inputs b) i && eqb (outputs b) o) e in
-    (eqb-true (inputs b) i (and-left _ (eqb (outputs b) o) f), eqb-true (outputs b) o (and-right (eqb (inputs b) i) _ f))
+asked t i o b e =
+    let f = and-right (eqb (token b) t) (eqb (inputs b) i && eqb (outputs b) o) e in
+    (eqb-true (token b) t (and-left _ (eqb (inputs b) i && eqb (outputs b) o) e), eqb-true (inputs b) i (and-left _ (eqb (outputs b) o) f), eqb-true (outputs b) o (and-right (eqb (inputs b) i) _ f))
+
+-- and asks for no other
+pub asks-else : (t u i o : ℕ) (b : List ℕ) → token b ≡ t → eqb t u ≡ false → asks u i o b ≡ false
+unfolding asks
+asks-else t u i o b e f = rw (e, f)
 
 -- ---- what a call leaves
 
@@ -70,9 +79,50 @@ module _ (b m j i : List ℕ) (r : Registration) where
   unfolding callOf
   carried-out e = rw e
 
-  -- no call yet has more outputs than its status, or changes the registration
-  pub status-only : (outcome b m j i r .more ≡ []) × (outcome b m j i r .registration ≡ r)
+  -- the status word, stored before the outputs behind it
+  pub outputs-stored : (l args : List ℕ) (at s : ℕ) → isGiven (numberFor b) ≡ true → at ≡ statusAt b → l ≡ sets b (statusAt b + 4) (wordBytes (outcome b m j i r .more))
+      → s ≡ statusWord (outcome b m j i r .status) → args ≡ sets l at (beBytes 4 s) → args ≡ callOf b m j i r .args
+  unfolding wordBytes
+  outputs-stored l args at s g e f h k =
+      let w = beBytes 4 (statusWord (outcome b m j i r .status)) in
+      let ws = wordBytes (outcome b m j i r .more) in
+      let size = length-beBytes 4 (statusWord (outcome b m j i r .status)) in
+      rw (carried-out g, k, f, h, e) (sets-swap w ws b (statusAt b) (statusAt b + 4) (omega arith) ∙ sets-behind b (statusAt b) (statusAt b + 4) w ws (omega arith))
+
+  -- ---- a call's own work, by its token
+
+  pub outcome-ways : (P : Outcome → Type 0) → (isNodes b ≡ true → P (nodesOutcome b m j r)) → (isIndices b ≡ true → P (indicesOutcome b m i r)) → P (refusal m r) → P (outcome b m j i r)
   unfolding outcome
-  status-only = choose (isNodes b) (λ (o : Outcome). (o .more ≡ []) × (o .registration ≡ r))
-      {x = record { status = nodesStatus m (input b 0) (input b 1) j; more = []; memory = nodesMemory m (input b 0) (input b 1) j; registration = r }}
-      {y = record { status = Parameter; more = []; memory = m; registration = r }} (λ _. (refl, refl)) (λ _. (refl, refl))
+  outcome-ways P f g h = choose (isNodes b) P f (λ _. choose (isIndices b) P g (λ _. h))
+
+  pub nodes-outcome : isNodes b ≡ true → outcome b m j i r ≡ nodesOutcome b m j r
+  unfolding outcome
+  nodes-outcome e = rw e
+
+  pub indices-outcome : isIndices b ≡ true → outcome b m j i r ≡ indicesOutcome b m i r
+  unfolding outcome
+  indices-outcome e = let other = asks-else 2 1 2 1 b (asked 2 5 2 b e .0) refl in rw (other, e)
+
+  -- ---- what a call's own work leaves, way by way through the code
+
+  pub record Worked (s : Status) (args memory : List ℕ) : Type 0 where
+    pub status-is : s ≡ outcome b m j i r .status
+    pub registration-is : r ≡ outcome b m j i r .registration
+    pub args-are : args ≡ sets b (statusAt b + 4) (wordBytes (outcome b m j i r .more))
+    pub memory-is : memory ≡ outcome b m j i r .memory
+
+  pub worked-nodes : (s : Status) (memory : List ℕ) → isNodes b ≡ true → s ≡ nodesStatus m (input b 0) (input b 1) j → memory ≡ nodesMemory m (input b 0) (input b 1) j → Worked s b memory
+  unfolding nodesOutcome wordBytes
+  worked-nodes s memory e f g = let o = nodes-outcome e in record { status-is = rw o f; registration-is = rw o; args-are = rw o; memory-is = rw o g }
+
+  pub worked-indices : (s : Status) (args memory : List ℕ) → isIndices b ≡ true → s ≡ indicesStatus m i (requestOf b)
+      → args ≡ sets b 36 (wordBytes (cond (isAnswer (indicesStatus m i (requestOf b))) (nextNumber i (requestOf b) ∷ []) [])) → memory ≡ indicesMemory m i (requestOf b) → Worked s args memory
+  unfolding indicesOutcome
+  worked-indices s args memory e f g h =
+      let o = indices-outcome e in
+      let place : statusAt b + 4 ≡ 36 = omega (arith, asked 2 5 2 b e) in
+      record { status-is = rw o f; registration-is = rw o; args-are = rw (o, place) g; memory-is = rw o h }
+
+  pub worked-none : isNodes b ≡ false → isIndices b ≡ false → Worked Parameter b m
+  unfolding outcome wordBytes
+  worked-none e f = record { status-is = rw (e, f); registration-is = rw (e, f); args-are = rw (e, f); memory-is = rw (e, f) }

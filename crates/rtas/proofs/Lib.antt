@@ -2,9 +2,15 @@ pub mod Memory
 pub mod Heads
 pub mod Areas
 pub mod Calls
+pub mod Places
+pub mod Requests
+pub mod Lists
+pub mod IndicesCalls
 pub mod Sessions
 pub mod Exact
+pub mod ListSessions
 pub mod Confined
 pub mod Readings
 pub mod Witness
+pub mod ListWitness
 pub mod Claims

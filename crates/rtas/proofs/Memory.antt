@@ -1,4 +1,4 @@
--- Laws of the work area: its place in memory, what memory is when it comes back, and the length of one that was written.
+-- Laws of a part of memory: its place, what memory is when it comes back, and the length of a node area that was written.
 use mathlib.Core.Path.{ap₂, _≡_, ap, _∙_, sym}
 use mathlib.Core.List.{List, _++_, append-assoc}
 use Prim.Native.Nat.{ℕ, _+_, _-_, _<_, _≤_}
@@ -9,62 +9,62 @@ use Rattle.words.proofs.Stores.{length-wordBytes}
 use Rattle.journal.specs.declared.operation.Operation.{Operation}
 use Rattle.nodes.specs.Area.{answer, written}
 use Rattle.nodes.proofs.Runs.{length-body, run-facts}
-use Rattle.rtas.specs.UpdateNodes.{areaAt, withArea}
+use Rattle.rtas.specs.Lent.{partAt, withPart}
 
-module _ (m : List ℕ) (a : ℕ) (inside : a + 4096 ≤ length m) where
-  pub area-length : length (areaAt m a) ≡ 4096
-  unfolding areaAt
-  area-length = simp (length-take, length-drop) (omega arith)
+module _ (m : List ℕ) (a n : ℕ) (inside : a + n ≤ length m) where
+  pub part-length : length (partAt m a n) ≡ n
+  unfolding partAt
+  part-length = simp (length-take, length-drop) (omega arith)
 
-  -- the part that `&mut memory[a..a + 4096]` lends
-  pub area-lent : take (a + 4096 - a) (drop a m) ≡ areaAt m a
-  unfolding areaAt
-  area-lent = let n : a + 4096 - a ≡ 4096 = omega arith in ap (λ (k : ℕ). take k (drop a m)) n
+  -- the part that `&mut memory[a..a + n]` lends
+  pub part-lent : take (a + n - a) (drop a m) ≡ partAt m a n
+  unfolding partAt
+  part-lent = let e : a + n - a ≡ n = omega arith in ap (λ (k : ℕ). take k (drop a m)) e
 
-  module _ (v : List ℕ) (size : length v ≡ 4096) where
-    stored : withArea m a v ≡ take a m ++ (v ++ drop (a + 4096) m)
-    unfolding withArea
-    stored = append-assoc (take a m) (take 4096 v) (drop (a + 4096) m) ∙ ap (λ (l : List ℕ). take a m ++ (l ++ drop (a + 4096) m)) (take-all 4096 v (omega arith))
+  module _ (v : List ℕ) (size : length v ≡ n) where
+    stored : withPart m a n v ≡ take a m ++ (v ++ drop (a + n) m)
+    unfolding withPart
+    stored = append-assoc (take a m) (take n v) (drop (a + n) m) ∙ ap (λ (l : List ℕ). take a m ++ (l ++ drop (a + n) m)) (take-all n v (omega arith))
 
     -- the memory when the part is back as v
-    pub area-back : take a m ++ (v ++ drop (a + 4096 - a) (drop a m)) ≡ withArea m a v
-    area-back =
-        let n : a + (a + 4096 - a) ≡ a + 4096 = omega arith in
-        ap (λ (d : List ℕ). take a m ++ (v ++ d)) (drop-drop (a + 4096 - a) a m ∙ ap (λ (k : ℕ). drop k m) n) ∙ sym stored
+    pub part-back : take a m ++ (v ++ drop (a + n - a) (drop a m)) ≡ withPart m a n v
+    part-back =
+        let e : a + (a + n - a) ≡ a + n = omega arith in
+        ap (λ (d : List ℕ). take a m ++ (v ++ d)) (drop-drop (a + n - a) a m ∙ ap (λ (k : ℕ). drop k m) e) ∙ sym stored
 
-    -- an area that was stored reads back
-    pub area-stored : areaAt (withArea m a v) a ≡ v
-    unfolding areaAt
-    area-stored =
-        ap (λ (l : List ℕ). take 4096 (drop a l)) stored
-        ∙ ap (take 4096) (drop-at (take a m) (v ++ drop (a + 4096) m) a (length-take-le a m (omega arith)))
-        ∙ take-at v (drop (a + 4096) m) 4096 size
+    -- a part that was stored reads back
+    pub part-stored : partAt (withPart m a n v) a n ≡ v
+    unfolding partAt
+    part-stored =
+        ap (λ (l : List ℕ). take n (drop a l)) stored
+        ∙ ap (take n) (drop-at (take a m) (v ++ drop (a + n) m) a (length-take-le a m (omega arith)))
+        ∙ take-at v (drop (a + n) m) n size
 
-    -- memory keeps its length, and every byte outside the area
-    pub area-kept : length (withArea m a v) ≡ length m
-    unfolding withArea
-    area-kept = length-paste m a v 4096 inside (omega arith)
+    -- memory keeps its length, and every byte outside the part
+    pub part-kept : length (withPart m a n v) ≡ length m
+    unfolding withPart
+    part-kept = length-paste m a v n inside (omega arith)
 
-    pub area-before : (k : ℕ) → k < a → getD (withArea m a v) k 0 ≡ getD m k 0
-    area-before k h =
+    pub part-before : (k : ℕ) → k < a → getD (withPart m a n v) k 0 ≡ getD m k 0
+    part-before k h =
         let f : length (take a m) ≡ a = length-take-le a m (omega arith) in
-        ap (λ (l : List ℕ). getD l k 0) stored ∙ List·getD-append (take a m) (v ++ drop (a + 4096) m) 0 k (omega arith) ∙ getD-take a m k 0 h
+        ap (λ (l : List ℕ). getD l k 0) stored ∙ List·getD-append (take a m) (v ++ drop (a + n) m) 0 k (omega arith) ∙ getD-take a m k 0 h
 
-    pub area-behind : (k : ℕ) → a + 4096 ≤ k → getD (withArea m a v) k 0 ≡ getD m k 0
-    area-behind k h =
+    pub part-behind : (k : ℕ) → a + n ≤ k → getD (withPart m a n v) k 0 ≡ getD m k 0
+    part-behind k h =
         let f : length (take a m) ≡ a = length-take-le a m (omega arith) in
-        let n = k - (a + 4096) in
-        let there : k ≡ length (take a m) + (length v + n) = omega arith in
-        ap (λ (l : List ℕ). getD l k 0) stored ∙ ap (λ (i : ℕ). getD (take a m ++ (v ++ drop (a + 4096) m)) i 0) there
-        ∙ getD-append-add (take a m) (v ++ drop (a + 4096) m) (length v + n) 0 ∙ getD-append-add v (drop (a + 4096) m) n 0 ∙ getD-drop (a + 4096) m n 0
+        let d = k - (a + n) in
+        let there : k ≡ length (take a m) + (length v + d) = omega arith in
+        ap (λ (l : List ℕ). getD l k 0) stored ∙ ap (λ (i : ℕ). getD (take a m ++ (v ++ drop (a + n) m)) i 0) there
+        ∙ getD-append-add (take a m) (v ++ drop (a + n) m) (length v + d) 0 ∙ getD-append-add v (drop (a + n) m) d 0 ∙ getD-drop (a + n) m d 0
         ∙ ap (λ (i : ℕ). getD m i 0) (omega arith)
 
--- the area as it was changes nothing
-pub area-same : (m : List ℕ) (a : ℕ) → withArea m a (areaAt m a) ≡ m
-unfolding withArea areaAt
-area-same m a =
-    append-assoc (take a m) (take 4096 (take 4096 (drop a m))) (drop (a + 4096) m)
-    ∙ ap (λ (l : List ℕ). take a m ++ l) (ap₂ _++_ (take-take 4096 4096 (drop a m) (omega arith)) (sym (drop-drop 4096 a m)) ∙ take-append-drop 4096 (drop a m))
+-- the part as it was changes nothing
+pub part-same : (m : List ℕ) (a n : ℕ) → withPart m a n (partAt m a n) ≡ m
+unfolding withPart partAt
+part-same m a n =
+    append-assoc (take a m) (take n (take n (drop a m))) (drop (a + n) m)
+    ∙ ap (λ (l : List ℕ). take a m ++ l) (ap₂ _++_ (take-take n n (drop a m) (omega arith)) (sym (drop-drop n a m)) ∙ take-append-drop n (drop a m))
     ∙ take-append-drop a m
 
 -- an answer leaves the length of an area as it was

@@ -28,7 +28,7 @@ use Rattle.rtas.specs.UpdateNodes.{areaAt, reserved, goodState}
 use Rattle.rtas.specs.Buffer.{input, numberFor, asks, isNodes}
 use Rattle.rtas.specs.Session.{Call, isAnswered, address, areaBefore, areaThen, statusThen, Standing, start, after, standing, Continues, Session, WellMade, Driven, joined, readings, reported}
 use Rattle.rtas.specs.Demands.{Bounded, Accounted, Demand3}
-use Rattle.rtas.proofs.Memory.{area-length, area-stored, written-length}
+use Rattle.rtas.proofs.Memory.{part-length, part-stored, written-length}
 use Rattle.rtas.proofs.Calls.{decide, listed, Passed, Answered, answered-is, will-answer}
 
 -- ---- readings, one after the other
@@ -120,12 +120,12 @@ module _ (j : List ℕ) (s : ℕ) (ls : Listed (listed s j)) where
       left = answered-is (c .args) (c .memory) j (c .inventory) (c .registration) (n .nodes) yes
 
       size : length (areaBefore c) ≡ 4096
-      size = area-length (c .memory) (address c) (left .passed .inside)
+      size = part-length (c .memory) (address c) 4096 (left .passed .inside)
 
       area-is : areaThen j c ≡ written (areaBefore c) os k
       area-is =
           ap (λ (m : List ℕ). areaAt m (address c)) (rw (n .of-scope, k-is) at (left .memory))
-          ∙ area-stored (c .memory) (address c) (left .passed .inside) (written (areaBefore c) os k) (written-length (areaBefore c) os k size k-le)
+          ∙ part-stored (c .memory) (address c) 4096 (left .passed .inside) (written (areaBefore c) os k) (written-length (areaBefore c) os k size k-le)
 
       status-is : statusThen j c ≡ cond (remains os k) 1 0
       status-is = rw (n .of-scope, k-is) at (left .status)

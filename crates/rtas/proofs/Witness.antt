@@ -1,6 +1,6 @@
 -- A session that says done: 510 additions handed out by two answered calls, with a refused one between them. So demand 3 is not vacuous.
 use mathlib.Core.Path.{_≡_, refl}
-use mathlib.Core.Bool.{Bool, true, false, _&&_, false≢true}
+use mathlib.Core.Bool.{Bool, true, _&&_, false≢true}
 use mathlib.Core.List.{List, [], _∷_, _++_}
 use Prim.Native.Nat.{ℕ, zero, suc}
 use native.Mathlib.Omega.{arith}
@@ -17,10 +17,11 @@ use Rattle.journal.specs.Claims.{long}
 use Rattle.words.proofs.Choice.{and-left, and-right}
 use Rattle.nodes.specs.Run.{present, cost, longest, run, remains, nextState}
 use Rattle.nodes.specs.Area.{operandsOf, body, answer, written}
-use Rattle.rtas.specs.UpdateNodes.{areaAt, withArea, placed, reserved, goodState, areaStatus, areaAfter, nodesStatus, nodesMemory}
-use Rattle.rtas.specs.Buffer.{numberFor, asks, outcome, callOf, answered}
+use Rattle.rtas.specs.Lent.{partAt, withPart}
+use Rattle.rtas.specs.UpdateNodes.{placed, reserved, goodState, areaStatus, areaAfter, nodesStatus, nodesMemory}
+use Rattle.rtas.specs.Buffer.{numberFor, asks, nodesOutcome, outcome, callOf, answered}
 use Rattle.rtas.specs.Session.{Call, start, after, standing, Session}
-use Rattle.rtas.specs.Demands.{times}
+use Rattle.rtas.specs.Readings.{times}
 
 -- a call of scope 1 with a work area at an address, over 4,096 bytes of memory that begin with a state
 abbrev at : ℕ → ℕ → Call
@@ -39,11 +40,11 @@ abbrev calls : List Call
 calls = at 0 0 ∷ at 4096 0 ∷ at 0 509 ∷ []
 
 -- a list of bytes, tested element by element
-abbrev allBelow : List ℕ → Bool
+abbrev pub allBelow : List ℕ → Bool
 allBelow [] = true
 allBelow (x ∷ xs) = ltb x 256 && allBelow xs
 
-bytes-by : (s : List ℕ) → allBelow s ≡ true → Bytes s
+pub bytes-by : (s : List ℕ) → allBelow s ≡ true → Bytes s
 bytes-by [] e i = omega arith
 bytes-by (x ∷ xs) e zero = ltb-true x 256 (and-left _ _ e)
 bytes-by (x ∷ xs) e (suc i) = bytes-by xs (and-right (ltb x 256) _ e) i
@@ -58,7 +59,7 @@ pub record Witness : Type 0 where
   pub ended : standing additions start calls .done ≡ true
 
 pub witness : Witness
-unfolding be le beBytes wordBytes zeros records recordsFrom whole allGood wellFormedBy lengthOf kindOf goodFrame nodeType goodRecord wellFormed operationOf entries negative valid rowOf reports chosen reportable operandWords present cost longest run remains nextState operandsOf body answer written areaAt withArea placed reserved goodState areaStatus areaAfter nodesStatus nodesMemory numberFor asks outcome callOf answered after
+unfolding be le beBytes wordBytes zeros records recordsFrom whole allGood wellFormedBy lengthOf kindOf goodFrame nodeType goodRecord wellFormed operationOf entries negative valid rowOf reports chosen reportable operandWords present cost longest run remains nextState operandsOf body answer written partAt withPart placed reserved goodState areaStatus areaAfter nodesStatus nodesMemory numberFor asks nodesOutcome outcome callOf answered after
 witness =
     record {
       bytes = bytes-by additions refl;

@@ -11,8 +11,10 @@ use Rattle.rtas.specs.declared.status.Number.{Number}
 use Rattle.rtas.specs.declared.status.Number.the-variants.{Given, Short, NoOutputs, TooMany}
 use Rattle.rtas.specs.declared.status.Status.{Status}
 use Rattle.rtas.specs.declared.status.Status.the-variants.{Parameter}
-use Rattle.rtas.specs.Status.{isGiven, statusWord}
+use Rattle.rtas.specs.declared.indices_call.Request.{Request}
+use Rattle.rtas.specs.Status.{isGiven, isAnswer, statusWord}
 use Rattle.rtas.specs.UpdateNodes.{nodesStatus, nodesMemory}
+use Rattle.rtas.specs.GetIndices.{indicesStatus, indicesMemory, nextNumber}
 
 -- 01: "Token, number of inputs, number of outputs, the inputs, the outputs; the first output is the status."
 abbrev pub token : List ℕ → ℕ
@@ -53,11 +55,32 @@ asks t i o b = eqb (token b) t && (eqb (inputs b) i && eqb (outputs b) o)
 abbrev pub isNodes : List ℕ → Bool
 isNodes b = asks 1 2 1 b
 
--- 01: "Tokens here: 1 update-nodes", "an unknown token or counts unlike the call's own give status -3". Further tokens are added here.
+abbrev pub isIndices : List ℕ → Bool
+isIndices b = asks 2 5 2 b
+
+-- 01, update-nodes: "Inputs: address, scope. One output."
+unfoldable pub nodesOutcome : List ℕ → List ℕ → List ℕ → Registration → Outcome
+nodesOutcome b m j r = record { status = nodesStatus m (input b 0) (input b 1) j; more = []; memory = nodesMemory m (input b 0) (input b 1) j; registration = r }
+
+-- 01, get-indices: "Inputs: indicator (0) or sensor (1), type, address, size, Starting Number. Outputs: status, Next Starting Number."
+abbrev pub requestOf : List ℕ → Request
+requestOf b = record { flag = input b 0; kind = input b 1; address = input b 2; size = input b 3; number = record { 0 = input b 4 } }
+
+unfoldable pub indicesOutcome : List ℕ → List ℕ → List ℕ → Registration → Outcome
+indicesOutcome b m i r =
+    let q = requestOf b in
+    record { status = indicesStatus m i q; more = cond (isAnswer (indicesStatus m i q)) (nextNumber i q ∷ []) []; memory = indicesMemory m i q; registration = r }
+
+-- a call that is refused for its token, counts or parameters
+abbrev pub refusal : List ℕ → Registration → Outcome
+refusal m r = record { status = Parameter; more = []; memory = m; registration = r }
+
+-- 01: "Tokens here: 1 update-nodes, 2 get-indices", "an unknown token or counts unlike the call's own give status -3". Further tokens are added here.
 unfoldable pub outcome : List ℕ → List ℕ → List ℕ → List ℕ → Registration → Outcome
 outcome b m j i r =
-    let nodes : Outcome = record { status = nodesStatus m (input b 0) (input b 1) j; more = []; memory = nodesMemory m (input b 0) (input b 1) j; registration = r } in
-    cond (isNodes b) nodes (record { status = Parameter; more = []; memory = m; registration = r })
+    cond (isNodes b) (nodesOutcome b m j r)
+    (cond (isIndices b) (indicesOutcome b m i r)
+    (refusal m r))
 
 -- What a call leaves: its number, the argument buffer, memory, and the registration.
 pub record Result : Type 0 where

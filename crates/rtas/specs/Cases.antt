@@ -1,14 +1,16 @@
 -- Cases of the argument buffer and of the address, on both sides of their lines, cited by the contract of `call`.
-use Prim.Native.Nat.{ℕ}
-use mathlib.Core.Bool.{Bool, true, _&&_}
+use Prim.Native.Nat.{ℕ, _≤_}
+use mathlib.Core.Path.{_≡_}
+use mathlib.Core.Bool.{Bool, true, false, _&&_}
 use mathlib.Core.List.{List, [], _∷_, _++_}
 use lib.Dec.{T, eqb}
-use lib.ListN.{take, replicate}
+use lib.ListN.{length, take, replicate}
 use Rattle.words.specs.Numbers.{wordBytes}
 use Rattle.rtas.specs.declared.status.Status.{Status}
 use Rattle.rtas.specs.declared.status.Status.the-variants.{Done, Parameter}
 use Rattle.rtas.specs.Status.{numberOf, statusWord}
 use Rattle.rtas.specs.UpdateNodes.{nodesStatus}
+use Rattle.rtas.specs.GetIndices.{lendable}
 use Rattle.rtas.specs.Buffer.{numberFor}
 
 -- inputs and outputs declared, the buffer's length, the number
@@ -72,3 +74,7 @@ addressAgrees (c ∷ cs) = eqb (statusWord (nodesStatus (replicate (c .memory) 0
 
 abbrev pub BothSides : Type 0
 BothSides = T (bufferAgrees bufferCases && addressAgrees addressCases)
+
+-- 01, get-indices: "address + size at most 2^32": a part that ends there, and one that ends a byte behind it, of any memory that is large enough
+abbrev pub AddressLimit : Type 0
+AddressLimit = (m : List ℕ) → 4294967297 ≤ length m → (lendable m 1 4294967295 ≡ true) × (lendable m 2 4294967295 ≡ false)

@@ -1,37 +1,44 @@
 -- What is claimed of every call and of every session, cited by the contract of `call`.
-use Prim.Native.Nat.{ℕ, zero, suc, _+_, _*_, _-_, _≤_, _<_}
+use Prim.Native.Nat.{ℕ, _+_, _*_, _-_, _≤_, _<_}
 use mathlib.Core.Path.{_≡_}
-use mathlib.Core.Bool.{Bool, true, false, _&&_, not}
-use mathlib.Core.List.{List, [], _∷_, _++_}
-use lib.Dec.{T, leb, ltb, eqb}
-use lib.ListN.{length, take, getD, replicate}
-use Rattle.words.specs.Numbers.{Bytes, be32, beBytes}
+use mathlib.Core.Bool.{Bool, true, false, _&&_, _||_, not}
+use mathlib.Core.List.{List}
+use lib.Dec.{leb, ltb}
+use lib.ListN.{length, take, drop, getD}
+use Rattle.words.specs.Numbers.{Bytes, be32}
 use Rattle.dump.specs.declared.registration.Registration.{Registration}
 use Rattle.journal.specs.Journal.{wellFormed}
 use Rattle.journal.specs.Scope.{valid, rowOf}
 use Rattle.journal.specs.Reportable.{reportable, operandWords}
-use Rattle.journal.specs.Claims.{short, long}
 use Rattle.nodes.specs.Run.{run, remains}
-use Rattle.nodes.specs.Reading.{Reading, read, refused, reading}
-use Rattle.rtas.specs.declared.status.Status.{Status}
-use Rattle.rtas.specs.declared.status.Status.the-variants.{Done, Again, Parameter}
-use Rattle.rtas.specs.Status.{isGiven, isAnswer, isDone, isMalformed, statusWord}
+use Rattle.nodes.specs.Reading.{read, reading}
+use Rattle.inventory.specs.Inventory as inventory
+use Rattle.inventory.specs.Listing.{listed}
+use Rattle.indices.specs.Reading as indices
+use Rattle.rtas.specs.declared.indices_call.Request.{Request}
+use Rattle.rtas.specs.Status.{isGiven, isAnswer, isDone, isMalformed}
+use Rattle.rtas.specs.Lent.{partAt}
 use Rattle.rtas.specs.UpdateNodes.{areaAt, placed, reserved, goodState, nodesStatus, nodesMemory}
-use Rattle.rtas.specs.Buffer.{outputs, input, isNodes, statusAt, Result, callOf, answered}
+use Rattle.rtas.specs.GetIndices.{askable, lendable, entriesFor, numberIn, runFor, goodNumber, dueFits, moreEntries, indicesStatus, indicesMemory}
+use Rattle.rtas.specs.Buffer.{outputs, input, isNodes, isIndices, statusAt, Result, callOf, answered}
 use Rattle.rtas.specs.Session.{Call, isAnswered, Standing, start, standing, Session, WellMade, Driven, readings, reported}
+use Rattle.rtas.specs.ListSession as list
 
 -- ---- demand 1: "A refused call gives the status or refusal number .. a status is written in its word, and nothing else changes.
 -- No byte outside the output words and the named work area is written."
 
--- a byte of the status word, of the output words, of update-nodes' work area
+-- a byte of n bytes from a place on; of the status word, of the output words, of the named work area
+abbrev pub among : ℕ → ℕ → ℕ → Bool
+among from n k = leb from k && ltb k (from + n)
+
 abbrev pub inStatus : List ℕ → ℕ → Bool
-inStatus b k = leb (statusAt b) k && ltb k (statusAt b + 4)
+inStatus b k = among (statusAt b) 4 k
 
 abbrev pub inOutputs : List ℕ → ℕ → Bool
-inOutputs b k = leb (statusAt b) k && ltb k (statusAt b + 4 * outputs b)
+inOutputs b k = among (statusAt b) (4 * outputs b) k
 
 abbrev pub inArea : List ℕ → ℕ → Bool
-inArea b k = isNodes b && (leb (input b 0) k && ltb k (input b 0 + 4096))
+inArea b k = (isNodes b && among (input b 0) 4096 k) || (isIndices b && among (input b 2) (input b 3) k)
 
 pub record Confined (b m : List ℕ) (r : Registration) (x : Result) : Type 0 where
   pub no-status : isGiven (x .number) ≡ false → x .args ≡ b
@@ -46,10 +53,10 @@ pub record Confined (b m : List ℕ) (r : Registration) (x : Result) : Type 0 wh
 abbrev pub Demand1 : Type 0
 Demand1 = (b m j i : List ℕ) (r : Registration) → Confined b m r (callOf b m j i r)
 
--- ---- demand 2 for update-nodes: "each status is given exactly when document 01 says so. Reading what was written gives back the same entries."
+-- ---- demand 2: "each status is given exactly when document 01 says so. Reading what was written gives back the same entries."
 
-pub record Exact (m : List ℕ) (address scope : ℕ) (j : List ℕ) : Type 0 where
-  -- -1, and 0 or 1, exactly then; -3 in every other case
+-- -1, and 0 or 1, exactly then; -3 in every other case
+pub record ExactNodes (m : List ℕ) (address scope : ℕ) (j : List ℕ) : Type 0 where
   pub malformed : isMalformed (nodesStatus m address scope j) ≡ (placed m address && (valid scope && not (wellFormed j)))
   pub answers : isAnswer (nodesStatus m address scope j)
       ≡ (placed m address && (valid scope && (wellFormed j && (reserved (areaAt m address) && goodState (rowOf scope) j (areaAt m address)))))
@@ -57,8 +64,17 @@ pub record Exact (m : List ℕ) (address scope : ℕ) (j : List ℕ) : Type 0 wh
   pub reads-back : Bytes j → isAnswer (nodesStatus m address scope j) ≡ true
       → reading (areaAt (nodesMemory m address scope j) address) ≡ read (run (reportable (rowOf scope) j) (be32 (areaAt m address) 0))
 
+pub record ExactIndices (m i : List ℕ) (q : Request) : Type 0 where
+  pub malformed : isMalformed (indicesStatus m i q) ≡ (askable (q .flag) (q .kind) && (lendable m (q .address) (q .size) && not (inventory.wellFormed i)))
+  pub answers : isAnswer (indicesStatus m i q)
+      ≡ (askable (q .flag) (q .kind) && (lendable m (q .address) (q .size) && (inventory.wellFormed i && (goodNumber (numberIn q) (entriesFor i q) && dueFits (q .size) (drop (numberIn q - 1) (entriesFor i q))))))
+  pub done : isAnswer (indicesStatus m i q) ≡ true → isDone (indicesStatus m i q) ≡ not (moreEntries i q)
+  -- "never zero entries"
+  pub some : isAnswer (indicesStatus m i q) ≡ true → 1 ≤ length (runFor i q)
+  pub reads-back : Bytes i → isAnswer (indicesStatus m i q) ≡ true → indices.reading (partAt (indicesMemory m i q) (q .address) (q .size)) ≡ indices.read (runFor i q)
+
 abbrev pub Demand2 : Type 0
-Demand2 = (m : List ℕ) (address scope : ℕ) (j : List ℕ) → Exact m address scope j
+Demand2 = ((m : List ℕ) (address scope : ℕ) (j : List ℕ) → ExactNodes m address scope j) × ((m i : List ℕ) (q : Request) → ExactIndices m i q)
 
 -- ---- demand 3: "After every such list the answered calls' areas, read by document 01's rules, hold, in order, exactly the first k of that
 -- document's reportable list for the journal and scope, deletions first, each once."
@@ -78,62 +94,18 @@ abbrev pub Demand3 : Type 0
 Demand3 = (j : List ℕ) (scope : ℕ) → Bytes j → wellFormed j ≡ true → valid scope ≡ true → (cs : List Call) → Session j scope start cs
     → Accounted j scope (standing j start cs) × (Driven j scope start cs → operandWords (reportable (rowOf scope) j) < 1015 * length cs → standing j start cs .done ≡ true)
 
--- ---- the table of readings: 01, "Cases marked * are proved of the written rules themselves, gathered into a single table under a single claim."
+-- ---- 01, get-indices: "over an unchanged inventory the answered calls from Starting Number 1, each followed by its Next Starting Number up to
+-- status 0, hand out the whole list once."
 
--- so many deletes, updates and additions of node type 10 in the journal, the scope and the state given; the status, the operations handed out, the state left
-pub record NodesCase : Type 0 where
-  pub deletes : ℕ
-  pub updates : ℕ
-  pub additions : ℕ
-  pub scope : ℕ
-  pub state : ℕ
-  pub status : Status
-  pub handed : ℕ
-  pub left : ℕ
+pub record HandedOut (i : List ℕ) (flag kind : ℕ) (st : list.Standing) : Type 0 where
+  pub handed : list.readings (st .areas) ≡ indices.read (take (list.handedOut (listed flag kind i) st) (listed flag kind i))
+  pub bounded : length (st .areas) ≤ length (listed flag kind i)
+  -- until status 0 any call with the next number and an area of 92 bytes or more inside memory is answered
+  pub answers : askable flag kind ≡ true → 1 ≤ length (listed flag kind i) → st .done ≡ false
+      → (c : list.Call) → list.WellMade flag kind (st .next) c → list.isAnswered i c ≡ true
 
-abbrev pub case : ℕ → ℕ → ℕ → ℕ → ℕ → Status → ℕ → ℕ → NodesCase
-case d u a s k t n l = record { deletes = d; updates = u; additions = a; scope = s; state = k; status = t; handed = n; left = l }
-
-abbrev pub nodesCases : List NodesCase
-nodesCases =
-    case 1018 0 0 1 0 Done 1018 0
-    ∷ case 1019 0 0 1 0 Again 1018 1018
-    ∷ case 1019 0 0 1 1018 Done 1 0
-    ∷ case 0 0 509 1 0 Done 509 0
-    ∷ case 0 0 510 1 0 Again 509 509
-    ∷ case 0 0 510 1 509 Done 1 0
-    ∷ case 1 1013 1 1 0 Done 1015 0
-    ∷ case 1 1014 1 1 0 Again 1015 1015
-    ∷ case 0 0 0 1 0 Done 0 0
-    ∷ case 3 0 0 2147483648 0 Done 3 0
-    ∷ case 3 0 0 4294967295 0 Done 3 0
-    ∷ case 3 0 0 0 0 Parameter 0 0
-    ∷ case 3 0 0 3 0 Parameter 0 0
-    ∷ case 3 0 0 4 0 Parameter 0 0
-    ∷ case 3 0 0 2147483647 0 Parameter 0 0
-    ∷ case 3 0 0 1 2 Done 1 0
-    ∷ case 3 0 0 1 3 Parameter 0 3
-    ∷ []
-
-abbrev pub times : ℕ → List ℕ → List ℕ
-times zero r = []
-times (suc n) r = r ++ times n r
-
--- an answered area reads as so many operations; a refused one is as it was, sevens behind the sixteen bytes, and does not read
-abbrev pub reads : Status → ℕ → Reading → Bool
-reads s n (read os) = isAnswer s && eqb (length os) n
-reads s n (refused r at) = not (isAnswer s)
-
-abbrev pub agrees : NodesCase → Bool
-agrees c =
-    let j = times (c .deletes) (short 8 1 10) ++ (times (c .updates) (short 8 2 10) ++ times (c .additions) (long 12 3 10)) in
-    let m = beBytes 4 (c .state) ++ (replicate 12 0 ++ replicate 4080 7) in
-    let x = nodesMemory m 0 (c .scope) j in
-    eqb (statusWord (nodesStatus m 0 (c .scope) j)) (statusWord (c .status)) && (reads (c .status) (c .handed) (reading (areaAt x 0)) && eqb (be32 x 0) (c .left))
-
-abbrev pub allAgree : List NodesCase → Bool
-allAgree [] = true
-allAgree (c ∷ cs) = agrees c && allAgree cs
-
-abbrev pub Readings : Type 0
-Readings = T (allAgree nodesCases)
+-- and a session of such calls says done after as many calls as there are entries
+abbrev pub WholeList : Type 0
+WholeList = (i : List ℕ) (flag kind : ℕ) → Bytes i → inventory.wellFormed i ≡ true → (cs : List list.Call) → list.Session i flag kind list.start cs
+    → HandedOut i flag kind (list.standing i list.start cs)
+    × (askable flag kind ≡ true → 1 ≤ length (listed flag kind i) → list.Driven i flag kind list.start cs → length (listed flag kind i) ≤ length cs → list.standing i list.start cs .done ≡ true)

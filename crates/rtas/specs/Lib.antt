@@ -1,6 +1,10 @@
 pub mod Status
+pub mod Lent
 pub mod UpdateNodes
+pub mod GetIndices
 pub mod Buffer
 pub mod Session
+pub mod ListSession
 pub mod Demands
+pub mod Readings
 pub mod Cases

@@ -3,8 +3,8 @@ use Prim.Native.Nat.{ℕ, _+_, _%_}
 use mathlib.Core.Bool.{Bool, cond, _&&_, _||_}
 use mathlib.Core.List.{List}
 use lib.Dec.{leb, ltb, eqb}
-use lib.ListN.{length, take, drop}
-use lib.Seq.{slice, paste}
+use lib.ListN.{length}
+use lib.Seq.{slice}
 use Rattle.words.specs.Numbers.{be32, zeros}
 use Rattle.journal.specs.Journal.{wellFormed}
 use Rattle.journal.specs.Scope.{valid, rowOf}
@@ -14,14 +14,14 @@ use Rattle.nodes.specs.Area.{written}
 use Rattle.rtas.specs.declared.status.Status.{Status}
 use Rattle.rtas.specs.declared.status.Status.the-variants.{Done, Again, Malformed, Parameter}
 use Rattle.rtas.specs.Status.{isAnswer}
+use Rattle.rtas.specs.Lent.{partAt, withPart}
 
--- 01: "For update-nodes, the work area is the 4,096 bytes of partition memory that start at the given address"
-unfoldable pub areaAt : List ℕ → ℕ → List ℕ
-areaAt m address = take 4096 (drop address m)
+-- the work area at an address, and memory with another there
+abbrev pub areaAt : List ℕ → ℕ → List ℕ
+areaAt m address = partAt m address 4096
 
--- memory with another work area at the address
-unfoldable pub withArea : List ℕ → ℕ → List ℕ → List ℕ
-withArea m address area = paste m address area 4096
+abbrev pub withArea : List ℕ → ℕ → List ℕ → List ℕ
+withArea m address area = withPart m address 4096 area
 
 -- 01: "address a multiple of 4,096 and the area inside memory"
 unfoldable pub placed : List ℕ → ℕ → Bool

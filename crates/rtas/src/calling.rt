@@ -1,16 +1,25 @@
 // A call through the argument buffer.
 ghost use mathlib.Core.Path.{_≡_};
-ghost use Prim.Native.Nat.{_≤_};
+ghost use mathlib.Core.Bool.{cond};
+ghost use mathlib.Core.List.{[], _∷_};
+ghost use Prim.Native.Nat.{_+_, _≤_};
 ghost use lib.ListN.{length};
-ghost use Rattle.rtas.specs.Status.{isGiven};
-ghost use Rattle.rtas.specs.Buffer.{numberFor, asks, outcome, callOf};
-ghost use Rattle.rtas.specs.Cases.{BothSides};
-ghost use Rattle.rtas.specs.Demands.{Demand1, Demand2, Demand3, Readings};
+ghost use lib.Seq.{sets};
+ghost use Rattle.words.specs.Numbers.{wordBytes};
+ghost use Rattle.rtas.specs.Status.{isGiven, isAnswer};
+ghost use Rattle.rtas.specs.GetIndices.{indicesStatus, indicesMemory, nextNumber};
+ghost use Rattle.rtas.specs.Buffer.{statusAt, numberFor, asks, requestOf, outcome, callOf};
+ghost use Rattle.rtas.specs.Cases.{BothSides, AddressLimit};
+ghost use Rattle.rtas.specs.Demands.{Demand1, Demand2, Demand3, WholeList};
+ghost use Rattle.rtas.specs.Readings.{Readings};
+use crate::indices_call::Request;
+use crate::indices_call::get_indices;
 use crate::nodes_call::update_nodes;
 use crate::status::Number;
 use crate::status::Status;
 use crate::status::status_word;
 use dump::Registration;
+use indices::StartingNumber;
 
 // What a call answers: its number, and the registration afterwards.
 pub struct Answer {
@@ -53,27 +62,75 @@ fn asks_for(args: &[u8], token: u32, inputs: u32, outputs: u32) -> bool
     t == token && (i == inputs && o == outputs)
 }
 
-// The work of a call whose number is 0. Every token is found here.
+// What get-indices is asked for by its five inputs.
+fn request_of(args: &[u8]) -> Request
+    requires { ⌜ 32 ≤ length (now args) ⌝ }
+    ensures { λ r. ⌜ r ≡ requestOf (now (args .entry)) ⌝ }
+{
+    Request {
+        flag: words::read_be32(args, 12),
+        kind: words::read_be32(args, 16),
+        address: words::read_be32(args, 20),
+        size: words::read_be32(args, 24),
+        number: StartingNumber(words::read_be32(args, 28)),
+    }
+}
+
+// get-indices by its argument buffer: an answer stores the Next Starting Number, its second output.
+fn list_indices(args: &mut [u8], memory: &mut [u8], inventory: &[u8]) -> Status
+    requires { ⌜ 40 ≤ length (now args) ⌝ }
+    ensures { λ r. ⌜ r ≡ indicesStatus (now (memory .entry)) (now (inventory .entry)) (requestOf (now (args .entry))) ⌝ }
+    ensures { λ _. ⌜ now (args .exit) ≡ sets (now (args .entry)) 36 (wordBytes (cond (isAnswer (indicesStatus (now (memory .entry)) (now (inventory .entry)) (requestOf (now (args .entry))))) (nextNumber (now (inventory .entry)) (requestOf (now (args .entry))) ∷ []) [])) ⌝ }
+    ensures { λ _. ⌜ now (memory .exit) ≡ indicesMemory (now (memory .entry)) (now (inventory .entry)) (requestOf (now (args .entry))) ⌝ }
+{
+    let listed = get_indices(memory, inventory, request_of(&*args));
+    let status = listed.status;
+    let next = listed.next;
+    if status_word(status) <= 1 {
+        words::store_be32(args, 36, next.0);
+    }
+    status
+}
+
+// What a call's own work gives: its status, and the registration afterwards.
+pub struct Work {
+    pub status: Status,
+    pub registration: Registration,
+}
+
+// The work of a call whose number is 0, and its outputs after the status. Every token is found here.
 fn dispatch(
-    args: &[u8],
+    args: &mut [u8],
     memory: &mut [u8],
     journal: &[u8],
     inventory: &[u8],
     registration: Registration,
-) -> Status
+) -> Work
     requires { ⌜ numberFor (now args) ≡ Number.Given ⌝ }
-    ensures { λ r. ⌜ r ≡ outcome (now (args .entry)) (now (memory .entry)) (now (journal .entry)) (now (inventory .entry)) registration .status ⌝ }
+    ensures { λ r. ⌜ (r .status ≡ outcome (now (args .entry)) (now (memory .entry)) (now (journal .entry)) (now (inventory .entry)) registration .status) × (r .registration ≡ outcome (now (args .entry)) (now (memory .entry)) (now (journal .entry)) (now (inventory .entry)) registration .registration) ⌝ }
+    ensures { λ _. ⌜ now (args .exit) ≡ sets (now (args .entry)) (statusAt (now (args .entry)) + 4) (wordBytes (outcome (now (args .entry)) (now (memory .entry)) (now (journal .entry)) (now (inventory .entry)) registration .more)) ⌝ }
     ensures { λ _. ⌜ now (memory .exit) ≡ outcome (now (args .entry)) (now (memory .entry)) (now (journal .entry)) (now (inventory .entry)) registration .memory ⌝ }
 {
-    if asks_for(args, 1, 2, 1) {
-        return update_nodes(
-            memory,
-            journal,
-            words::read_be32(args, 12),
-            words::read_be32(args, 16),
-        );
+    if asks_for(&*args, 1, 2, 1) {
+        let address = words::read_be32(args, 12);
+        let scope = words::read_be32(args, 16);
+        let status = update_nodes(memory, journal, address, scope);
+        return Work {
+            status,
+            registration,
+        };
     }
-    Status::Parameter
+    if asks_for(&*args, 2, 5, 2) {
+        let status = list_indices(args, memory, inventory);
+        return Work {
+            status,
+            registration,
+        };
+    }
+    Work {
+        status: Status::Parameter,
+        registration,
+    }
 }
 
 // One call: any argument buffer, memory, journal, inventory and registration.
@@ -87,7 +144,7 @@ pub fn call(
     ensures { λ r. ⌜ (r .number ≡ callOf (now (args .entry)) (now (memory .entry)) (now (journal .entry)) (now (inventory .entry)) registration .number) × (r .registration ≡ callOf (now (args .entry)) (now (memory .entry)) (now (journal .entry)) (now (inventory .entry)) registration .registration) ⌝ }
     ensures { λ _. ⌜ now (args .exit) ≡ callOf (now (args .entry)) (now (memory .entry)) (now (journal .entry)) (now (inventory .entry)) registration .args ⌝ }
     ensures { λ _. ⌜ now (memory .exit) ≡ callOf (now (args .entry)) (now (memory .entry)) (now (journal .entry)) (now (inventory .entry)) registration .memory ⌝ }
-    ensures demands { λ _. ⌜ Demand1 × Demand2 × Demand3 × Readings × BothSides ⌝ }
+    ensures demands { λ _. ⌜ Demand1 × Demand2 × Demand3 × WholeList × Readings × BothSides × AddressLimit ⌝ }
 {
     let number = number_for(&*args);
     if !is_given(number) {
@@ -97,7 +154,9 @@ pub fn call(
         };
     }
     let inputs = words::read_be32(args, 4) as usize;
-    let status = dispatch(&*args, memory, journal, inventory, registration);
+    let work = dispatch(args, memory, journal, inventory, registration);
+    let status = work.status;
+    let registration = work.registration;
     words::store_be32(args, 12 + 4 * inputs, status_word(status));
     Answer {
         number,

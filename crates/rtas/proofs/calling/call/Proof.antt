@@ -1,19 +1,16 @@
 -- `calling::call` meets its contract.
 use mathlib.Core.Bool.{true}
-use mathlib.Core.List.{List, _∷_}
 use mathlib.Core.Path.{_≡_, sym, ap, _∙_}
-use Prim.Native.Nat.{ℕ}
+use Prim.Native.Nat.{_+_, _*_}
 use native.Mathlib.Omega.{arith}
-use lib.Seq.{sets}
 use borrow.Author.Needs.{needs}
 use borrow.Author.Tests.{not-true, not-false}
 use denote.Ref.{now}
 use Rattle.rtas.proofs.Claims.{demands}
-use Rattle.rtas.proofs.Heads.{Whole, whole-buffer, given-number, unchanged, carried-out, status-only}
-use Rattle.rtas.specs.Buffer.{Result, numberFor, statusAt, outcome}
+use Rattle.rtas.proofs.Heads.{Whole, whole-buffer, given-number, unchanged, carried-out, outputs-stored}
+use Rattle.rtas.specs.Buffer.{Result, numberFor, statusAt}
+use Rattle.rtas.specs.declared.status.Number.the-variants.{Given}
 use Rattle.rtas.specs.Status.{isGiven, statusWord}
-use Rattle.words.proofs.Stores.{wordBytes-one}
-use Rattle.words.specs.Numbers.{wordBytes}
 use Rattle.rtas.proofs.calling.call.Statement.{statement}
 use Rattle.rtas.proofs.calling.call.Tie as tie
 
@@ -46,8 +43,11 @@ read-be32-requires c κs = omega (arith, whole (c .before) .size)
 cast-inputs : tie.Need-cast-inputs
 cast-inputs c = search needs
 
+number-is : (c : tie.Else1) → c .before .before .number-for .result ≡ Given
+number-is c = given-number _ (sym (c .before .is-given .ensures) ∙ not-false _ (c .if1 .left))
+
 dispatch-requires : tie.Need-dispatch-requires
-dispatch-requires c κs = sym (c .before .before .before .before .before .before .number-for .ensures) ∙ given-number _ (sym (c .before .before .before .before .before .is-given .ensures) ∙ not-false _ (c .before .before .before .before .if1 .left))
+dispatch-requires c κs = sym (c .before .before .before .before .before .before .number-for .ensures) ∙ number-is (c .before .before .before .before)
 
 mul-store-be32 : tie.Need-mul-store-be32
 mul-store-be32 c = search needs
@@ -59,7 +59,7 @@ status-word-requires : tie.Need-status-word-requires
 status-word-requires c κs = search needs
 
 store-be32-requires : tie.Need-store-be32-requires
-store-be32-requires c κs = omega (arith, whole (c .before .before .before .before .before .before .before .before .before), c .before .before .before .before .before .before .before .read-be32 .ensures)
+store-be32-requires c κs = omega (arith, whole (c .before .before .before .before .before .before .before .before .before .before .before .before), c .before .before .before .before .before .before .before .before .before .before .read-be32 .ensures, c .before .before .before .before .before .before .before .dispatch .kept .0)
 
 same-length-2 : tie.Need-same-length-2
 same-length-2 c = search needs
@@ -68,15 +68,16 @@ same-length-3 : tie.Need-same-length-3
 same-length-3 c = search needs
 
 returns-2 : tie.Need-returns-2
-returns-2 c = let u = sym (carried-out (now (c .before .before .before .before .before .before .before .before .before .before .before .before .before .before .before .before .before .before .before .before .args .args)) (now (c .before .before .before .before .before .before .before .before .before .before .before .before .before .before .before .before .before .before .before .before .args .memory)) (now (c .before .before .before .before .before .before .before .before .before .before .before .before .before .before .before .before .before .before .before .before .args .journal)) (now (c .before .before .before .before .before .before .before .before .before .before .before .before .before .before .before .before .before .before .before .before .args .inventory)) (c .before .before .before .before .before .before .before .before .before .before .before .before .before .before .before .before .before .before .before .before .args .registration) (yes (c .before .before .before .before .before .before .before .before .before .before .before .before))) in
-    let only = status-only (now (c .before .before .before .before .before .before .before .before .before .before .before .before .before .before .before .before .before .before .before .before .args .args)) (now (c .before .before .before .before .before .before .before .before .before .before .before .before .before .before .before .before .before .before .before .before .args .memory)) (now (c .before .before .before .before .before .before .before .before .before .before .before .before .before .before .before .before .before .before .before .before .args .journal)) (now (c .before .before .before .before .before .before .before .before .before .before .before .before .before .before .before .before .before .before .before .before .args .inventory)) (c .before .before .before .before .before .before .before .before .before .before .before .before .before .before .before .before .before .before .before .before .args .registration) in
-    let d = c .before .before .before .before .before .before .before .dispatch .ensures in (
-      (given-number _ (sym (c .before .before .before .before .before .before .before .before .before .before .before .before .before .is-given .ensures) ∙ not-false _ (c .before .before .before .before .before .before .before .before .before .before .before .before .if1 .left)) ∙ ap (λ (x : Result). x .number) u, sym (only .1) ∙ ap (λ (x : Result). x .registration) u),
+returns-2 c =
+    let g = yes (c .before .before .before .before .before .before .before .before .before .before .before .before .before .before .before) in
+    let u = sym (carried-out (now (c .before .before .before .before .before .before .before .before .before .before .before .before .before .before .before .before .before .before .before .before .before .before .before .args .args)) (now (c .before .before .before .before .before .before .before .before .before .before .before .before .before .before .before .before .before .before .before .before .before .before .before .args .memory)) (now (c .before .before .before .before .before .before .before .before .before .before .before .before .before .before .before .before .before .before .before .before .before .before .before .args .journal)) (now (c .before .before .before .before .before .before .before .before .before .before .before .before .before .before .before .before .before .before .before .before .before .before .before .args .inventory)) (c .before .before .before .before .before .before .before .before .before .before .before .before .before .before .before .before .before .before .before .before .before .before .before .args .registration) g) in
+    let d = c .before .before .before .before .before .before .before .before .before .before .dispatch .ensures in
+    let w = c .before .before .before .status-word .ensures in
+    let place : 12 + 4 * c .before .before .before .before .before .before .before .before .before .before .before .before .before .read-be32 .result ≡ statusAt (now (c .before .before .before .before .before .before .before .before .before .before .before .before .before .before .before .before .before .before .before .before .before .before .before .args .args)) = omega (arith, c .before .before .before .before .before .before .before .before .before .before .before .before .before .read-be32 .ensures) in (
+      (number-is (c .before .before .before .before .before .before .before .before .before .before .before .before .before .before .before) ∙ ap (λ (x : Result). x .number) u, d .0 .1 ∙ ap (λ (x : Result). x .registration) u),
       (
-        c .before .before .store-be32 .ensures
-            ∙ rw (c .before .before .before .before .before .before .before .before .before .before .read-be32 .ensures, c .before .before .before .status-word .ensures, d .0, ← wordBytes-one (statusWord (outcome (now (c .before .before .before .before .before .before .before .before .before .before .before .before .before .before .before .before .before .before .before .before .args .args)) (now (c .before .before .before .before .before .before .before .before .before .before .before .before .before .before .before .before .before .before .before .before .args .memory)) (now (c .before .before .before .before .before .before .before .before .before .before .before .before .before .before .before .before .before .before .before .before .args .journal)) (now (c .before .before .before .before .before .before .before .before .before .before .before .before .before .before .before .before .before .before .before .before .args .inventory)) (c .before .before .before .before .before .before .before .before .before .before .before .before .before .before .before .before .before .before .before .before .args .registration) .status)))
-            (ap (λ (l : List ℕ). sets (now (c .before .before .before .before .before .before .before .before .before .before .before .before .before .before .before .before .before .before .before .before .args .args)) (statusAt (now (c .before .before .before .before .before .before .before .before .before .before .before .before .before .before .before .before .before .before .before .before .args .args))) (wordBytes (statusWord (outcome (now (c .before .before .before .before .before .before .before .before .before .before .before .before .before .before .before .before .before .before .before .before .args .args)) (now (c .before .before .before .before .before .before .before .before .before .before .before .before .before .before .before .before .before .before .before .before .args .memory)) (now (c .before .before .before .before .before .before .before .before .before .before .before .before .before .before .before .before .before .before .before .before .args .journal)) (now (c .before .before .before .before .before .before .before .before .before .before .before .before .before .before .before .before .before .before .before .before .args .inventory)) (c .before .before .before .before .before .before .before .before .before .before .before .before .before .before .before .before .before .before .before .before .args .registration) .status) ∷ l))) (sym (only .0)) ∙ ap (λ (x : Result). x .args) u),
-        (d .1 ∙ ap (λ (x : Result). x .memory) u, demands),
+        outputs-stored (now (c .before .before .before .before .before .before .before .before .before .before .before .before .before .before .before .before .before .before .before .before .before .before .before .args .args)) (now (c .before .before .before .before .before .before .before .before .before .before .before .before .before .before .before .before .before .before .before .before .before .before .before .args .memory)) (now (c .before .before .before .before .before .before .before .before .before .before .before .before .before .before .before .before .before .before .before .before .before .before .before .args .journal)) (now (c .before .before .before .before .before .before .before .before .before .before .before .before .before .before .before .before .before .before .before .before .before .before .before .args .inventory)) (c .before .before .before .before .before .before .before .before .before .before .before .before .before .before .before .before .before .before .before .before .before .before .before .args .registration) _ _ _ _ g place (d .1 .0) (w ∙ ap statusWord (d .0 .0)) (c .before .before .store-be32 .ensures),
+        (d .1 .1 ∙ ap (λ (x : Result). x .memory) u, demands),
       ),
     )
 

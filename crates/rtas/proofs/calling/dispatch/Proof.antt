@@ -1,12 +1,13 @@
 -- `calling::dispatch` meets its contract.
-use mathlib.Core.Path.{refl, sym, ap, _∙_}
+use mathlib.Core.Bool.{true}
+use mathlib.Core.Path.{_≡_, sym, ap, _∙_}
 use Prim.Native.Nat.{_≤_}
 use native.Mathlib.Omega.{arith}
 use lib.ListN.{length}
 use borrow.Author.Needs.{needs}
 use denote.Ref.{now}
-use Rattle.rtas.proofs.Heads.{Whole, whole-buffer, asked-counts}
-use Rattle.rtas.specs.Buffer.{outcome}
+use Rattle.rtas.proofs.Heads.{Whole, whole-buffer, asked, Worked, worked-nodes, worked-indices, worked-none}
+use Rattle.rtas.specs.Buffer.{isNodes, isIndices}
 use Rattle.rtas.specs.Status.{isGiven}
 use Rattle.rtas.proofs.calling.dispatch.Statement.{statement}
 use Rattle.rtas.proofs.calling.dispatch.Tie as tie
@@ -15,17 +16,22 @@ whole : (c : tie.Start) → Whole (now (c .args .args))
 whole c = whole-buffer (now (c .args .args)) (ap isGiven (c .pre))
 
 asks-for-requires : tie.Need-asks-for-requires
-asks-for-requires c κs = omega (arith, whole (c .before .before .before .before) .size)
+asks-for-requires c κs = omega (arith, whole (c .before .before .before .before .before) .size)
+
+-- ---- update-nodes
+
+nodes-yes : (c : tie.After-read-be32-arg) → isNodes (now (c .before .before .before .before .before .before .before .before .args .args)) ≡ true
+nodes-yes c = sym (c .before .before .asks-for .ensures) ∙ c .before .if1 .taken
 
 -- two inputs are inside
-inside : (c : tie.After-update-nodes-arg) → 24 ≤ length (now (c .before .before .before .before .before .before .before .args .args))
-inside c = omega (arith, whole (c .before .before .before .before .before .before .before) .size, asked-counts 1 2 1 (now (c .before .before .before .before .before .before .before .args .args)) (sym (c .before .before .asks-for .ensures) ∙ c .before .if1 .taken))
+two-inside : (c : tie.After-read-be32-arg) → 24 ≤ length (now (c .before .before .before .before .before .before .before .before .args .args))
+two-inside c = omega (arith, whole (c .before .before .before .before .before .before .before .before) .size, asked 1 2 1 (now (c .before .before .before .before .before .before .before .before .args .args)) (nodes-yes c))
 
 read-be32-requires : tie.Need-read-be32-requires
-read-be32-requires c κs = omega (arith, inside c)
+read-be32-requires c κs = omega (arith, two-inside c)
 
 read-be32-requires-2 : tie.Need-read-be32-requires-2
-read-be32-requires-2 c κs = omega (arith, inside (c .before))
+read-be32-requires-2 c κs = omega (arith, two-inside (c .before .before))
 
 update-nodes-requires : tie.Need-update-nodes-requires
 update-nodes-requires c κs = search needs
@@ -33,13 +39,47 @@ update-nodes-requires c κs = search needs
 same-length : tie.Need-same-length
 same-length c = search needs
 
+same-length-2 : tie.Need-same-length-2
+same-length-2 c = search needs
+
 returns : tie.Need-returns
-unfolding outcome
-returns c = rw (← c .before .before .before .before .before .before .before .asks-for .ensures, c .before .before .before .before .before .before .if1 .taken, ← c .before .before .before .before .read-be32 .ensures, ← c .before .before .before .read-be322 .ensures) (c .before .before .update-nodes .ensures)
+returns c =
+    let told = rw (c .before .before .before .before .before .before .read-be32 .ensures, c .before .before .before .before .read-be322 .ensures) at (c .before .before .update-nodes .ensures) in
+    let w : Worked _ _ _ _ _ _ _ _ = worked-nodes _ _ _ (now (c .before .before .before .before .before .before .before .before .before .before .before .before .before .before .before .args .inventory)) (c .before .before .before .before .before .before .before .before .before .before .before .before .before .before .before .args .registration) _ _ (nodes-yes (c .before .before .before .before .before .before .before)) (told .0) (told .1) in
+    ((w .status-is, w .registration-is), (w .args-are, w .memory-is))
+
+-- ---- get-indices
+
+asks-for-requires-2 : tie.Need-asks-for-requires-2
+asks-for-requires-2 c κs = omega (arith, whole (c .before .before .before .before .before .before .before .before) .size)
+
+indices-yes : (c : tie.After-list-indices-arg2) → isIndices (now (c .before .before .before .before .before .before .before .before .before .before .before .before .args .args)) ≡ true
+indices-yes c = sym (c .before .before .before .asks-for2 .ensures) ∙ c .before .before .if2 .taken
+
+list-indices-requires : tie.Need-list-indices-requires
+list-indices-requires c κs = omega (arith, whole (c .before .before .before .before .before .before .before .before .before .before .before .before) .size, asked 2 5 2 (now (c .before .before .before .before .before .before .before .before .before .before .before .before .args .args)) (indices-yes c))
+
+same-length-3 : tie.Need-same-length-3
+same-length-3 c = search needs
+
+same-length-4 : tie.Need-same-length-4
+same-length-4 c = search needs
 
 returns-2 : tie.Need-returns-2
-unfolding outcome
-returns-2 c = rw (← c .before .asks-for .ensures, c .if1 .left) (refl, refl)
+returns-2 c =
+    let told = c .before .before .before .before .list-indices .ensures in
+    let w : Worked _ _ _ _ _ _ _ _ = worked-indices _ _ (now (c .before .before .before .before .before .before .before .before .before .before .before .before .before .before .before .before .before .args .journal)) _ (c .before .before .before .before .before .before .before .before .before .before .before .before .before .before .before .before .before .args .registration) _ _ _ (indices-yes (c .before .before .before .before .before)) (told .0) (told .1 .0) (told .1 .1) in
+    ((w .status-is, w .registration-is), (w .args-are, w .memory-is))
+
+-- ---- any other
+
+same-length-5 : tie.Need-same-length-5
+same-length-5 c = search needs
+
+returns-3 : tie.Need-returns-3
+returns-3 c =
+    let none : Worked _ _ _ _ _ _ _ _ = worked-none (now (c .before .before .before .before .before .before .before .before .before .before .args .args)) (now (c .before .before .before .before .before .before .before .before .before .before .args .memory)) (now (c .before .before .before .before .before .before .before .before .before .before .args .journal)) (now (c .before .before .before .before .before .before .before .before .before .before .args .inventory)) (c .before .before .before .before .before .before .before .before .before .before .args .registration) (sym (c .before .before .before .before .asks-for .ensures) ∙ c .before .before .before .if1 .left) (sym (c .before .asks-for2 .ensures) ∙ c .if2 .left) in
+    ((none .status-is, none .registration-is), (none .args-are, none .memory-is))
 
 pub dispatch-spec : {M : Type 1} → statement M
 dispatch-spec =
@@ -50,5 +90,12 @@ dispatch-spec =
     read-be32-requires-2
     update-nodes-requires
     same-length
+    same-length-2
     returns
-    returns-2)
+    asks-for-requires-2
+    list-indices-requires
+    same-length-3
+    same-length-4
+    returns-2
+    same-length-5
+    returns-3)

@@ -9,7 +9,7 @@ use borrow.Author.Tests.{not-true, not-false}
 use denote.Ref.{now}
 use Rattle.journal.specs.declared.scope.Row.{Row}
 use Rattle.rtas.proofs.Areas.{placed-inside, left-unplaced, left-invalid, left-area}
-use Rattle.rtas.proofs.Memory.{area-lent, area-length}
+use Rattle.rtas.proofs.Memory.{part-lent, part-length}
 use Rattle.rtas.specs.UpdateNodes.{placed}
 use Rattle.rtas.proofs.nodes_call.update_nodes.Statement.{statement}
 use Rattle.rtas.proofs.nodes_call.update_nodes.Tie as tie
@@ -56,7 +56,7 @@ same-length-3 c = search needs
 returns-3 : tie.Need-returns-3
 returns-3 c = let sets-are = ap (λ (r : Row). r .sets) (c .before .before .before .before .before .before .before .before .scope-row .ensures) in
     left-area (now (c .before .before .before .before .before .before .before .before .before .before .before .before .before .before .args .memory)) (c .before .before .before .before .before .before .before .before .before .before .before .before .before .before .args .address) (c .before .before .before .before .before .before .before .before .before .before .before .before .before .before .args .scope) (now (c .before .before .before .before .before .before .before .before .before .before .before .before .before .before .args .j)) (placed-yes (c .before .before .before .before .before .before .before .before .before)) (ap (λ (r : Row). r .valid) (sym (c .before .before .before .before .before .before .before .before .scope-row .ensures)) ∙ not-false _ (c .before .before .before .before .before .before .if2 .left)) _ _
-    (c .before .before .answer-area .kept .0 ∙ (let h = placed-inside (now (c .before .before .before .before .before .before .before .before .before .before .before .before .before .before .args .memory)) (c .before .before .before .before .before .before .before .before .before .before .before .before .before .before .args .address) (placed-yes (c .before .before .before .before .before .before .before .before .before)) in ap (λ (l : List ℕ). length l) (area-lent _ _ h) ∙ area-length _ _ h)) (rw sets-are at (c .before .before .answer-area .ensures))
+    (c .before .before .answer-area .kept .0 ∙ (let h = placed-inside (now (c .before .before .before .before .before .before .before .before .before .before .before .before .before .before .args .memory)) (c .before .before .before .before .before .before .before .before .before .before .before .before .before .before .args .address) (placed-yes (c .before .before .before .before .before .before .before .before .before)) in ap (λ (l : List ℕ). length l) (part-lent _ _ 4096 h) ∙ part-length _ _ 4096 h)) (rw sets-are at (c .before .before .answer-area .ensures))
 
 pub update-nodes-spec : {M : Type 1} → statement M
 update-nodes-spec =

@@ -1,0 +1,69 @@
+-- `calling::list_indices` meets its contract.
+use mathlib.Core.Bool.{true, false}
+use mathlib.Core.Path.{_≡_, sym, ap, _∙_}
+use Prim.Native.Nat.{ℕ}
+use lib.Dec.{leb}
+use borrow.Author.Needs.{needs}
+use borrow.Author.Tests.{le-leb, lt-leb}
+use denote.Ref.{now}
+use Rattle.rtas.specs.Status.{isAnswer}
+use Rattle.rtas.specs.Buffer.{requestOf}
+use Rattle.rtas.specs.GetIndices.{indicesStatus}
+use Rattle.rtas.proofs.Requests.{number-stored, number-kept}
+use Rattle.rtas.proofs.calling.list_indices.Statement.{statement}
+use Rattle.rtas.proofs.calling.list_indices.Tie as tie
+
+request-of-requires : tie.Need-request-of-requires
+request-of-requires c κs = search needs
+
+get-indices-requires : tie.Need-get-indices-requires
+get-indices-requires c κs = search needs
+
+status-word-requires : tie.Need-status-word-requires
+status-word-requires c κs = search needs
+
+store-be32-requires : tie.Need-store-be32-requires
+store-be32-requires c κs = search needs
+
+same-length : tie.Need-same-length
+same-length c = search needs
+
+same-length-2 : tie.Need-same-length-2
+same-length-2 c = search needs
+
+returns : tie.Need-returns
+returns c =
+    let asked = c .before .before .before .before .before .before .before .before .before .before .request-of .ensures in
+    let told = rw asked at (c .before .before .before .before .before .before .before .before .before .get-indices .ensures) in
+    let word = c .before .before .before .before .before .status-word .ensures in
+    let answered : isAnswer (indicesStatus (now (c .before .before .before .before .before .before .before .before .before .before .before .before .before .before .before .before .args .memory)) (now (c .before .before .before .before .before .before .before .before .before .before .before .before .before .before .before .before .args .inventory)) (requestOf (now (c .before .before .before .before .before .before .before .before .before .before .before .before .before .before .before .before .args .args)))) ≡ true = ap isAnswer (sym (told .0 .0)) ∙ ap (λ (n : ℕ). leb n 1) (sym word) ∙ le-leb _ 1 (c .before .before .before .before .if1 .taken) in
+    (told .0 .0, (c .before .before .store-be32 .ensures ∙ number-stored (now (c .before .before .before .before .before .before .before .before .before .before .before .before .before .before .before .before .args .inventory)) (requestOf (now (c .before .before .before .before .before .before .before .before .before .before .before .before .before .before .before .before .args .args))) (indicesStatus (now (c .before .before .before .before .before .before .before .before .before .before .before .before .before .before .before .before .args .memory)) (now (c .before .before .before .before .before .before .before .before .before .before .before .before .before .before .before .before .args .inventory)) (requestOf (now (c .before .before .before .before .before .before .before .before .before .before .before .before .before .before .before .before .args .args)))) _ 36 _ (told .0 .1) answered, told .1))
+
+same-length-3 : tie.Need-same-length-3
+same-length-3 c = search needs
+
+same-length-4 : tie.Need-same-length-4
+same-length-4 c = search needs
+
+returns-2 : tie.Need-returns-2
+returns-2 c =
+    let asked = c .before .before .before .before .before .before .request-of .ensures in
+    let told = rw asked at (c .before .before .before .before .before .get-indices .ensures) in
+    let word = c .before .status-word .ensures in
+    let refused : isAnswer (indicesStatus (now (c .before .before .before .before .before .before .before .before .before .before .before .before .args .memory)) (now (c .before .before .before .before .before .before .before .before .before .before .before .before .args .inventory)) (requestOf (now (c .before .before .before .before .before .before .before .before .before .before .before .before .args .args)))) ≡ false = ap isAnswer (sym (told .0 .0)) ∙ ap (λ (n : ℕ). leb n 1) (sym word) ∙ lt-leb _ 1 (c .if1 .left) in
+    (told .0 .0, (number-kept (now (c .before .before .before .before .before .before .before .before .before .before .before .before .args .inventory)) (requestOf (now (c .before .before .before .before .before .before .before .before .before .before .before .before .args .args))) (indicesStatus (now (c .before .before .before .before .before .before .before .before .before .before .before .before .args .memory)) (now (c .before .before .before .before .before .before .before .before .before .before .before .before .args .inventory)) (requestOf (now (c .before .before .before .before .before .before .before .before .before .before .before .before .args .args)))) (now (c .before .before .before .before .before .before .before .before .before .before .before .before .args .args)) 36 refused, told .1))
+
+pub list-indices-spec : {M : Type 1} → statement M
+list-indices-spec =
+    tie.close
+    (tie.spec
+    request-of-requires
+    get-indices-requires
+    status-word-requires
+    store-be32-requires
+    same-length
+    same-length-2
+    returns
+    same-length-3
+    same-length-4
+    returns-2)

@@ -1,0 +1,143 @@
+// get-indices on partition memory.
+ghost use mathlib.Core.Path.{_≡_};
+ghost use mathlib.Core.Bool.{true};
+ghost use Prim.Native.Nat.{_-_, _≤_, _<_};
+ghost use lib.ListN.{length};
+ghost use Rattle.inventory.specs.Inventory.{wellFormed};
+ghost use Rattle.inventory.specs.Scanning.{From};
+ghost use Rattle.rtas.specs.GetIndices.{askable, lendable, entriesFor, numberIn, listStatus, listArea, indicesStatus, indicesMemory, numberGiven};
+use crate::status::Status;
+use indices::StartingNumber;
+use inventory::Judgement;
+
+// What a call asks for: a flag (0 indicator, 1 sensor), a type, a part of memory, and the number of the entry due.
+pub struct Request {
+    pub flag: u32,
+    pub kind: u32,
+    pub address: u32,
+    pub size: u32,
+    pub number: StartingNumber,
+}
+
+// What a call answers: its status, and the Next Starting Number, which a refused call leaves as it was asked for.
+pub struct Listed {
+    pub status: Status,
+    pub next: StartingNumber,
+}
+
+// Whether a type may be asked for with a flag.
+fn is_askable(flag: u32, kind: u32) -> bool
+    ensures { λ r. ⌜ r ≡ askable flag kind ⌝ }
+{
+    if 1 < flag {
+        return false;
+    }
+    if kind == 9003 {
+        return false;
+    }
+    if flag != 0 {
+        return true;
+    }
+    kind != 9001 && kind != 9002
+}
+
+// Whether a size of at least 4 from an address on ends inside memory and below 4 GiB.
+fn is_lendable(memory: &[u8], address: usize, size: usize) -> bool
+    requires { ⌜ (address < 4294967296) × (size < 4294967296) ⌝ }
+    ensures { λ r. ⌜ r ≡ lendable (now (memory .entry)) address size ⌝ }
+{
+    if size < 4 {
+        return false;
+    }
+    let end = address + size;
+    if 4294967296 < end {
+        return false;
+    }
+    end <= memory.len()
+}
+
+// The answer over a well-formed inventory with so many entries, of which the one due is searched from a place on.
+fn answer_counted(
+    area: &mut [u8],
+    inventory: &[u8],
+    request: Request,
+    count: usize,
+    from: usize,
+) -> Listed
+    requires { ⌜ (4 ≤ length (now area)) × (request .size ≡ length (now area)) × (wellFormed (now inventory) ≡ true) × (count ≡ length (entriesFor (now inventory) request)) × (1 ≤ numberIn request → numberIn request ≤ count → From (request .flag) (request .kind) (now inventory) (numberIn request - 1) from) ⌝ }
+    ensures { λ r. ⌜ (r .status ≡ listStatus (now (inventory .entry)) request) × (r .next .0 ≡ numberGiven (listStatus (now (inventory .entry)) request) (now (inventory .entry)) request) ⌝ }
+    ensures { λ _. ⌜ now (area .exit) ≡ listArea (now (inventory .entry)) request (now (area .entry)) ⌝ }
+{
+    let due = request.number;
+    let number = due.0 as usize;
+    if number < 1 {
+        return refused(request, Status::Parameter);
+    }
+    if count < number {
+        return refused(request, Status::Parameter);
+    }
+    let before = number - 1;
+    let handed = indices::write_run(
+        area,
+        inventory,
+        request.flag,
+        request.kind,
+        due,
+        from,
+        count - before,
+    );
+    if handed == 0 {
+        return refused(request, Status::Parameter);
+    }
+    let reached = before + handed;
+    if reached < count {
+        let next = (number + handed) as u32;
+        return Listed {
+            status: Status::Again,
+            next: StartingNumber(next),
+        };
+    }
+    Listed {
+        status: Status::Done,
+        next: StartingNumber(1),
+    }
+}
+
+// A call that gives this status and no number of its own.
+fn refused(request: Request, status: Status) -> Listed
+    ensures { λ r. ⌜ (r .status ≡ status) × (r .next ≡ request .number) ⌝ }
+{
+    let next = request.number;
+    Listed { status, next }
+}
+
+// The answer in its area: the inventory is judged first.
+fn answer_list(area: &mut [u8], inventory: &[u8], request: Request) -> Listed
+    requires { ⌜ (4 ≤ length (now area)) × (request .size ≡ length (now area)) ⌝ }
+    ensures { λ r. ⌜ (r .status ≡ listStatus (now (inventory .entry)) request) × (r .next .0 ≡ numberGiven (listStatus (now (inventory .entry)) request) (now (inventory .entry)) request) ⌝ }
+    ensures { λ _. ⌜ now (area .exit) ≡ listArea (now (inventory .entry)) request (now (area .entry)) ⌝ }
+{
+    let due = request.number;
+    let number = due.0 as usize;
+    let judgement = inventory::scan(inventory, request.flag, request.kind, number);
+    match judgement {
+        Judgement::Malformed => refused(request, Status::Malformed),
+        Judgement::Counted(count, from) => answer_counted(area, inventory, request, count, from),
+    }
+}
+
+// The call: only the given size from the given address is handed down to be written.
+pub fn get_indices(memory: &mut [u8], inventory: &[u8], request: Request) -> Listed
+    ensures { λ r. ⌜ (r .status ≡ indicesStatus (now (memory .entry)) (now (inventory .entry)) request) × (r .next .0 ≡ numberGiven (indicesStatus (now (memory .entry)) (now (inventory .entry)) request) (now (inventory .entry)) request) ⌝ }
+    ensures { λ _. ⌜ now (memory .exit) ≡ indicesMemory (now (memory .entry)) (now (inventory .entry)) request ⌝ }
+{
+    if !is_askable(request.flag, request.kind) {
+        return refused(request, Status::Parameter);
+    }
+    let at = request.address as usize;
+    let size = request.size as usize;
+    if !is_lendable(memory, at, size) {
+        return refused(request, Status::Parameter);
+    }
+    answer_list(&mut memory[at..at + size], inventory, request)
+}
