@@ -12,6 +12,11 @@ use Rattle.dump.specs.declared.registration.Verdict.the-variants.{Done, 
 use Rattle.dump.specs.declared.registration.Configured.{Configured}
 use Rattle.dump.specs.Structure.{goodStructure}
 
+abbrev pub isNone : Phase → Bool
+isNone Unregistered = true
+isNone Registered = false
+isNone Active = false
+
 abbrev pub isRegistered : Phase → Bool
 isRegistered Unregistered = false
 isRegistered Registered = true

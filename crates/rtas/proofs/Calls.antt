@@ -20,7 +20,7 @@ use Rattle.words.proofs.Choice.{choose, and-left, and-right}
 use Rattle.nodes.specs.Run.{remains}
 use Rattle.nodes.specs.Area.{written}
 use Rattle.rtas.specs.declared.status.Status.{Status}
-use Rattle.rtas.specs.declared.status.Status.the-variants.{Done, Again, Malformed, Parameter}
+use Rattle.rtas.specs.declared.status.Status.the-variants.{Done, Again, Malformed, Parameter, AlreadyRegistered, DumpActive}
 use Rattle.rtas.specs.Status.{isGiven, isAnswer, statusWord}
 use Rattle.rtas.specs.UpdateNodes.{areaAt, withArea, placed, reserved, goodState, areaStatus, areaAfter, nodesStatus, nodesMemory}
 use Rattle.rtas.specs.Buffer.{token, input, statusAt, numberFor, isNodes, Outcome, nodesOutcome, outcome, Result, callOf, answered}
@@ -106,6 +106,8 @@ word-fits Done = refl
 word-fits Again = refl
 word-fits Malformed = refl
 word-fits Parameter = refl
+word-fits AlreadyRegistered = refl
+word-fits DumpActive = refl
 
 -- the status word of an answer
 pub word-either : (t : Bool) → statusWord (cond t Again Done) ≡ cond t 1 0
@@ -162,7 +164,7 @@ module _ (b m j i : List ℕ) (r : Registration) where
   -- an answered call with its token has its counts
   nodes-only : token b ≡ 1 → isAnswer (outcome b m j i r .status) ≡ true → isNodes b ≡ true
   nodes-only n = outcome-ways b m j i r (λ (o : Outcome). isAnswer (o .status) ≡ true → isNodes b ≡ true)
-      (λ e _. e) (λ e _. absurd (omega (arith, n, asked 2 5 2 b e))) (λ h. absurd (false≢true h))
+      (λ e _. e) (λ e _. absurd (omega (arith, n, asked 2 5 2 b e))) (λ e _. absurd (omega (arith, n, asked 3 3 1 b e))) (λ h. absurd (false≢true h))
 
   pub answered-is : token b ≡ 1 → answered b called ≡ true → Answered
   unfolding nodesOutcome

@@ -17,12 +17,17 @@ use Rattle.rtas.specs.declared.status.Number.the-variants.{Given}
 use Rattle.rtas.specs.declared.status.Status.the-variants.{Done, Again, Malformed, Parameter}
 use Rattle.rtas.specs.Status.{isGiven, isAnswer, statusWord}
 use Rattle.rtas.specs.UpdateNodes.{areaAt, withArea, placed, reserved, goodState, areaStatus, areaAfter, nodesStatus, nodesMemory}
-use Rattle.rtas.specs.Buffer.{outputs, input, statusAt, numberFor, isNodes, isIndices, requestOf, Outcome, nodesOutcome, indicesOutcome, refusal, outcome, Result, callOf, answered}
+use Rattle.rtas.specs.Buffer.{outputs, input, statusAt, numberFor, isNodes, isIndices, isDump, requestOf, Outcome, nodesOutcome, indicesOutcome, dumpOutcome, refusal, outcome, Result, callOf, answered}
 use Rattle.rtas.specs.Demands.{among, inArea, Confined, Demand1}
 use Rattle.rtas.proofs.Areas.{placed-inside, state-within, nodes-checked}
 use Rattle.rtas.proofs.Calls.{decide, answered-by}
 use Rattle.rtas.proofs.Heads.{whole-buffer, asked, unchanged, carried-out, outcome-ways}
 use Rattle.rtas.proofs.Memory.{part-length, part-kept, part-before, part-behind, part-same, written-length}
+use lib.Dec.{eqb}
+use Rattle.dump.specs.declared.registration.Verdict.{Verdict}
+use Rattle.dump.specs.declared.registration.Verdict.the-variants as verdict
+use Rattle.dump.specs.Registration.{isDone, noRegistration, registered, structureAt, verdictOf, registrationAfter}
+use Rattle.rtas.specs.ConfigureDump.{verdictStatus, dumpStatus}
 use Rattle.rtas.specs.GetIndices.{indicesStatus, nextNumber}
 use Rattle.rtas.proofs.Places.{outside}
 use Rattle.rtas.proofs.Requests.{indices-refused, indices-outside, indices-length}
@@ -141,6 +146,29 @@ module _ (b m j i : List ℕ) (r : Registration) where
         size = indices-length m i q;
       }
 
+  -- a command that is refused keeps the registration
+  dump-kept : (command address len : ℕ) → isAnswer (dumpStatus m command address len r) ≡ false → registrationAfter m command address len r ≡ r
+  unfolding dumpStatus registrationAfter
+  dump-kept command address len h = go (verdictOf m command address len (r .phase)) h
+    where
+      go : (v : Verdict) → isAnswer (verdictStatus v) ≡ false → cond (isDone v) (cond (eqb command 1) (registered (structureAt m address len)) noRegistration) r ≡ r
+      go verdict.Done e = absurd (false≢true (sym e))
+      go verdict.Parameter e = refl
+      go verdict.AlreadyRegistered e = refl
+      go verdict.DumpActive e = refl
+
+  dump-proper : isDump b ≡ true → Proper b m r (dumpOutcome b m r)
+  unfolding dumpOutcome
+  dump-proper e =
+      record {
+        outputs-hold = omega (arith, asked 3 3 1 b e);
+        refused-more = λ _. refl;
+        refused-memory = λ _. refl;
+        refused-registration = dump-kept (input b 0) (input b 1) (input b 2);
+        beside = λ _ _. refl;
+        size = refl;
+      }
+
   refusal-proper : 0 < outputs b → Proper b m r (refusal m r)
   refusal-proper h =
       record { outputs-hold = h; refused-more = λ _. refl; refused-memory = λ _. refl; refused-registration = λ _. refl; beside = λ _ _. refl; size = refl }
@@ -149,7 +177,7 @@ module _ (b m j i : List ℕ) (r : Registration) where
   o = outcome b m j i r
 
   proper : 0 < outputs b → Proper b m r o
-  proper h = outcome-ways b m j i r (Proper b m r) nodes-proper indices-proper (refusal-proper h)
+  proper h = outcome-ways b m j i r (Proper b m r) nodes-proper indices-proper dump-proper (refusal-proper h)
 
   -- ---- the call
 

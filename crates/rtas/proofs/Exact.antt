@@ -25,6 +25,7 @@ use Rattle.rtas.specs.GetIndices.{askable, lendable, entriesFor, numberI
 use Rattle.rtas.specs.Demands.{ExactNodes, ExactIndices, Demand2}
 use Rattle.rtas.proofs.Areas.{state-within}
 use Rattle.rtas.proofs.Calls.{Passed, passed-is, nodes-memory}
+use Rattle.rtas.proofs.ExactDump.{exact-dump}
 use Rattle.rtas.proofs.Memory.{part-length, part-stored, written-length}
 use Rattle.rtas.proofs.Requests as requests
 
@@ -123,4 +124,4 @@ module _ (m i : List ℕ) (q : Request) where
       }
 
 pub demand2 : Demand2
-demand2 = (exact-nodes, exact-indices)
+demand2 = record { nodes = exact-nodes; indices-listed = exact-indices; dump = exact-dump }

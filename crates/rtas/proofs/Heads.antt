@@ -19,8 +19,10 @@ use Rattle.rtas.specs.declared.status.Status.{Status}
 use Rattle.rtas.specs.declared.status.Status.the-variants.{Parameter}
 use Rattle.rtas.specs.Status.{isGiven, isAnswer, statusWord}
 use Rattle.rtas.specs.UpdateNodes.{nodesStatus, nodesMemory}
+use Rattle.dump.specs.Registration.{registrationAfter}
+use Rattle.rtas.specs.ConfigureDump.{dumpStatus}
 use Rattle.rtas.specs.GetIndices.{indicesStatus, indicesMemory, nextNumber}
-use Rattle.rtas.specs.Buffer.{token, inputs, outputs, input, requestOf, isNodes, isIndices, Outcome, nodesOutcome, indicesOutcome, refusal, statusAt, numberFor, asks, outcome, callOf}
+use Rattle.rtas.specs.Buffer.{token, inputs, outputs, input, requestOf, isNodes, isIndices, isDump, Outcome, nodesOutcome, indicesOutcome, dumpOutcome, refusal, statusAt, numberFor, asks, outcome, callOf}
 
 pub record Whole (b : List ℕ) : Type 0 where
   pub few-inputs : inputs b ≤ 16
@@ -91,9 +93,10 @@ module _ (b m j i : List ℕ) (r : Registration) where
 
   -- ---- a call's own work, by its token
 
-  pub outcome-ways : (P : Outcome → Type 0) → (isNodes b ≡ true → P (nodesOutcome b m j r)) → (isIndices b ≡ true → P (indicesOutcome b m i r)) → P (refusal m r) → P (outcome b m j i r)
+  pub outcome-ways : (P : Outcome → Type 0) → (isNodes b ≡ true → P (nodesOutcome b m j r)) → (isIndices b ≡ true → P (indicesOutcome b m i r))
+      → (isDump b ≡ true → P (dumpOutcome b m r)) → P (refusal m r) → P (outcome b m j i r)
   unfolding outcome
-  outcome-ways P f g h = choose (isNodes b) P f (λ _. choose (isIndices b) P g (λ _. h))
+  outcome-ways P f g d h = choose (isNodes b) P f (λ _. choose (isIndices b) P g (λ _. choose (isDump b) P d (λ _. h)))
 
   pub nodes-outcome : isNodes b ≡ true → outcome b m j i r ≡ nodesOutcome b m j r
   unfolding outcome
@@ -103,26 +106,39 @@ module _ (b m j i : List ℕ) (r : Registration) where
   unfolding outcome
   indices-outcome e = let other = asks-else 2 1 2 1 b (asked 2 5 2 b e .0) refl in rw (other, e)
 
+  pub dump-outcome : isDump b ≡ true → outcome b m j i r ≡ dumpOutcome b m r
+  unfolding outcome
+  dump-outcome e =
+      let token-is = asked 3 3 1 b e .0 in
+      let nodes-not = asks-else 3 1 2 1 b token-is refl in
+      let indices-not = asks-else 3 2 5 2 b token-is refl in
+      rw (nodes-not, indices-not, e)
+
   -- ---- what a call's own work leaves, way by way through the code
 
-  pub record Worked (s : Status) (args memory : List ℕ) : Type 0 where
+  pub record Worked (s : Status) (next : Registration) (args memory : List ℕ) : Type 0 where
     pub status-is : s ≡ outcome b m j i r .status
-    pub registration-is : r ≡ outcome b m j i r .registration
+    pub registration-is : next ≡ outcome b m j i r .registration
     pub args-are : args ≡ sets b (statusAt b + 4) (wordBytes (outcome b m j i r .more))
     pub memory-is : memory ≡ outcome b m j i r .memory
 
-  pub worked-nodes : (s : Status) (memory : List ℕ) → isNodes b ≡ true → s ≡ nodesStatus m (input b 0) (input b 1) j → memory ≡ nodesMemory m (input b 0) (input b 1) j → Worked s b memory
+  pub worked-nodes : (s : Status) (memory : List ℕ) → isNodes b ≡ true → s ≡ nodesStatus m (input b 0) (input b 1) j → memory ≡ nodesMemory m (input b 0) (input b 1) j → Worked s r b memory
   unfolding nodesOutcome wordBytes
   worked-nodes s memory e f g = let o = nodes-outcome e in record { status-is = rw o f; registration-is = rw o; args-are = rw o; memory-is = rw o g }
 
   pub worked-indices : (s : Status) (args memory : List ℕ) → isIndices b ≡ true → s ≡ indicesStatus m i (requestOf b)
-      → args ≡ sets b 36 (wordBytes (cond (isAnswer (indicesStatus m i (requestOf b))) (nextNumber i (requestOf b) ∷ []) [])) → memory ≡ indicesMemory m i (requestOf b) → Worked s args memory
+      → args ≡ sets b 36 (wordBytes (cond (isAnswer (indicesStatus m i (requestOf b))) (nextNumber i (requestOf b) ∷ []) [])) → memory ≡ indicesMemory m i (requestOf b) → Worked s r args memory
   unfolding indicesOutcome
   worked-indices s args memory e f g h =
       let o = indices-outcome e in
       let place : statusAt b + 4 ≡ 36 = omega (arith, asked 2 5 2 b e) in
       record { status-is = rw o f; registration-is = rw o; args-are = rw (o, place) g; memory-is = rw o h }
 
-  pub worked-none : isNodes b ≡ false → isIndices b ≡ false → Worked Parameter b m
+  pub worked-dump : (s : Status) (next : Registration) → isDump b ≡ true → s ≡ dumpStatus m (input b 0) (input b 1) (input b 2) r
+      → next ≡ registrationAfter m (input b 0) (input b 1) (input b 2) r → Worked s next b m
+  unfolding dumpOutcome wordBytes
+  worked-dump s next e f g = let o = dump-outcome e in record { status-is = rw o f; registration-is = rw o g; args-are = rw o; memory-is = rw o }
+
+  pub worked-none : isNodes b ≡ false → isIndices b ≡ false → isDump b ≡ false → Worked Parameter r b m
   unfolding outcome wordBytes
-  worked-none e f = record { status-is = rw (e, f); registration-is = rw (e, f); args-are = rw (e, f); memory-is = rw (e, f) }
+  worked-none e f g = record { status-is = rw (e, f, g); registration-is = rw (e, f, g); args-are = rw (e, f, g); memory-is = rw (e, f, g) }

@@ -43,7 +43,7 @@ module _ (b m j i : List ℕ) (r : Registration) where
   -- an answered call with its token has its counts
   indices-only : token b ≡ 2 → isAnswer (outcome b m j i r .status) ≡ true → isIndices b ≡ true
   indices-only n = outcome-ways b m j i r (λ (o : Outcome). isAnswer (o .status) ≡ true → isIndices b ≡ true)
-      (λ e _. absurd (omega (arith, n, asked 1 2 1 b e))) (λ e _. e) (λ h. absurd (false≢true h))
+      (λ e _. absurd (omega (arith, n, asked 1 2 1 b e))) (λ e _. e) (λ e _. absurd (omega (arith, n, asked 3 3 1 b e))) (λ h. absurd (false≢true h))
 
   module _ (given : isGiven (numberFor b) ≡ true) (own : isIndices b ≡ true) where
     work : outcome b m j i r ≡ indicesOutcome b m i r

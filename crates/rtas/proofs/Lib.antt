@@ -7,6 +7,7 @@ pub mod Requests
 pub mod Lists
 pub mod IndicesCalls
 pub mod Sessions
+pub mod ExactDump
 pub mod Exact
 pub mod ListSessions
 pub mod Confined

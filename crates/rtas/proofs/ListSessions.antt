@@ -110,7 +110,7 @@ module _ (i : List ℕ) (flag kind : ℕ) (bytes : Bytes i) (formed : wellFormed
       area-reads : reading (areaThen i c) ≡ read handed-run
       area-reads =
           ap (λ (m : List ℕ). reading (partAt m (input (c .args) 2) size)) (left .memory)
-          ∙ demand2 .1 (c .memory) i q .reads-back bytes (indices-answers (c .memory) i q (left .passed))
+          ∙ demand2 .indices-listed (c .memory) i q .reads-back bytes (indices-answers (c .memory) i q (left .passed))
           ∙ ap read run-is
 
       handed-then : readings (st .areas ++ (areaThen i c ∷ [])) ≡ read (take (k + length handed-run) es)

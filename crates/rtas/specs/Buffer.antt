@@ -14,6 +14,8 @@ use Rattle.rtas.specs.declared.status.Status.the-variants.{Parameter}
 use Rattle.rtas.specs.declared.indices_call.Request.{Request}
 use Rattle.rtas.specs.Status.{isGiven, isAnswer, statusWord}
 use Rattle.rtas.specs.UpdateNodes.{nodesStatus, nodesMemory}
+use Rattle.dump.specs.Registration.{registrationAfter}
+use Rattle.rtas.specs.ConfigureDump.{dumpStatus}
 use Rattle.rtas.specs.GetIndices.{indicesStatus, indicesMemory, nextNumber}
 
 -- 01: "Token, number of inputs, number of outputs, the inputs, the outputs; the first output is the status."
@@ -58,6 +60,9 @@ isNodes b = asks 1 2 1 b
 abbrev pub isIndices : List ℕ → Bool
 isIndices b = asks 2 5 2 b
 
+abbrev pub isDump : List ℕ → Bool
+isDump b = asks 3 3 1 b
+
 -- 01, update-nodes: "Inputs: address, scope. One output."
 unfoldable pub nodesOutcome : List ℕ → List ℕ → List ℕ → Registration → Outcome
 nodesOutcome b m j r = record { status = nodesStatus m (input b 0) (input b 1) j; more = []; memory = nodesMemory m (input b 0) (input b 1) j; registration = r }
@@ -71,16 +76,22 @@ indicesOutcome b m i r =
     let q = requestOf b in
     record { status = indicesStatus m i q; more = cond (isAnswer (indicesStatus m i q)) (nextNumber i q ∷ []) []; memory = indicesMemory m i q; registration = r }
 
+-- 01, configure-kernel-dump: "Inputs: command, address, length."
+unfoldable pub dumpOutcome : List ℕ → List ℕ → Registration → Outcome
+dumpOutcome b m r =
+    record { status = dumpStatus m (input b 0) (input b 1) (input b 2) r; more = []; memory = m; registration = registrationAfter m (input b 0) (input b 1) (input b 2) r }
+
 -- a call that is refused for its token, counts or parameters
 abbrev pub refusal : List ℕ → Registration → Outcome
 refusal m r = record { status = Parameter; more = []; memory = m; registration = r }
 
--- 01: "Tokens here: 1 update-nodes, 2 get-indices", "an unknown token or counts unlike the call's own give status -3". Further tokens are added here.
+-- 01: "Tokens here: 1 update-nodes, 2 get-indices, 3 configure-kernel-dump.", "an unknown token or counts unlike the call's own give status -3". Further tokens are added here.
 unfoldable pub outcome : List ℕ → List ℕ → List ℕ → List ℕ → Registration → Outcome
 outcome b m j i r =
     cond (isNodes b) (nodesOutcome b m j r)
     (cond (isIndices b) (indicesOutcome b m i r)
-    (refusal m r))
+    (cond (isDump b) (dumpOutcome b m r)
+    (refusal m r)))
 
 -- What a call leaves: its number, the argument buffer, memory, and the registration.
 pub record Result : Type 0 where

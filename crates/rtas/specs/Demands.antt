@@ -3,7 +3,7 @@ use Prim.Native.Nat.{ℕ, _+_, _*_, _-_, _≤_, _<_}
 use mathlib.Core.Path.{_≡_}
 use mathlib.Core.Bool.{Bool, true, false, _&&_, _||_, not}
 use mathlib.Core.List.{List}
-use lib.Dec.{leb, ltb}
+use lib.Dec.{leb, ltb, eqb}
 use lib.ListN.{length, take, drop, getD}
 use Rattle.words.specs.Numbers.{Bytes, be32}
 use Rattle.dump.specs.declared.registration.Registration.{Registration}
@@ -16,7 +16,9 @@ use Rattle.inventory.specs.Inventory as inventory
 use Rattle.inventory.specs.Listing.{listed}
 use Rattle.indices.specs.Reading as indices
 use Rattle.rtas.specs.declared.indices_call.Request.{Request}
-use Rattle.rtas.specs.Status.{isGiven, isAnswer, isDone, isMalformed}
+use Rattle.dump.specs.Registration.{isNone, isRegistered, isActive, noRegistration, registered, structureAt, acceptable, registrationAfter}
+use Rattle.rtas.specs.Status.{isGiven, isAnswer, isDone, isMalformed, statusWord}
+use Rattle.rtas.specs.ConfigureDump.{dumpStatus}
 use Rattle.rtas.specs.Lent.{partAt}
 use Rattle.rtas.specs.UpdateNodes.{areaAt, placed, reserved, goodState, nodesStatus, nodesMemory}
 use Rattle.rtas.specs.GetIndices.{askable, lendable, entriesFor, numberIn, runFor, goodNumber, dueFits, moreEntries, indicesStatus, indicesMemory}
@@ -73,8 +75,26 @@ pub record ExactIndices (m i : List ℕ) (q : Request) : Type 0 where
   pub some : isAnswer (indicesStatus m i q) ≡ true → 1 ≤ length (runFor i q)
   pub reads-back : Bytes i → isAnswer (indicesStatus m i q) ≡ true → indices.reading (partAt (indicesMemory m i q) (q .address) (q .size)) ≡ indices.read (runFor i q)
 
-abbrev pub Demand2 : Type 0
-Demand2 = ((m : List ℕ) (address scope : ℕ) (j : List ℕ) → ExactNodes m address scope j) × ((m i : List ℕ) (q : Request) → ExactIndices m i q)
+-- the status of a kernel dump command is a word
+abbrev pub gives : ℕ → List ℕ → ℕ → ℕ → ℕ → Registration → Bool
+gives word m command address len r = eqb (statusWord (dumpStatus m command address len r)) word
+
+-- 0, -9 and -10 exactly then; -3 in every other case; the copy is the structure's bytes, and a refused command hands back what came
+pub record ExactDump (m : List ℕ) (command address len : ℕ) (r : Registration) : Type 0 where
+  pub done : gives 0 m command address len r
+      ≡ ((eqb command 1 && (isNone (r .phase) && acceptable m address len)) || ((eqb command 2 && isRegistered (r .phase)) || (eqb command 3 && isActive (r .phase))))
+  pub already-registered : gives 4294967287 m command address len r ≡ (eqb command 1 && isRegistered (r .phase))
+  pub dump-active : gives 4294967286 m command address len r ≡ ((eqb command 1 || eqb command 2) && isActive (r .phase))
+  pub otherwise : gives 4294967293 m command address len r
+      ≡ not (gives 0 m command address len r || (gives 4294967287 m command address len r || gives 4294967286 m command address len r))
+  pub registers : gives 0 m command address len r ≡ true → command ≡ 1 → registrationAfter m command address len r ≡ registered (structureAt m address len)
+  pub ends : gives 0 m command address len r ≡ true → (command ≡ 1 → ⊥) → registrationAfter m command address len r ≡ noRegistration
+  pub keeps : gives 0 m command address len r ≡ false → registrationAfter m command address len r ≡ r
+
+pub record Demand2 : Type 0 where
+  pub nodes : (m : List ℕ) (address scope : ℕ) (j : List ℕ) → ExactNodes m address scope j
+  pub indices-listed : (m i : List ℕ) (q : Request) → ExactIndices m i q
+  pub dump : (m : List ℕ) (command address len : ℕ) (r : Registration) → ExactDump m command address len r
 
 -- ---- demand 3: "After every such list the answered calls' areas, read by document 01's rules, hold, in order, exactly the first k of that
 -- document's reportable list for the journal and scope, deletions first, each once."

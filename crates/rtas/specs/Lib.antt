@@ -2,6 +2,7 @@ pub mod Status
 pub mod Lent
 pub mod UpdateNodes
 pub mod GetIndices
+pub mod ConfigureDump
 pub mod Buffer
 pub mod Session
 pub mod ListSession

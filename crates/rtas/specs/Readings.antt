@@ -7,14 +7,19 @@ use lib.ListN.{length, replicate}
 use Rattle.words.specs.Numbers.{be32, beBytes}
 use Rattle.journal.specs.Claims.{short, long}
 use Rattle.nodes.specs.Reading.{Reading, read, refused, reading}
+use Rattle.dump.specs.declared.registration.Phase.{Phase}
+use Rattle.dump.specs.declared.registration.Phase.the-variants.{Unregistered, Registered, Active}
+use Rattle.dump.specs.declared.registration.Registration.{Registration}
+use Rattle.dump.specs.Claims.{from, bare, asked}
 use Rattle.inventory.specs.Claims.{entry, bytes}
 use Rattle.indices.specs.Reading as indices
 use Rattle.rtas.specs.declared.indices_call.Request.{Request}
 use Rattle.rtas.specs.declared.status.Status.{Status}
-use Rattle.rtas.specs.declared.status.Status.the-variants.{Done, Again, Malformed, Parameter}
+use Rattle.rtas.specs.declared.status.Status.the-variants.{Done, Again, Malformed, Parameter, AlreadyRegistered, DumpActive}
 use Rattle.rtas.specs.Status.{isAnswer, statusWord}
 use Rattle.rtas.specs.Lent.{partAt}
 use Rattle.rtas.specs.UpdateNodes.{areaAt, nodesStatus, nodesMemory}
+use Rattle.rtas.specs.ConfigureDump.{dumpStatus}
 use Rattle.rtas.specs.GetIndices.{indicesStatus, indicesMemory, nextNumber}
 
 -- ---- update-nodes
@@ -158,6 +163,61 @@ indicesAgrees c =
     eqb (statusWord (indicesStatus m i q)) (statusWord (c .status))
     && (lists (c .status) (c .handed) (indices.reading (partAt (indicesMemory m i q) (c .address) (c .size))) && (not (isAnswer (c .status)) || eqb (nextNumber i q) (c .next)))
 
+-- ---- configure-kernel-dump
+
+-- a phase, memory that begins with a structure, the command, address and length; the status
+pub record DumpCase : Type 0 where
+  pub phase : Phase
+  pub memory : List ℕ
+  pub command : ℕ
+  pub address : ℕ
+  pub length : ℕ
+  pub status : Status
+
+abbrev pub command : Phase → ℕ → Status → DumpCase
+command p c s = record { phase = p; memory = from 40 (bare 1 40) (asked 1); command = c; address = 0; length = 80; status = s }
+
+abbrev pub register : List ℕ → ℕ → ℕ → Status → DumpCase
+register m a n s = record { phase = Unregistered; memory = m; command = 1; address = a; length = n; status = s }
+
+abbrev pub dumpCases : List DumpCase
+dumpCases =
+    -- "Ten sections at offset 112, length 512, no disk: good. At 113: -3."
+    register (from 112 (bare 10 112) (times 10 (asked 1))) 0 512 Done
+    ∷ register (from 113 (bare 10 113) (times 10 (asked 1))) 0 512 Parameter
+    -- "length 40 to 512, inside memory"
+    ∷ register (from 40 (bare 1 40) (asked 1)) 0 80 Done
+    ∷ register (from 40 (bare 1 40) (asked 1)) 0 79 Parameter
+    ∷ register (from 40 (bare 1 40) (asked 1)) 0 81 Parameter
+    ∷ register (from 40 (bare 1 40) (asked 1)) 1 80 Parameter
+    ∷ register (7 ∷ from 40 (bare 1 40) (asked 1)) 1 80 Done
+    ∷ register (from 40 (bare 1 40) (asked 1)) 4294967295 80 Parameter
+    ∷ register (from 40 (bare 1 40) (asked 1)) 0 39 Parameter
+    ∷ register (from 40 (bare 1 40) (asked 1) ++ replicate 433 0) 0 512 Done
+    ∷ register (from 40 (bare 1 40) (asked 1) ++ replicate 433 0) 0 513 Parameter
+    -- "command 1 to 3 (-3); active and command 1 or 2 (-10); registered and command 1 (-9); command 2 when not registered, or 3 when not active (-3)"
+    ∷ command Unregistered 0 Parameter
+    ∷ command Unregistered 1 Done
+    ∷ command Unregistered 2 Parameter
+    ∷ command Unregistered 3 Parameter
+    ∷ command Unregistered 4 Parameter
+    ∷ command Registered 0 Parameter
+    ∷ command Registered 1 AlreadyRegistered
+    ∷ command Registered 2 Done
+    ∷ command Registered 3 Parameter
+    ∷ command Registered 4 Parameter
+    ∷ command Active 0 Parameter
+    ∷ command Active 1 DumpActive
+    ∷ command Active 2 DumpActive
+    ∷ command Active 3 Done
+    ∷ command Active 4 Parameter
+    ∷ []
+
+abbrev pub dumpAgrees : DumpCase → Bool
+dumpAgrees c =
+    let r : Registration = record { phase = c .phase; len = 0; copy = [] } in
+    eqb (statusWord (dumpStatus (c .memory) (c .command) (c .address) (c .length) r)) (statusWord (c .status))
+
 -- ---- the table
 
 abbrev pub all : {A : Type 0} → (A → Bool) → List A → Bool
@@ -165,4 +225,4 @@ all test [] = true
 all test (c ∷ cs) = test c && all test cs
 
 abbrev pub Readings : Type 0
-Readings = T (all nodesAgrees nodesCases && all indicesAgrees (indicesCases ++ typeCases))
+Readings = T (all nodesAgrees nodesCases && (all indicesAgrees (indicesCases ++ typeCases) && all dumpAgrees dumpCases))

@@ -12,11 +12,13 @@ ghost use Rattle.rtas.specs.Buffer.{statusAt, numberFor, asks, requestOf
 ghost use Rattle.rtas.specs.Cases.{BothSides, AddressLimit};
 ghost use Rattle.rtas.specs.Demands.{Demand1, Demand2, Demand3, WholeList};
 ghost use Rattle.rtas.specs.Readings.{Readings};
+use crate::dump_call::configure_kernel_dump;
 use crate::indices_call::Request;
 use crate::indices_call::get_indices;
 use crate::nodes_call::update_nodes;
 use crate::status::Number;
 use crate::status::Status;
+use crate::status::Work;
 use crate::status::status_word;
 use dump::Registration;
 use indices::StartingNumber;
@@ -92,12 +94,6 @@ fn list_indices(args: &mut [u8], memory: &mut [u8], inventory: &[u8]) -> Status
     status
 }
 
-// What a call's own work gives: its status, and the registration afterwards.
-pub struct Work {
-    pub status: Status,
-    pub registration: Registration,
-}
-
 // The work of a call whose number is 0, and its outputs after the status. Every token is found here.
 fn dispatch(
     args: &mut [u8],
@@ -126,6 +122,12 @@ fn dispatch(
             status,
             registration,
         };
+    }
+    if asks_for(&*args, 3, 3, 1) {
+        let command = words::read_be32(args, 12);
+        let address = words::read_be32(args, 16);
+        let len = words::read_be32(args, 20);
+        return configure_kernel_dump(&*memory, registration, command, address, len);
     }
     Work {
         status: Status::Parameter,

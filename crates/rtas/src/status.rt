@@ -1,6 +1,7 @@
 // Numbers and statuses.
 ghost use mathlib.Core.Path.{_≡_};
 ghost use Rattle.rtas.specs.Status.{statusWord};
+use dump::Registration;
 
 // What the head of an argument buffer gives: a status is in the buffer, or why none is.
 pub enum Number {
@@ -15,6 +16,14 @@ pub enum Status {
     Again,
     Malformed,
     Parameter,
+    AlreadyRegistered,
+    DumpActive,
+}
+
+// What a call's own work gives: its status, and the registration afterwards.
+pub struct Work {
+    pub status: Status,
+    pub registration: Registration,
 }
 
 // A status as its word in the argument buffer.
@@ -26,5 +35,7 @@ pub fn status_word(status: Status) -> u32
         Status::Again => 1,
         Status::Malformed => 4294967295,
         Status::Parameter => 4294967293,
+        Status::AlreadyRegistered => 4294967287,
+        Status::DumpActive => 4294967286,
     }
 }

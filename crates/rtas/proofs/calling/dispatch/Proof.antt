@@ -6,8 +6,8 @@ use native.Mathlib.Omega.{arith}
 use lib.ListN.{length}
 use borrow.Author.Needs.{needs}
 use denote.Ref.{now}
-use Rattle.rtas.proofs.Heads.{Whole, whole-buffer, asked, Worked, worked-nodes, worked-indices, worked-none}
-use Rattle.rtas.specs.Buffer.{isNodes, isIndices}
+use Rattle.rtas.proofs.Heads.{Whole, whole-buffer, asked, Worked, worked-nodes, worked-indices, worked-dump, worked-none}
+use Rattle.rtas.specs.Buffer.{isNodes, isIndices, isDump}
 use Rattle.rtas.specs.Status.{isGiven}
 use Rattle.rtas.proofs.calling.dispatch.Statement.{statement}
 use Rattle.rtas.proofs.calling.dispatch.Tie as tie
@@ -45,7 +45,7 @@ same-length-2 c = search needs
 returns : tie.Need-returns
 returns c =
     let told = rw (c .before .before .before .before .before .before .read-be32 .ensures, c .before .before .before .before .read-be322 .ensures) at (c .before .before .update-nodes .ensures) in
-    let w : Worked _ _ _ _ _ _ _ _ = worked-nodes _ _ _ (now (c .before .before .before .before .before .before .before .before .before .before .before .before .before .before .before .args .inventory)) (c .before .before .before .before .before .before .before .before .before .before .before .before .before .before .before .args .registration) _ _ (nodes-yes (c .before .before .before .before .before .before .before)) (told .0) (told .1) in
+    let w : Worked _ _ _ _ _ _ _ _ _ = worked-nodes _ _ _ (now (c .before .before .before .before .before .before .before .before .before .before .before .before .before .before .before .args .inventory)) (c .before .before .before .before .before .before .before .before .before .before .before .before .before .before .before .args .registration) _ _ (nodes-yes (c .before .before .before .before .before .before .before)) (told .0) (told .1) in
     ((w .status-is, w .registration-is), (w .args-are, w .memory-is))
 
 -- ---- get-indices
@@ -68,17 +68,53 @@ same-length-4 c = search needs
 returns-2 : tie.Need-returns-2
 returns-2 c =
     let told = c .before .before .before .before .list-indices .ensures in
-    let w : Worked _ _ _ _ _ _ _ _ = worked-indices _ _ (now (c .before .before .before .before .before .before .before .before .before .before .before .before .before .before .before .before .before .args .journal)) _ (c .before .before .before .before .before .before .before .before .before .before .before .before .before .before .before .before .before .args .registration) _ _ _ (indices-yes (c .before .before .before .before .before)) (told .0) (told .1 .0) (told .1 .1) in
+    let w : Worked _ _ _ _ _ _ _ _ _ = worked-indices _ _ (now (c .before .before .before .before .before .before .before .before .before .before .before .before .before .before .before .before .before .args .journal)) _ (c .before .before .before .before .before .before .before .before .before .before .before .before .before .before .before .before .before .args .registration) _ _ _ (indices-yes (c .before .before .before .before .before)) (told .0) (told .1 .0) (told .1 .1) in
     ((w .status-is, w .registration-is), (w .args-are, w .memory-is))
 
--- ---- any other
+-- ---- configure-kernel-dump
+
+asks-for-requires-3 : tie.Need-asks-for-requires-3
+asks-for-requires-3 c κs = omega (arith, whole (c .before .before .before .before .before .before .before .before .before .before .before) .size)
+
+dump-yes : (c : tie.After-read-be32-arg3) → isDump (now (c .before .before .before .before .before .before .before .before .before .before .before .before .before .before .args .args)) ≡ true
+dump-yes c = sym (c .before .before .asks-for3 .ensures) ∙ c .before .if3 .taken
+
+-- three inputs are inside
+three-inside : (c : tie.After-read-be32-arg3) → 28 ≤ length (now (c .before .before .before .before .before .before .before .before .before .before .before .before .before .before .args .args))
+three-inside c = omega (arith, whole (c .before .before .before .before .before .before .before .before .before .before .before .before .before .before) .size, asked 3 3 1 (now (c .before .before .before .before .before .before .before .before .before .before .before .before .before .before .args .args)) (dump-yes c))
+
+read-be32-requires-3 : tie.Need-read-be32-requires-3
+read-be32-requires-3 c κs = omega (arith, three-inside c)
+
+read-be32-requires-4 : tie.Need-read-be32-requires-4
+read-be32-requires-4 c κs = omega (arith, three-inside (c .before .before))
+
+read-be32-requires-5 : tie.Need-read-be32-requires-5
+read-be32-requires-5 c κs = omega (arith, three-inside (c .before .before .before .before))
+
+configure-kernel-dump-requires : tie.Need-configure-kernel-dump-requires
+configure-kernel-dump-requires c κs = search needs
 
 same-length-5 : tie.Need-same-length-5
 same-length-5 c = search needs
 
+same-length-6 : tie.Need-same-length-6
+same-length-6 c = search needs
+
 returns-3 : tie.Need-returns-3
 returns-3 c =
-    let none : Worked _ _ _ _ _ _ _ _ = worked-none (now (c .before .before .before .before .before .before .before .before .before .before .args .args)) (now (c .before .before .before .before .before .before .before .before .before .before .args .memory)) (now (c .before .before .before .before .before .before .before .before .before .before .args .journal)) (now (c .before .before .before .before .before .before .before .before .before .before .args .inventory)) (c .before .before .before .before .before .before .before .before .before .before .args .registration) (sym (c .before .before .before .before .asks-for .ensures) ∙ c .before .before .before .if1 .left) (sym (c .before .asks-for2 .ensures) ∙ c .if2 .left) in
+    let told = rw (c .before .before .before .before .before .before .read-be323 .ensures, c .before .before .before .before .read-be324 .ensures, c .before .before .read-be325 .ensures) at (c .configure-kernel-dump .ensures) in
+    let w : Worked _ _ _ _ _ _ _ _ _ = worked-dump _ (now (c .before .before .before .before .before .before .before .before .before .before .before .before .before .before .before .before .before .before .before .before .before .args .memory)) (now (c .before .before .before .before .before .before .before .before .before .before .before .before .before .before .before .before .before .before .before .before .before .args .journal)) (now (c .before .before .before .before .before .before .before .before .before .before .before .before .before .before .before .before .before .before .before .before .before .args .inventory)) (c .before .before .before .before .before .before .before .before .before .before .before .before .before .before .before .before .before .before .before .before .before .args .registration) _ _ (dump-yes (c .before .before .before .before .before .before .before)) (told .0) (told .1) in
+    ((w .status-is, w .registration-is), (w .args-are, w .memory-is))
+
+-- ---- any other
+
+same-length-7 : tie.Need-same-length-7
+same-length-7 c = search needs
+
+returns-4 : tie.Need-returns-4
+returns-4 c =
+    let none : Worked _ _ _ _ _ _ _ _ _ = worked-none (now (c .before .before .before .before .before .before .before .before .before .before .before .before .before .args .args)) (now (c .before .before .before .before .before .before .before .before .before .before .before .before .before .args .memory)) (now (c .before .before .before .before .before .before .before .before .before .before .before .before .before .args .journal)) (now (c .before .before .before .before .before .before .before .before .before .before .before .before .before .args .inventory)) (c .before .before .before .before .before .before .before .before .before .before .before .before .before .args .registration) (sym (c .before .before .before .before .before .before .before .asks-for .ensures) ∙ c .before .before .before .before .before .before .if1 .left) (sym (c .before .before .before .before .asks-for2 .ensures) ∙ c .before .before .before .if2 .left) (sym (c .before .asks-for3 .ensures) ∙ c .if3 .left) in
     ((none .status-is, none .registration-is), (none .args-are, none .memory-is))
 
 pub dispatch-spec : {M : Type 1} → statement M
@@ -97,5 +133,13 @@ dispatch-spec =
     same-length-3
     same-length-4
     returns-2
+    asks-for-requires-3
+    read-be32-requires-3
+    read-be32-requires-4
+    read-be32-requires-5
+    configure-kernel-dump-requires
     same-length-5
-    returns-3)
+    same-length-6
+    returns-3
+    same-length-7
+    returns-4)

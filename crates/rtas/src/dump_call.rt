@@ -1,0 +1,38 @@
+// configure-kernel-dump on partition memory, which is only read.
+ghost use mathlib.Core.Path.{_≡_};
+ghost use Rattle.dump.specs.Registration.{registrationAfter};
+ghost use Rattle.rtas.specs.ConfigureDump.{verdictStatus, dumpStatus};
+use crate::status::Status;
+use crate::status::Work;
+use dump::Registration;
+use dump::Verdict;
+
+fn verdict_status(verdict: Verdict) -> Status
+    ensures { λ r. ⌜ r ≡ verdictStatus verdict ⌝ }
+{
+    match verdict {
+        Verdict::Done => Status::Done,
+        Verdict::Parameter => Status::Parameter,
+        Verdict::AlreadyRegistered => Status::AlreadyRegistered,
+        Verdict::DumpActive => Status::DumpActive,
+    }
+}
+
+// The call: the registration is the one thing that it changes.
+pub fn configure_kernel_dump(
+    memory: &[u8],
+    registration: Registration,
+    command: u32,
+    address: u32,
+    len: u32,
+) -> Work
+    ensures { λ r. ⌜ (r .status ≡ dumpStatus (now (memory .entry)) command address len registration) × (r .registration ≡ registrationAfter (now (memory .entry)) command address len registration) ⌝ }
+{
+    let configured = registration.configure(memory, command, address, len);
+    let verdict = configured.verdict;
+    let next = configured.next;
+    Work {
+        status: verdict_status(verdict),
+        registration: next,
+    }
+}
