@@ -1,4 +1,4 @@
--- What the judgement of a journal tells of its reportable list, as a number.
+-- What the judgement of a journal tells of its reportable list, and that of an inventory of its entries, as a number.
 use mathlib.Core.Path.{_≡_, refl, ap, _∙_}
 use mathlib.Core.Bool.{Bool, true, false, cond}
 use mathlib.Core.List.{List, _++_}
@@ -9,6 +9,11 @@ use Rattle.journal.specs.declared.scanning.Judgement.{Judgement}
 use Rattle.journal.specs.declared.scanning.Judgement.the-variants.{Malformed, Counted}
 use Rattle.journal.specs.Journal.{entries, wellFormed}
 use Rattle.journal.specs.Reportable.{chosen, reportable, countsOf, judgementOf}
+use Rattle.inventory.specs.declared.scanning.Judgement as inventory-judgement
+use Rattle.inventory.specs.declared.scanning.Judgement.the-variants as inventory-variants
+use Rattle.inventory.specs.Inventory as inventory
+use Rattle.inventory.specs.Scanning.{Tells}
+use Rattle.bench.specs.Bench.{listedOf}
 use Rattle.words.proofs.Choice.{choose}
 use Rattle.journal.proofs.Entries.{operations-few}
 use Rattle.journal.proofs.Walks.{within-limit}
@@ -45,3 +50,14 @@ module _ (row j : List ℕ) where
 
     pub light-of : Light g
     light-of = rw is light
+
+-- ---- the judgement of an inventory as a number
+
+module _ (flag kind number : ℕ) (i : List ℕ) (g : inventory-judgement.Judgement) (told : Tells flag kind number i g) where
+  pub none-listed : g ≡ inventory-variants.Malformed → 18446744073709551615 ≡ listedOf flag kind i
+  unfolding listedOf
+  none-listed e = let t : inventory.wellFormed i ≡ false = rw e at told in rw t
+
+  pub some-listed : (count due : ℕ) → g ≡ inventory-variants.Counted count due → count ≡ listedOf flag kind i
+  unfolding listedOf
+  some-listed count due e = let t : Tells flag kind number i (inventory-variants.Counted count due) = rw e at told in rw (t .0) (t .1)

@@ -1,12 +1,18 @@
--- What the measured function answers.
+-- What the measured functions answer.
 use Prim.Native.Nat.{ℕ}
 use mathlib.Core.Bool.{cond}
 use mathlib.Core.List.{List}
 use lib.ListN.{length}
 use Rattle.journal.specs.Journal.{wellFormed}
+use Rattle.inventory.specs.Inventory as inventory
+use Rattle.inventory.specs.Listing.{listed}
 use Rattle.journal.specs.Scope.{rowOf}
 use Rattle.journal.specs.Reportable.{reportable}
 
 -- the length of the reportable list, or the highest number for a malformed journal
 unfoldable pub reportedOf : ℕ → List ℕ → ℕ
 reportedOf scope j = cond (wellFormed j) (length (reportable (rowOf scope) j)) 18446744073709551615
+
+-- the number of entries of a flag and type, or the highest number for a malformed inventory
+unfoldable pub listedOf : ℕ → ℕ → List ℕ → ℕ
+listedOf flag kind i = cond (inventory.wellFormed i) (length (listed flag kind i)) 18446744073709551615
