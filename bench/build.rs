@@ -1,4 +1,4 @@
-//! Links the proved scan, which `rt staticlib bench` writes at the repository's root.
+//! Links the proved scans, which `rt staticlib bench` writes at the repository's root.
 
 fn main() {
     let root = concat!(env!("CARGO_MANIFEST_DIR"), "/../target/staticlib");

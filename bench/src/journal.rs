@@ -1,23 +1,9 @@
 //! The journals that are measured.
 
+use crate::random::Xorshift;
+
 /// The largest journal, in bytes.
 pub const LIMIT: usize = 1_048_576;
-
-/// A small generator of its own, so that every run measures the same bytes.
-struct Xorshift(u64);
-
-impl Xorshift {
-    fn next(&mut self) -> u64 {
-        self.0 ^= self.0 << 13;
-        self.0 ^= self.0 >> 7;
-        self.0 ^= self.0 << 17;
-        self.0
-    }
-
-    fn below(&mut self, n: u64) -> u16 {
-        ((self.next() >> 32) % n) as u16
-    }
-}
 
 fn push(journal: &mut Vec<u8>, kind: u16, node: u16, operands: u64) {
     let length: u16 = if kind == 3 { 12 } else { 8 };
@@ -44,7 +30,7 @@ fn fillable(bytes: usize) -> bool {
 /// Records of random kinds and node types that fill `size` bytes exactly.
 pub fn mixed(size: usize) -> Vec<u8> {
     assert!(fillable(size));
-    let mut random = Xorshift(0x9e37_79b9_7f4a_7c15);
+    let mut random = Xorshift::new();
     let mut journal = Vec::new();
     while journal.len() < size {
         let kind = 1 + random.below(3);

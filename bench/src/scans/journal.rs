@@ -1,9 +1,7 @@
-//! What is measured: ways to go over a journal. Each takes the journal and a scope, and answers a number.
+//! The scans of a journal: how many operations a scope reports.
 
+use super::{le16, MALFORMED};
 use crate::journal::LIMIT;
-
-/// The answer for a malformed journal.
-pub const MALFORMED: u64 = u64::MAX;
 
 /// The sets that a scope reports, by node type: negative scopes, scope 1, scope 2. Delete is 1, update 2, add 4.
 const ROWS: [[u8; 15]; 3] = [
@@ -19,30 +17,6 @@ fn row(scope: u32) -> [u8; 15] {
         2 => ROWS[2],
         _ => [0; 15],
     }
-}
-
-/// Taken as a part of two bytes, this compiles to one load; byte by byte it is two, and every scan by it slower.
-fn le16(journal: &[u8], at: usize) -> u16 {
-    u16::from_le_bytes(journal[at..at + 2].try_into().unwrap())
-}
-
-/// Steps from record to record by their lengths alone, and counts them.
-pub fn stepping(journal: &[u8], _scope: u32) -> u64 {
-    let mut at = 0;
-    let mut records = 0;
-    while at + 1 < journal.len() {
-        at += 2 + usize::from(le16(journal, at));
-        records += 1;
-    }
-    records
-}
-
-/// Reads every byte: the sum of the journal's whole words.
-pub fn streaming(journal: &[u8], _scope: u32) -> u64 {
-    let words = journal
-        .chunks_exact(8)
-        .map(|word| u64::from_le_bytes(word.try_into().unwrap()));
-    words.fold(0, u64::wrapping_add)
 }
 
 /// Judges every record and counts the deletes, updates and additions that the row reports.
