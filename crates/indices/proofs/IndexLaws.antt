@@ -1,16 +1,16 @@
 -- Laws of reading an index work area.
 use mathlib.Core.Path.{_≡_, refl, sym, ap, _∙_}
-use mathlib.Core.Bool.{Bool, true, false, cond, not}
+use mathlib.Core.Bool.{Bool, true, false, cond, not, or-true}
 use mathlib.Core.List.{List, [], _∷_}
 use Prim.Native.Nat.{ℕ, zero, suc, _+_, _-_, _<_, _≤_, min}
-use native.Mathlib.Nat.{zero-add, add-zero, add-assoc}
-use native.Mathlib.Numerals.{add-one}
+use native.Mathlib.Nat.{zero-add, add-assoc}
 use native.Mathlib.Omega.{arith}
-use lib.Dec.{leb, ltb, eqb}
-use lib.ListN.{length, take, drop, getD, length-take, length-drop}
-use lib.Seq.{take-length, take-nil, drop-nil, take-take, drop-drop, slice, slice-cons, slice-empty, length-slice}
+use lib.Dec.{leb, ltb, eqb, eqb·suc-zero}
+use lib.ListN.{length, take, drop, length-take, length-drop}
+use lib.Seq.{take-length, take-nil, drop-nil, take-take, drop-drop, slice, length-slice}
 use borrow.Author.Tests.{eq-eqb, ne-eqb, ltb-false, lt-ltb, le-ltb, le-leb, lt-leb}
 use Rattle.words.specs.Numbers.{be32, zeros}
+use Rattle.words.specs.Nul.{untilNul}
 use Rattle.inventory.specs.Listing.{Entry}
 use Rattle.indices.specs.declared.reading.Refusal.{Refusal}
 use Rattle.indices.specs.declared.reading.Refusal.the-variants.{Short, Past, Length, Code}
@@ -18,71 +18,60 @@ use Rattle.indices.specs.declared.reading.Fault.{Fault}
 use Rattle.indices.specs.declared.reading.Fault.the-variants.{Fine, Bad}
 use Rattle.indices.specs.declared.reading.Check.{Check}
 use Rattle.indices.specs.declared.reading.Check.the-variants.{Entries, Refused}
-use Rattle.indices.specs.Reading.{lengthAt, fieldAt, codeIn, goodLength, goodField, faultAt, entryAt, Reading, read, refused, withEntry, judgedBy, readFrom, reading, checkOf}
-use Rattle.indices.specs.Cursor.{entriesFrom, remaining, EntriesInOrder}
+use Rattle.indices.specs.Reading.{lengthAt, fieldAt, goodLength, goodField, faultAt, entryAt, Reading, read, refused, withEntry, judgedBy, readFrom, reading, checkOf}
+use Rattle.indices.specs.declared.reading.Cursor.{Cursor}
+use Rattle.indices.specs.declared.reading.Next.the-variants.{Found, End}
+use Rattle.indices.specs.Cursor.{entriesFrom, remaining, Gives, nextOf, StepsGive, EntriesInOrder}
 
 -- ---- the code of a field
 
-module _ (s : List ℕ) (i to : ℕ) (more : i < to) (fits : to ≤ length s) where
-  pub code-next : (getD s i 0 ≡ 0 → ⊥) → i + length (codeIn (slice i to s)) ≡ i + 1 + length (codeIn (slice (i + 1) to s))
-  unfolding codeIn
-  code-next h = rw (add-one i, slice-cons i to s 0 more fits, ne-eqb (getD s i 0) 0 h) (omega arith)
-
-  pub code-here : getD s i 0 ≡ 0 → i + length (codeIn (slice i to s)) ≡ i
-  unfolding codeIn
-  code-here h = rw (slice-cons i to s 0 more fits, eq-eqb (getD s i 0) 0 h, add-zero i)
-
-pub code-none : (s : List ℕ) (i to : ℕ) → i ≡ to → i + length (codeIn (slice i to s)) ≡ to
-unfolding codeIn
-code-none s i to e = rw (e, slice-empty to s, add-zero to)
-
 -- a code is the front of its field
-code-short : (f : List ℕ) → length (codeIn f) ≤ length f
-unfolding codeIn
+code-short : (f : List ℕ) → length (untilNul f) ≤ length f
+unfolding untilNul
 code-short [] = omega arith
 code-short (b ∷ bs) = go (eqb b 0) (code-short bs)
   where
-    go : (t : Bool) → length (codeIn bs) ≤ length bs → length (cond t [] (b ∷ codeIn bs)) ≤ suc (length bs)
+    go : (t : Bool) → length (untilNul bs) ≤ length bs → length (cond t [] (b ∷ untilNul bs)) ≤ suc (length bs)
     go true h = omega arith
     go false h = omega arith
 
-code-front : (f : List ℕ) → codeIn f ≡ take (length (codeIn f)) f
-unfolding codeIn
+code-front : (f : List ℕ) → untilNul f ≡ take (length (untilNul f)) f
+unfolding untilNul
 code-front [] = refl
 code-front (b ∷ bs) = go (eqb b 0) (code-front bs)
   where
-    go : (t : Bool) → codeIn bs ≡ take (length (codeIn bs)) bs → cond t [] (b ∷ codeIn bs) ≡ take (length (cond t [] (b ∷ codeIn bs))) (b ∷ bs)
+    go : (t : Bool) → untilNul bs ≡ take (length (untilNul bs)) bs → cond t [] (b ∷ untilNul bs) ≡ take (length (cond t [] (b ∷ untilNul bs))) (b ∷ bs)
     go true e = refl
     go false e = ap (λ (l : List ℕ). b ∷ l) e
 
 -- the judgement on a field whose code ends at a place
-module _ (s : List ℕ) (from to end : ℕ) (fits : (from ≤ to) × (to ≤ length s)) (found : end ≡ from + length (codeIn (slice from to s))) where
+module _ (s : List ℕ) (from to end : ℕ) (fits : (from ≤ to) × (to ≤ length s)) (found : end ≡ from + length (untilNul (slice from to s))) where
   size : length (slice from to s) ≡ to - from
   size = length-slice from to s (fits .1)
 
   pub field-empty : end ≤ from → false ≡ goodField (slice from to s)
   unfolding goodField
-  field-empty h = rw (lt-leb 1 (length (codeIn (slice from to s))) (omega arith))
+  field-empty h = rw (lt-leb 1 (length (untilNul (slice from to s))) (omega arith))
 
   module _ (some : from < end) where
-    non-empty : leb 1 (length (codeIn (slice from to s))) ≡ true
-    non-empty = le-leb 1 (length (codeIn (slice from to s))) (omega arith)
+    non-empty : leb 1 (length (untilNul (slice from to s))) ≡ true
+    non-empty = le-leb 1 (length (untilNul (slice from to s))) (omega arith)
 
     pub field-open : to ≤ end → false ≡ goodField (slice from to s)
     unfolding goodField
-    field-open h = rw (non-empty, size, lt-leb (length (codeIn (slice from to s)) + 1) (to - from) (omega arith))
+    field-open h = rw (non-empty, size, lt-leb (length (untilNul (slice from to s)) + 1) (to - from) (omega arith))
 
     module _ (ended : end < to) where
-      one-nul : leb (length (codeIn (slice from to s)) + 1) (to - from) ≡ true
-      one-nul = le-leb (length (codeIn (slice from to s)) + 1) (to - from) (omega arith)
+      one-nul : leb (length (untilNul (slice from to s)) + 1) (to - from) ≡ true
+      one-nul = le-leb (length (untilNul (slice from to s)) + 1) (to - from) (omega arith)
 
       pub field-long : end + 4 < to → false ≡ goodField (slice from to s)
       unfolding goodField
-      field-long h = rw (non-empty, size, one-nul, lt-leb (to - from) (length (codeIn (slice from to s)) + 4) (omega arith))
+      field-long h = rw (non-empty, size, one-nul, lt-leb (to - from) (length (untilNul (slice from to s)) + 4) (omega arith))
 
       pub field-zeros : to ≤ end + 4 → zeros (slice end to s) ≡ goodField (slice from to s)
       unfolding goodField
-      field-zeros h = rw (non-empty, size, one-nul, le-leb (to - from) (length (codeIn (slice from to s)) + 4) (omega arith), drop-drop (length (codeIn (slice from to s))) from (take to s), ← found)
+      field-zeros h = rw (non-empty, size, one-nul, le-leb (to - from) (length (untilNul (slice from to s)) + 4) (omega arith), drop-drop (length (untilNul (slice from to s))) from (take to s), ← found)
 
 -- ---- the field of a set
 
@@ -107,12 +96,12 @@ field-there area at n k e m =
     rw (part (at + 8) k area, ← e, there) (sym (take-min n (drop (at + 8) area)))
 
 -- the code of a set as a part of the area
-code-part : (area : List ℕ) (at : ℕ) → codeIn (fieldAt area at) ≡ take (length (codeIn (fieldAt area at))) (drop (at + 8) area)
+pub code-part : (area : List ℕ) (at : ℕ) → untilNul (fieldAt area at) ≡ take (length (untilNul (fieldAt area at))) (drop (at + 8) area)
 unfolding fieldAt
 code-part area at =
     let n = lengthAt area at in
     let l = drop (at + 8) area in
-    code-front (take n l) ∙ take-take (length (codeIn (take n l))) n l (omega (arith, code-short (take n l), length-take n l))
+    code-front (take n l) ∙ take-take (length (untilNul (take n l))) n l (omega (arith, code-short (take n l), length-take n l))
 
 -- ---- the check of an area from a place on
 
@@ -190,26 +179,40 @@ module _ (area : List ℕ) (count at passed : ℕ) (s : Stands area count at pas
           finds = rw (s .finds, ahead, e, less, ← l, ← add-assoc at 8 n) (counted-more passed (entryAt area at) (readFrom (count - (passed + 1)) area (at + 8 + n)));
         }
 
--- ---- the entries from a place on
+-- ---- the step of a cursor
 
-pub entries-short : (n : ℕ) (area : List ℕ) (at : ℕ) → length area - at < 8 → entriesFrom n area at ≡ []
-unfolding entriesFrom
-entries-short zero area at h = refl
-entries-short (suc n) area at h = rw (lt-ltb (length area - at) 8 h)
+module _ (area : List ℕ) (c : Cursor) where
+  pub next-none : c .left ≡ 0 → End ≡ nextOf area c
+  unfolding nextOf
+  next-none h = rw (eq-eqb (c .left) 0 h)
 
-entries-next : (n : ℕ) (area : List ℕ) (at : ℕ) → 0 < n → 8 ≤ length area - at → entriesFrom n area at ≡ entryAt area at ∷ entriesFrom (n - 1) area (at + (8 + lengthAt area at))
-unfolding entriesFrom
-entries-next zero area at l h = absurd (omega arith)
-entries-next (suc n) area at l h = rw (one-less n, le-ltb (length area - at) 8 h)
+  pub next-short : length area - c .at < 8 → End ≡ nextOf area c
+  unfolding nextOf
+  next-short h = rw (lt-ltb (length area - c .at) 8 h, or-true (eqb (c .left) 0))
 
--- the first of them, by where its code stands
-pub entries-step : (left : ℕ) (area : List ℕ) (at n k end : ℕ) → 0 < left → 8 ≤ length area - at → n ≡ be32 area (at + 4) → k ≡ min n (length area - at - 8)
-    → end ≡ at + 8 + length (codeIn (slice (at + 8) (at + 8 + k) area))
-    → entriesFrom left area at ≡ record { index = be32 area at; code = take (end - (at + 8)) (drop (at + 8) area) } ∷ entriesFrom (left - 1) area (at + (8 + n))
-unfolding lengthAt
-entries-step left area at n k end some room size there e =
-    let long : end - (at + 8) ≡ length (codeIn (slice (at + 8) (at + 8 + k) area)) = omega arith in
-    rw (entries-next left area at some room, long, field-there area at n k size there, ← code-part area at, size)
+  -- the code's way: the code ends at the first NUL of as much of the field as there is
+  pub next-found : (n k end : ℕ) → (c .left ≡ 0 → ⊥) → 8 ≤ length area - c .at → n ≡ be32 area (c .at + 4) → k ≡ min n (length area - c .at - 8)
+      → end ≡ c .at + 8 + length (untilNul (slice (c .at + 8) (c .at + 8 + k) area))
+      → Found (record { index = be32 area (c .at); start = c .at + 8; length = end - (c .at + 8) }) (record { at = c .at + (8 + n); left = c .left - 1 }) ≡ nextOf area c
+  unfolding nextOf lengthAt
+  next-found n k end some room size there e =
+      let long : end - (c .at + 8) ≡ length (untilNul (slice (c .at + 8) (c .at + 8 + k) area)) = omega arith in
+      rw (ne-eqb (c .left) 0 some, le-ltb (length area - c .at) 8 room, long, field-there area (c .at) n k size there, size)
+
+-- a step gives the first of the entries before a cursor
+step-gives : (area : List ℕ) (at left : ℕ) → Gives area (entriesFrom left area at) (nextOf area (record { at = at; left = left }))
+unfolding nextOf remaining entriesFrom
+step-gives area at zero = refl
+step-gives area at (suc n) = rw (eqb·suc-zero n) (go (ltb (length area - at) 8))
+  where
+    go : (t : Bool) → Gives area (cond t [] (entryAt area at ∷ entriesFrom n area (at + (8 + lengthAt area at))))
+        (cond t End (Found (record { index = be32 area at; start = at + 8; length = length (untilNul (fieldAt area at)) }) (record { at = at + (8 + lengthAt area at); left = suc n - 1 })))
+    go true = refl
+    go false = rw (one-less n, ← code-part area at)
+
+pub steps-give : StepsGive
+unfolding remaining
+steps-give area c = step-gives area (c .at) (c .left)
 
 -- ---- the entries of a reading, in order
 

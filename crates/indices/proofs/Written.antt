@@ -10,6 +10,7 @@ use lib.ListN.{length, take, drop, replicate, length-append, length-replicate, l
 use lib.Seq.{drop-at, take-at, drop-drop}
 use borrow.Author.Tests.{le-leb, le-ltb, leb-true, eq-eqb}
 use Rattle.words.specs.Numbers.{Bytes, be, be32, beBytes, zeros}
+use Rattle.words.specs.Nul.{untilNul}
 use Rattle.words.proofs.Choice.{choose, and-left, and-right}
 use Rattle.words.proofs.Numbers.{be-drop, be-bytes, length-beBytes, le-below}
 use Rattle.records.specs.Records.{kindOf, whole, recordsFrom, records, allGood, wellFormedBy}
@@ -18,7 +19,7 @@ use Rattle.inventory.specs.Inventory.{flagOf, indexOf, nonZero, goodCode, goodR
 use Rattle.inventory.specs.Listing.{Entry, entryOf, matches, chosen, listed}
 use Rattle.indices.specs.declared.reading.Fault.the-variants.{Fine}
 use Rattle.indices.specs.Area.{filled, entrySize, codeField, entryBytes, entriesBytes, fitting, run, answer, written}
-use Rattle.indices.specs.Reading.{lengthAt, fieldAt, codeIn, goodLength, goodField, faultAt, entryAt, read, readFrom, reading}
+use Rattle.indices.specs.Reading.{lengthAt, fieldAt, goodLength, goodField, faultAt, entryAt, read, readFrom, reading}
 use Rattle.indices.specs.Claims.{Sound, RoundTrip, ReadsBack, HoldsDue, Fits}
 
 -- ---- a word at a place of which it is known what stands there
@@ -38,13 +39,13 @@ unfolding zeros
 zeros-zero zero = refl
 zeros-zero (suc n) = zeros-zero n
 
-code-back : (code : List ℕ) (n : ℕ) → nonZero code ≡ true → 1 ≤ n → codeIn (code ++ replicate n 0) ≡ code
-unfolding codeIn nonZero
+code-back : (code : List ℕ) (n : ℕ) → nonZero code ≡ true → 1 ≤ n → untilNul (code ++ replicate n 0) ≡ code
+unfolding untilNul nonZero
 code-back [] zero h p = absurd (omega arith)
 code-back [] (suc n) h p = refl
 code-back (b ∷ bs) n h p = go (eqb b 0) (λ e. code-back bs n e p) h
   where
-    go : (t : Bool) → (nonZero bs ≡ true → codeIn (bs ++ replicate n 0) ≡ bs) → (not t && nonZero bs) ≡ true → cond t [] (b ∷ codeIn (bs ++ replicate n 0)) ≡ b ∷ bs
+    go : (t : Bool) → (nonZero bs ≡ true → untilNul (bs ++ replicate n 0) ≡ bs) → (not t && nonZero bs) ≡ true → cond t [] (b ∷ untilNul (bs ++ replicate n 0)) ≡ b ∷ bs
     go true rest e = cc
     go false rest e = ap (λ (l : List ℕ). b ∷ l) (rest e)
 
@@ -65,7 +66,7 @@ module _ (code : List ℕ) (good : goodCode code ≡ true) where
   unfolding codeField
   field-length = length-append code (replicate (filled (length code) - length code) 0) ∙ rw (length-replicate {A = ℕ} (filled (length code) - length code) 0) (omega arith)
 
-  field-code : codeIn (codeField code) ≡ code
+  field-code : untilNul (codeField code) ≡ code
   unfolding codeField
   field-code = code-back code (filled (length code) - length code) whole-code (omega arith)
 

@@ -1,17 +1,18 @@
 -- Reading the entries of an index work area one at a time.
 use mathlib.Core.Path.{_≡_}
-use mathlib.Core.Bool.{cond}
+use mathlib.Core.Bool.{cond, _||_}
 use mathlib.Core.List.{List, [], _∷_}
 use Prim.Native.Nat.{ℕ, zero, suc, _+_, _-_}
-use lib.Dec.{ltb}
+use lib.Dec.{ltb, eqb}
 use lib.ListN.{length, take, drop}
 use Rattle.inventory.specs.Listing.{Entry}
 use Rattle.words.specs.Numbers.{be32}
+use Rattle.words.specs.Nul.{untilNul}
 use Rattle.indices.specs.declared.reading.Cursor.{Cursor}
 use Rattle.indices.specs.declared.reading.Set.{Set}
 use Rattle.indices.specs.declared.reading.Next.{Next}
 use Rattle.indices.specs.declared.reading.Next.the-variants.{Found, End}
-use Rattle.indices.specs.Reading.{lengthAt, entryAt, read, reading}
+use Rattle.indices.specs.Reading.{lengthAt, fieldAt, entryAt, read, reading}
 
 -- the entries of n sets from a byte offset on, as far as there are eight bytes for each
 unfoldable pub entriesFrom : ℕ → List ℕ → ℕ → List Entry
@@ -32,6 +33,17 @@ entryIn area s = record { index = s .index; code = take (s .length) (drop (s .st
 abbrev pub Gives : List ℕ → List Entry → Next → Type 0
 Gives area es End = es ≡ []
 Gives area es (Found s c) = es ≡ entryIn area s ∷ remaining area c
+
+-- The step of a cursor: its next set and the cursor behind it, or the end where no set is left or fewer than eight bytes are.
+unfoldable pub nextOf : List ℕ → Cursor → Next
+nextOf area c =
+    let found = Found
+    (record { index = be32 area (c .at); start = c .at + 8; length = length (untilNul (fieldAt area (c .at))) })
+    (record { at = c .at + (8 + lengthAt area (c .at)); left = c .left - 1 }) in
+    cond (eqb (c .left) 0 || ltb (length area - c .at) 8) End found
+
+abbrev pub StepsGive : Type 0
+StepsGive = (area : List ℕ) (c : Cursor) → Gives area (remaining area c) (nextOf area c)
 
 -- before the first set; an area of under 4 bytes has none
 abbrev pub startOf : List ℕ → Cursor

@@ -5,6 +5,7 @@ use mathlib.Core.List.{List, [], _∷_}
 use lib.Dec.{leb, ltb, eqb}
 use lib.ListN.{length, take, drop}
 use Rattle.words.specs.Numbers.{be32, zeros}
+use Rattle.words.specs.Nul.{untilNul}
 use Rattle.inventory.specs.Listing.{Entry}
 use Rattle.indices.specs.declared.reading.Refusal.{Refusal}
 use Rattle.indices.specs.declared.reading.Refusal.the-variants.{Short, Past, Length, Code}
@@ -28,17 +29,13 @@ lengthAt area at = be32 area (at + 4)
 unfoldable pub fieldAt : List ℕ → ℕ → List ℕ
 fieldAt area at = take (lengthAt area at) (drop (at + 8) area)
 
--- 01: "The code's end is found by a search that stops at the first NUL."
-unfoldable pub codeIn : List ℕ → List ℕ
-codeIn [] = []
-codeIn (b ∷ bs) = cond (eqb b 0) [] (b ∷ codeIn bs)
-
 unfoldable pub goodLength : ℕ → Bool
 goodLength n = leb 1 n && (leb n 80 && eqb (n % 4) 0)
 
--- "a non-empty code followed by one to four NULs and nothing else"
+-- 01: "The code's end is found by a search that stops at the first NUL." A good field is
+-- "a non-empty code followed by one to four NULs and nothing else".
 unfoldable pub goodField : List ℕ → Bool
-goodField f = leb 1 (length (codeIn f)) && (leb (length (codeIn f) + 1) (length f) && (leb (length f) (length (codeIn f) + 4) && zeros (drop (length (codeIn f)) f)))
+goodField f = leb 1 (length (untilNul f)) && (leb (length (untilNul f) + 1) (length f) && (leb (length f) (length (untilNul f) + 4) && zeros (drop (length (untilNul f)) f)))
 
 -- the first fault of a set, in the paper's order
 unfoldable pub faultAt : List ℕ → ℕ → Fault
@@ -50,7 +47,7 @@ faultAt area at =
     Fine)))
 
 abbrev pub entryAt : List ℕ → ℕ → Entry
-entryAt area at = record { index = be32 area at; code = codeIn (fieldAt area at) }
+entryAt area at = record { index = be32 area at; code = untilNul (fieldAt area at) }
 
 -- What reading gives: the entries, or a refusal with its byte offset.
 pub data Reading : Type 0 where

@@ -1,10 +1,10 @@
 // Reading an index work area: a check of the whole, and a cursor that gives its entries one at a time.
 ghost use mathlib.Core.Path.{_≡_};
-ghost use Prim.Native.Nat.{_+_, _≤_, min};
+ghost use Prim.Native.Nat.{_≤_, min};
 ghost use lib.ListN.{length};
 ghost use lib.Seq.{slice};
-ghost use Rattle.indices.specs.Reading.{codeIn, goodLength, goodField, faultAt, reading, checkOf};
-ghost use Rattle.indices.specs.Cursor.{remaining, Gives, startOf, EntriesInOrder};
+ghost use Rattle.indices.specs.Reading.{goodLength, goodField, faultAt, reading, checkOf};
+ghost use Rattle.indices.specs.Cursor.{nextOf, StepsGive, startOf, EntriesInOrder};
 ghost use Rattle.indices.specs.Claims.{ReadingCases, AreaClaims};
 
 // Why an area is refused.
@@ -26,24 +26,6 @@ pub enum Check {
     Refused(Refusal, usize),
 }
 
-// The place of the first NUL from one place up to another, or the end.
-fn code_end(s: &[u8], from: usize, to: usize) -> usize
-    requires { ⌜ (from ≤ to) × (to ≤ length (now s)) ⌝ }
-    ensures { λ r. ⌜ r ≡ from + length (codeIn (slice from to (now (s .entry)))) ⌝ }
-{
-    let mut i = from;
-    let end = loop {
-        if to <= i {
-            break to;
-        }
-        if s[i] == 0 {
-            break i;
-        }
-        i += 1;
-    };
-    end
-}
-
 fn is_length(n: u32) -> bool
     ensures { λ r. ⌜ r ≡ goodLength n ⌝ }
 {
@@ -61,7 +43,7 @@ fn is_field(s: &[u8], from: usize, to: usize) -> bool
     requires { ⌜ (from ≤ to) × (to ≤ length (now s)) ⌝ }
     ensures { λ r. ⌜ r ≡ goodField (slice from to (now (s .entry))) ⌝ }
 {
-    let end = code_end(s, from, to);
+    let end = words::find_nul(s, from, to);
     if end <= from {
         return false;
     }
@@ -165,7 +147,8 @@ impl Cursor {
 
     // The next entry of an area. From the start, in an area that a check passes, the steps are its entries in order, then the end.
     pub fn next(self, area: &[u8]) -> Next
-        ensures { λ r. ⌜ Gives (now (area .entry)) (remaining (now (area .entry)) self) r ⌝ }
+        ensures { λ r. ⌜ r ≡ nextOf (now (area .entry)) self ⌝ }
+        ensures steps { λ _. ⌜ StepsGive ⌝ }
     {
         let at = self.at;
         let left = self.left;
@@ -181,7 +164,7 @@ impl Cursor {
         }
         let n = words::read_be32(area, at + 4) as usize;
         let start = at + 8;
-        let end = code_end(area, start, start + least(n, rest - 8));
+        let end = words::find_nul(area, start, start + least(n, rest - 8));
         Next::Found(
             Set {
                 index: words::read_be32(area, at),

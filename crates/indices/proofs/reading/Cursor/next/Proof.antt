@@ -2,25 +2,21 @@
 use native.Mathlib.Omega.{arith}
 use borrow.Author.Needs.{needs}
 use denote.Ref.{now}
-use Rattle.indices.proofs.IndexLaws.{entries-short, entries-step}
-use Rattle.indices.specs.Cursor.{remaining, entriesFrom}
+use Rattle.indices.proofs.IndexLaws.{next-none, next-short, next-found, steps-give}
 use Rattle.indices.proofs.reading.Cursor.next.Statement.{statement}
 use Rattle.indices.proofs.reading.Cursor.next.Tie as tie
 
 returns : tie.Need-returns
-unfolding remaining entriesFrom
-returns c = rw (c .if1 .taken)
+returns c = (next-none _ _ (c .if1 .taken), steps-give)
 
 returns-2 : tie.Need-returns-2
-unfolding remaining
-returns-2 c = entries-short _ _ _ (omega arith)
+returns-2 c = (next-short _ _ (omega arith), steps-give)
 
 sub-rest : tie.Need-sub-rest
 sub-rest c = search needs
 
 returns-3 : tie.Need-returns-3
-unfolding remaining
-returns-3 c = entries-short _ _ _ (c .if3 .taken)
+returns-3 c = (next-short _ _ (c .if3 .taken), steps-give)
 
 add-read-be32 : tie.Need-add-read-be32
 add-read-be32 c = search needs
@@ -37,11 +33,11 @@ add-start c = search needs
 least-requires : tie.Need-least-requires
 least-requires c κs = search needs
 
-add-code-end : tie.Need-add-code-end
-add-code-end c = search needs
+add-find-nul : tie.Need-add-find-nul
+add-find-nul c = search needs
 
-code-end-requires : tie.Need-code-end-requires
-code-end-requires c κs = search needs
+find-nul-requires : tie.Need-find-nul-requires
+find-nul-requires c κs = search needs
 
 read-be32-requires-2 : tie.Need-read-be32-requires-2
 read-be32-requires-2 c κs = search needs
@@ -59,8 +55,7 @@ sub-t15 : tie.Need-sub-t15
 sub-t15 c = search needs
 
 returns-4 : tie.Need-returns-4
-unfolding remaining
-returns-4 c = rw (c .read-be322 .ensures) (entries-step (c .before .before .before .before .before .before .before .before .args .self .left) (now (c .before .before .before .before .before .before .before .before .args .area)) (c .before .before .before .before .before .before .before .before .args .self .at) _ _ _ (search needs) (search needs) (c .before .before .before .read-be32 .ensures) (c .before .before .least .ensures) (c .before .code-end .ensures))
+returns-4 c = (rw (c .read-be322 .ensures) (next-found (now (c .before .before .before .before .before .before .before .before .args .area)) (c .before .before .before .before .before .before .before .before .args .self) _ _ _ (c .before .before .before .before .before .before .if1 .left) (c .before .before .before .before .if3 .left) (c .before .before .before .read-be32 .ensures) (c .before .before .least .ensures) (c .before .find-nul .ensures)), steps-give)
 
 pub next-spec : {M : Type 1} → statement M
 next-spec =
@@ -75,8 +70,8 @@ next-spec =
     cast-n
     add-start
     least-requires
-    add-code-end
-    code-end-requires
+    add-find-nul
+    find-nul-requires
     read-be32-requires-2
     sub-t13
     add-t12
