@@ -1,0 +1,3 @@
+pub mod Registrations
+pub mod NodeWords
+pub mod IndexWords

@@ -1,0 +1,66 @@
+-- Readings as they cross the C boundary: a refusal with its offset, or entries in a buffer that the caller lends.
+use Prim.Native.Nat.{ℕ, zero, suc, _+_, _/_, min}
+use mathlib.Core.Path.{_≡_}
+use mathlib.Core.List.{List, [], _∷_, _++_}
+use lib.ListN.{length, take, drop}
+use lib.Seq.{sets}
+use Rattle.words.specs.Numbers.{be32}
+use Rattle.words.specs.Nul.{untilNul}
+use Rattle.journal.specs.declared.operation.Operation.{Operation}
+use Rattle.journal.specs.declared.operation.Operation.the-variants.{Delete, Update, Add}
+use Rattle.nodes.specs.Reading as nodes
+use Rattle.inventory.specs.Listing.{Entry}
+use Rattle.indices.specs.Reading as indices
+use Rattle.draugsten.specs.declared.reading.NodeReading.{NodeReading}
+use Rattle.draugsten.specs.declared.reading.IndexReading.{IndexReading}
+
+-- ---- node areas
+
+-- an operation as three words: its opcode, its first operand, its second or 0
+abbrev pub operationWords : Operation → List ℕ
+operationWords (Delete p) = 1 ∷ p ∷ 0 ∷ []
+operationWords (Update p) = 2 ∷ p ∷ 0 ∷ []
+operationWords (Add p d) = 3 ∷ p ∷ d ∷ []
+
+unfoldable pub operationsWords : List Operation → List ℕ
+operationsWords [] = []
+operationsWords (o ∷ os) = operationWords o ++ operationsWords os
+
+-- the refusal's number and offset, or the state and the number of operations
+abbrev pub nodeReading : List ℕ → nodes.Reading → NodeReading
+nodeReading area (nodes.read os) = record { refusal = 0; state = be32 area 0; offset = 0; entries = length os }
+nodeReading area (nodes.refused r at) = record { refusal = nodes.refusalNumber r; state = 0; offset = at; entries = 0 }
+
+-- the buffer with as many whole operations as it has room for; a refusal leaves it as it was
+abbrev pub nodesOut : List ℕ → nodes.Reading → List ℕ
+nodesOut out (nodes.read os) = sets out 0 (operationsWords (take (length out / 3) os))
+nodesOut out (nodes.refused r at) = out
+
+-- ---- index areas
+
+-- a set at an offset as three words: its index, where its code stands, and the code's length
+abbrev pub setWords : List ℕ → ℕ → List ℕ
+setWords area at = be32 area at ∷ (at + 8) ∷ length (untilNul (indices.fieldAt area at)) ∷ []
+
+unfoldable pub setsWords : ℕ → List ℕ → ℕ → List ℕ
+setsWords zero area at = []
+setsWords (suc n) area at = setWords area at ++ setsWords n area (at + (8 + indices.lengthAt area at))
+
+abbrev pub indexReading : indices.Reading → IndexReading
+indexReading (indices.read es) = record { refusal = 0; offset = 0; entries = length es }
+indexReading (indices.refused r at) = record { refusal = indices.refusalNumber r; offset = at; entries = 0 }
+
+abbrev pub indicesOut : List ℕ → List ℕ → indices.Reading → List ℕ
+indicesOut out area (indices.read es) = sets out 0 (setsWords (min (length out / 3) (length es)) area 4)
+indicesOut out area (indices.refused r at) = out
+
+-- the entries that words tell of an area: an index, and a part of the area
+unfoldable pub entriesTold : List ℕ → List ℕ → List Entry
+entriesTold area [] = []
+entriesTold area (i ∷ []) = []
+entriesTold area (i ∷ s ∷ []) = []
+entriesTold area (i ∷ s ∷ n ∷ ws) = record { index = i; code = take n (drop s area) } ∷ entriesTold area ws
+
+-- The words of an area's sets tell the entries of its reading, in order.
+abbrev pub WordsTell : Type 0
+WordsTell = (area : List ℕ) (es : List Entry) → indices.reading area ≡ indices.read es → entriesTold area (setsWords (length es) area 4) ≡ es

@@ -1,0 +1,128 @@
+// The call and the registration over the C boundary.
+ghost use mathlib.Core.Path.{_≡_};
+ghost use Rattle.dump.specs.Registration.{noRegistration};
+ghost use Rattle.rtas.specs.Status.{numberOf};
+ghost use Rattle.draugsten.specs.Registration.{phaseNumber, phaseOf, flatOf, registrationOf, isRegistration, Faithful, numberAt, registrationThen, argsThen, memoryThen};
+use dump::Phase;
+use dump::Registration;
+use rtas::Number;
+
+// A registration: its phase (0 none, 1 registered, 2 active), and the copied structure, which is the first `length` bytes of `copy`.
+#[repr(C)]
+pub struct FlatRegistration {
+    pub phase: u32,
+    pub length: usize,
+    pub copy: [u8; 512],
+}
+
+// What a call answers: its number, and the registration afterwards.
+#[repr(C)]
+pub struct FlatAnswer {
+    pub number: u32,
+    pub registration: FlatRegistration,
+}
+
+fn phase_of(number: u32) -> Phase
+    ensures { λ r. ⌜ r ≡ phaseOf number ⌝ }
+{
+    if number == 0 {
+        return Phase::Unregistered;
+    }
+    if number == 1 {
+        return Phase::Registered;
+    }
+    Phase::Active
+}
+
+fn phase_number(phase: Phase) -> u32
+    ensures { λ r. ⌜ r ≡ phaseNumber phase ⌝ }
+{
+    match phase {
+        Phase::Unregistered => 0,
+        Phase::Registered => 1,
+        Phase::Active => 2,
+    }
+}
+
+fn number_of(number: Number) -> u32
+    ensures { λ r. ⌜ r ≡ numberOf number ⌝ }
+{
+    match number {
+        Number::Given => 0,
+        Number::Short => 10,
+        Number::NoOutputs => 11,
+        Number::TooMany => 12,
+    }
+}
+
+fn is_registration(flat: FlatRegistration) -> bool
+    ensures { λ r. ⌜ r ≡ isRegistration flat ⌝ }
+{
+    flat.phase <= 2 && flat.length <= 512
+}
+
+fn registration_of(flat: FlatRegistration) -> Registration
+    ensures { λ r. ⌜ r ≡ registrationOf flat ⌝ }
+{
+    let copy = flat.copy;
+    Registration {
+        phase: phase_of(flat.phase),
+        len: flat.length,
+        copy,
+    }
+}
+
+fn flat_of(registration: Registration) -> FlatRegistration
+    ensures { λ r. ⌜ r ≡ flatOf registration ⌝ }
+{
+    let phase = registration.phase;
+    let copy = registration.copy;
+    FlatRegistration {
+        phase: phase_number(phase),
+        length: registration.len,
+        copy,
+    }
+}
+
+// The registration that a partition starts with.
+#[no_mangle]
+pub extern "C" fn draugsten_no_registration() -> FlatRegistration
+    ensures { λ r. ⌜ r ≡ flatOf noRegistration ⌝ }
+{
+    flat_of(dump::no_registration())
+}
+
+// One call through the argument buffer. What is no registration gives 13, and nothing changes.
+#[no_mangle]
+pub extern "C" fn draugsten_call(
+    args: &mut [u8],
+    memory: &mut [u8],
+    journal: &[u8],
+    inventory: &[u8],
+    registration: FlatRegistration,
+) -> FlatAnswer
+    ensures { λ r. ⌜ (r .number ≡ numberAt (now (args .entry)) (now (memory .entry)) (now (journal .entry)) (now (inventory .entry)) registration) × (r .registration ≡ registrationThen (now (args .entry)) (now (memory .entry)) (now (journal .entry)) (now (inventory .entry)) registration) ⌝ }
+    ensures { λ _. ⌜ now (args .exit) ≡ argsThen (now (args .entry)) (now (memory .entry)) (now (journal .entry)) (now (inventory .entry)) registration ⌝ }
+    ensures { λ _. ⌜ now (memory .exit) ≡ memoryThen (now (args .entry)) (now (memory .entry)) (now (journal .entry)) (now (inventory .entry)) registration ⌝ }
+    ensures faithful { λ _. ⌜ Faithful ⌝ }
+{
+    if !is_registration(registration) {
+        return FlatAnswer {
+            number: 13,
+            registration,
+        };
+    }
+    let answer = rtas::call(
+        args,
+        memory,
+        journal,
+        inventory,
+        registration_of(registration),
+    );
+    let number = answer.number;
+    let next = answer.registration;
+    FlatAnswer {
+        number: number_of(number),
+        registration: flat_of(next),
+    }
+}

@@ -1,0 +1,3 @@
+// The static library: what C and Rust programs link. Every function takes any buffers.
+mod calling;
+mod reading;

@@ -1,0 +1,194 @@
+// The readers over the C boundary: all entries of an area, into a buffer that the caller lends.
+ghost use mathlib.Core.Path.{_≡_};
+ghost use mathlib.Core.List.{[], _∷_};
+ghost use Prim.Native.Nat.{_+_, _*_, _≤_, min};
+ghost use lib.ListN.{length, take};
+ghost use lib.Seq.{sets};
+ghost use Rattle.nodes.specs.Reading as nodes_reading;
+ghost use Rattle.nodes.specs.Cursor as nodes_cursor;
+ghost use Rattle.indices.specs.Reading as indices_reading;
+ghost use Rattle.indices.specs.Cursor as indices_cursor;
+ghost use Rattle.draugsten.specs.Readings.{operationWords, operationsWords, nodeReading, nodesOut, setsWords, indexReading, indicesOut, WordsTell};
+use journal::Operation;
+
+// What a reading of a node area tells: a refusal and its byte offset, or the state and the number of operations.
+#[repr(C)]
+pub struct NodeReading {
+    pub refusal: u32,
+    pub state: u32,
+    pub offset: usize,
+    pub entries: usize,
+}
+
+// What a reading of an index area tells: a refusal and its byte offset, or the number of entries.
+#[repr(C)]
+pub struct IndexReading {
+    pub refusal: u32,
+    pub offset: usize,
+    pub entries: usize,
+}
+
+fn least(a: usize, b: usize) -> usize
+    ensures { λ r. ⌜ r ≡ min a b ⌝ }
+{
+    if a < b {
+        return a;
+    }
+    b
+}
+
+// ---- node areas
+
+fn node_refusal(refusal: nodes::Refusal) -> u32
+    ensures { λ r. ⌜ r ≡ nodes_reading.refusalNumber refusal ⌝ }
+{
+    match refusal {
+        nodes::Refusal::Size => 20,
+        nodes::Refusal::Reserved => 21,
+        nodes::Refusal::Opcode => 22,
+        nodes::Refusal::Count => 23,
+        nodes::Refusal::Past => 24,
+        nodes::Refusal::Odd => 25,
+        nodes::Refusal::Order => 26,
+        nodes::Refusal::Unterminated => 27,
+    }
+}
+
+// Three words from a place on; every other word of the buffer stays.
+fn store_words(out: &mut [u32], to: usize, first: u32, second: u32, third: u32)
+    requires { ⌜ to + 3 ≤ length (now out) ⌝ }
+    ensures { λ _. ⌜ now (out .exit) ≡ sets (now (out .entry)) to (first ∷ second ∷ third ∷ []) ⌝ }
+{
+    out[to] = first;
+    out[to + 1] = second;
+    out[to + 2] = third;
+}
+
+fn store_operation(out: &mut [u32], to: usize, operation: Operation)
+    requires { ⌜ to + 3 ≤ length (now out) ⌝ }
+    ensures { λ _. ⌜ now (out .exit) ≡ sets (now (out .entry)) to (operationWords operation) ⌝ }
+{
+    match operation {
+        Operation::Delete(phandle) => store_words(out, to, 1, phandle, 0),
+        Operation::Update(phandle) => store_words(out, to, 2, phandle, 0),
+        Operation::Add(parent, index) => store_words(out, to, 3, parent, index),
+    }
+}
+
+// The first operations of an area, so many of them.
+fn store_operations(area: &[u8], out: &mut [u32], count: usize)
+    requires { ⌜ (3 * count ≤ length (now out)) × (count ≤ length (nodes_cursor.remaining (now area) nodes_cursor.startOf)) ⌝ }
+    ensures { λ _. ⌜ now (out .exit) ≡ sets (now (out .entry)) 0 (operationsWords (take count (nodes_cursor.remaining (now (area .entry)) nodes_cursor.startOf))) ⌝ }
+{
+    let mut cursor = nodes::Cursor::start();
+    let mut i: usize = 0;
+    while i < count {
+        let step = cursor.next(area);
+        match step {
+            nodes::Next::End => {
+                return;
+            }
+            nodes::Next::Entry(operation, behind) => {
+                store_operation(out, 3 * i, operation);
+                cursor = behind;
+                i += 1;
+            }
+        }
+    }
+}
+
+// Reads a node area: the operations into `out`, three words for each, as many as it has room for.
+#[no_mangle]
+pub extern "C" fn draugsten_read_nodes(area: &[u8], out: &mut [u32]) -> NodeReading
+    ensures { λ r. ⌜ r ≡ nodeReading (now (area .entry)) (nodes_reading.reading (now (area .entry))) ⌝ }
+    ensures { λ _. ⌜ now (out .exit) ≡ nodesOut (now (out .entry)) (nodes_reading.reading (now (area .entry))) ⌝ }
+{
+    let found = nodes::check_area(area);
+    match found {
+        nodes::Check::Refused(refusal, offset) => NodeReading {
+            refusal: node_refusal(refusal),
+            state: 0,
+            offset,
+            entries: 0,
+        },
+        nodes::Check::Entries(entries) => {
+            store_operations(area, out, least(entries, out.len() / 3));
+            NodeReading {
+                refusal: 0,
+                state: words::read_be32(area, 0),
+                offset: 0,
+                entries,
+            }
+        }
+    }
+}
+
+// ---- index areas
+
+fn index_refusal(refusal: indices::Refusal) -> u32
+    ensures { λ r. ⌜ r ≡ indices_reading.refusalNumber refusal ⌝ }
+{
+    match refusal {
+        indices::Refusal::Short => 30,
+        indices::Refusal::Past => 31,
+        indices::Refusal::Length => 32,
+        indices::Refusal::Code => 33,
+    }
+}
+
+// A set's three words from a place on; every other word of the buffer stays.
+fn store_set(out: &mut [u64], to: usize, set: indices::Set)
+    requires { ⌜ to + 3 ≤ length (now out) ⌝ }
+    ensures { λ _. ⌜ now (out .exit) ≡ sets (now (out .entry)) to (set .index ∷ set .start ∷ set .length ∷ []) ⌝ }
+{
+    out[to] = set.index as u64;
+    out[to + 1] = set.start as u64;
+    out[to + 2] = set.length as u64;
+}
+
+// The first sets of an area, so many of them.
+fn store_sets(area: &[u8], out: &mut [u64], count: usize)
+    requires { ⌜ (3 * count ≤ length (now out)) × (count ≤ length (indices_cursor.remaining (now area) (indices_cursor.startOf (now area)))) ⌝ }
+    ensures { λ _. ⌜ now (out .exit) ≡ sets (now (out .entry)) 0 (setsWords count (now (area .entry)) 4) ⌝ }
+{
+    let mut cursor = indices::Cursor::start(area);
+    let mut i: usize = 0;
+    while i < count {
+        let step = cursor.next(area);
+        match step {
+            indices::Next::End => {
+                return;
+            }
+            indices::Next::Found(set, behind) => {
+                store_set(out, 3 * i, set);
+                cursor = behind;
+                i += 1;
+            }
+        }
+    }
+}
+
+// Reads an index area: the entries into `out`, three numbers for each, as many as it has room for.
+#[no_mangle]
+pub extern "C" fn draugsten_read_indices(area: &[u8], out: &mut [u64]) -> IndexReading
+    ensures { λ r. ⌜ r ≡ indexReading (indices_reading.reading (now (area .entry))) ⌝ }
+    ensures { λ _. ⌜ now (out .exit) ≡ indicesOut (now (out .entry)) (now (area .entry)) (indices_reading.reading (now (area .entry))) ⌝ }
+    ensures entries { λ _. ⌜ WordsTell ⌝ }
+{
+    let found = indices::check_area(area);
+    match found {
+        indices::Check::Refused(refusal, offset) => IndexReading {
+            refusal: index_refusal(refusal),
+            offset,
+            entries: 0,
+        },
+        indices::Check::Entries(entries) => {
+            store_sets(area, out, least(entries, out.len() / 3));
+            IndexReading {
+                refusal: 0,
+                offset: 0,
+                entries,
+            }
+        }
+    }
+}
