@@ -1,0 +1,16 @@
+//! Links the library under test from ../target/staticlib.
+
+use std::env;
+use std::path::PathBuf;
+
+fn main() {
+    println!("cargo:rerun-if-changed=build.rs");
+    if env::var_os("CARGO_FEATURE_WITHOUT_LIBRARY").is_some() {
+        return;
+    }
+    let crate_folder = env::var_os("CARGO_MANIFEST_DIR").expect("cargo names the crate's folder");
+    let folder = PathBuf::from(crate_folder).join("../target/staticlib");
+    println!("cargo:rustc-link-search=native={}", folder.display());
+    println!("cargo:rustc-link-lib=static=draugsten");
+    println!("cargo:rerun-if-changed={}", folder.join("libdraugsten.a").display());
+}

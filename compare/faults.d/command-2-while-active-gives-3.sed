@@ -1,0 +1,1 @@
+s/if phase == Phase::Active && (command == 1 || command == 2) {/if phase == Phase::Active \&\& command == 1 {/

@@ -1,0 +1,1 @@
+s/^        return Ok(none());$/        return Ok(Registration { copy: registration.copy, ..none() });/

@@ -1,0 +1,1 @@
+s/(1..=4).contains(&nuls)/(1..=5).contains(\&nuls)/

@@ -1,0 +1,1 @@
+s/if field == 0 || field > 80 ||/if field == 0 || field > 84 ||/

@@ -1,0 +1,1 @@
+s/if (header.path..=nul).any(shared) {/if (header.path..nul).any(shared) {/

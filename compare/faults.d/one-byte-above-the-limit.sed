@@ -1,0 +1,1 @@
+s/const MOST_BYTES: usize = 1_048_576;/const MOST_BYTES: usize = 1_048_577;/

@@ -1,0 +1,1 @@
+s/if present.is_empty() {/if present.is_empty() \&\& opcode != 3 {/

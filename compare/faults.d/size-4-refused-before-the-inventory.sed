@@ -1,0 +1,1 @@
+s/if inputs.size < 4 {/if inputs.size <= 4 {/

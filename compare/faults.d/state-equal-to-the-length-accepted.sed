@@ -1,0 +1,1 @@
+s/state == 0 || state < length/state == 0 || state <= length/

@@ -1,0 +1,163 @@
+//! The refusals and lines of the readers.
+
+use super::Line;
+use crate::buffers::word_at;
+use crate::case::ReadCase;
+use crate::library::Reading;
+
+pub const NODE_REFUSALS: &[(u32, &str)] = &[
+    (0, "entries"),
+    (20, "20 not 4,096 bytes"),
+    (21, "21 bytes 4 to 15 not zero"),
+    (22, "22 opcode not 1 to 3"),
+    (23, "23 operand count zero"),
+    (24, "24 operands past the end"),
+    (25, "25 odd count for opcode 3"),
+    (26, "26 opcode lower than an earlier one"),
+    (27, "27 no terminator"),
+];
+
+pub const INDEX_REFUSALS: &[(u32, &str)] = &[
+    (0, "entries"),
+    (30, "30 under 4 bytes"),
+    (31, "31 under 8 bytes left, or code past the end"),
+    (32, "32 length"),
+    (33, "33 no code with its NULs"),
+];
+
+pub struct Facts {
+    area: Vec<u8>,
+    out: u64,
+    reading: Reading,
+}
+
+pub fn facts(case: &ReadCase, reading: &Reading) -> Facts {
+    Facts { area: case.area.clone(), out: case.out as u64, reading: *reading }
+}
+
+impl Facts {
+    fn length(&self) -> usize {
+        self.area.len()
+    }
+
+    fn refused(&self, number: u32) -> bool {
+        self.reading.refusal == number
+    }
+
+    /// The refused operator: its opcode, its count and the offset that its operands end at.
+    fn operator(&self) -> (u32, u32, u64) {
+        let operator = word_at(&self.area, self.reading.offset as usize).unwrap_or(0);
+        let count = operator & 0xff_ffff;
+        (operator >> 24, count, self.reading.offset + 4 + 4 * u64::from(count))
+    }
+
+    /// What is left of an index area from the refused set on, and the set's length, if it has one.
+    fn set(&self) -> (usize, Option<u32>) {
+        let at = self.reading.offset as usize;
+        (self.length() - at, word_at(&self.area, at + 4))
+    }
+
+    /// The refused set's code with its NULs.
+    fn field(&self) -> &[u8] {
+        let at = self.reading.offset as usize + 8;
+        let end = at + self.set().1.unwrap_or(0) as usize;
+        self.area.get(at..end).unwrap_or(&[])
+    }
+
+    fn first_nul(&self) -> Option<usize> {
+        self.field().iter().position(|&byte| byte == 0)
+    }
+
+    fn only_nuls_behind_code(&self) -> bool {
+        self.first_nul().is_some_and(|nul| self.field()[nul..].iter().all(|&byte| byte == 0))
+    }
+
+    /// The first set of a read index area: its length and its number of NULs.
+    fn first_set(&self) -> Option<(usize, usize)> {
+        if self.reading.refusal != 0 || self.reading.entries == 0 {
+            return None;
+        }
+        let length = word_at(&self.area, 8)? as usize;
+        let nuls = self.area.get(12..12 + length)?.iter().filter(|&&byte| byte == 0).count();
+        Some((length, nuls))
+    }
+
+    fn first_set_has_nuls(&self, number: usize) -> bool {
+        self.first_set().is_some_and(|set| set.1 == number)
+    }
+
+    fn entries(&self) -> bool {
+        self.reading.refusal == 0 && self.reading.entries > 0
+    }
+
+    fn room(&self) -> u64 {
+        self.out / 3
+    }
+
+    /// The operands of a read node area end at 4,092, so that the last word is the terminator.
+    fn operands_to_4092(&self) -> bool {
+        let mut at = 16;
+        while let Some(operator @ 1..) = word_at(&self.area, at) {
+            at += 4 + 4 * (operator & 0xff_ffff) as usize;
+        }
+        at == 4092
+    }
+}
+
+pub const NODE_LINES: &[Line<Facts>] = &[
+    ("no bytes", |f| f.length() == 0),
+    ("4,095 bytes", |f| f.length() == 4095),
+    ("4,096 bytes", |f| f.length() == 4096),
+    ("4,097 bytes", |f| f.length() == 4097),
+    ("terminator at byte 16", |f| f.refused(0) && f.reading.entries == 0),
+    ("terminator in the last word", |f| f.entries() && f.operands_to_4092()),
+    ("22: opcode 0 with a count", |f| f.refused(22) && f.operator().0 == 0),
+    ("22: opcode 4 with a count", |f| f.refused(22) && f.operator().0 == 4 && f.operator().1 > 0),
+    ("22: opcode 4, count 0", |f| f.refused(22) && f.operator().0 == 4 && f.operator().1 == 0),
+    ("22: opcode 4, past the end", |f| f.refused(22) && f.operator().0 == 4 && f.operator().2 > 4096),
+    ("23: opcode 1", |f| f.refused(23) && f.operator().0 == 1),
+    ("23: opcode 3", |f| f.refused(23) && f.operator().0 == 3),
+    ("25: inside the area", |f| f.refused(25) && f.operator().2 <= 4096),
+    ("25: past the end", |f| f.refused(25) && f.operator().2 > 4096),
+    ("26: inside the area", |f| f.refused(26) && f.operator().2 <= 4096),
+    ("26: past the end", |f| f.refused(26) && f.operator().2 > 4096),
+    ("24: one word past the end", |f| f.refused(24) && f.operator().2 == 4100),
+    ("24: two words past the end", |f| f.refused(24) && f.operator().2 == 4104),
+    ("24: count 0xffffff", |f| f.refused(24) && f.operator().1 == 0xff_ffff),
+    ("state above 0", |f| f.reading.state_or_zero > 0),
+    ("out holds all entries exactly", |f| f.entries() && f.out == 3 * f.reading.entries),
+    ("out one number short", |f| f.entries() && f.out + 1 == 3 * f.reading.entries),
+    ("out holds nothing", |f| f.entries() && f.room() == 0),
+    ("out holds more", |f| f.entries() && f.room() > f.reading.entries),
+];
+
+pub const INDEX_LINES: &[Line<Facts>] = &[
+    ("3 bytes", |f| f.length() == 3),
+    ("4 bytes, count 0", |f| f.length() == 4 && f.refused(0)),
+    ("count 0, more bytes", |f| f.length() > 4 && f.refused(0) && f.reading.entries == 0),
+    ("31: 7 bytes left", |f| f.refused(31) && f.set().0 == 7),
+    ("31: no byte left", |f| f.refused(31) && f.set().0 == 0),
+    ("31: 8 bytes left, code past the end", |f| f.refused(31) && f.set().0 == 8),
+    ("31: code one byte past the end", |f| f.refused(31) && f.set().1.is_some_and(|l| l as usize == f.set().0 - 7)),
+    ("31: length 80 past the end", |f| f.refused(31) && f.set().1 == Some(80)),
+    ("32: length 0", |f| f.refused(32) && f.set().1 == Some(0)),
+    ("32: length 84 inside", |f| f.refused(32) && f.set().1 == Some(84) && f.set().0 >= 92),
+    ("32: length 84 past the end", |f| f.refused(32) && f.set().1 == Some(84) && f.set().0 < 92),
+    ("32: length no multiple of 4, under 80", |f| f.refused(32) && f.set().1.is_some_and(|l| l % 4 != 0 && l < 80)),
+    ("32: length with bit 31", |f| f.refused(32) && f.set().1 >= Some(0x8000_0000)),
+    ("33: empty code", |f| f.refused(33) && f.first_nul() == Some(0)),
+    ("33: no NUL", |f| f.refused(33) && f.first_nul().is_none()),
+    ("33: a byte behind a NUL", |f| f.refused(33) && f.first_nul() > Some(0) && !f.only_nuls_behind_code()),
+    ("33: five NULs or more", |f| f.refused(33) && f.first_nul() > Some(0) && f.only_nuls_behind_code()),
+    ("first set of length 4", |f| f.first_set().is_some_and(|set| set.0 == 4)),
+    ("first set of length 80", |f| f.first_set().is_some_and(|set| set.0 == 80)),
+    ("first set with 1 NUL", |f| f.first_set_has_nuls(1)),
+    ("first set with 2 NULs", |f| f.first_set_has_nuls(2)),
+    ("first set with 3 NULs", |f| f.first_set_has_nuls(3)),
+    ("first set with 4 NULs", |f| f.first_set_has_nuls(4)),
+    ("count larger than the sets", |f| f.refused(31) && word_at(&f.area, 0) == Some(0xffff_ffff)),
+    ("out holds all entries exactly", |f| f.entries() && f.out == 3 * f.reading.entries),
+    ("out one number short", |f| f.entries() && f.out + 1 == 3 * f.reading.entries),
+    ("out holds nothing", |f| f.entries() && f.room() == 0),
+    ("out holds more", |f| f.entries() && f.room() > f.reading.entries),
+];

@@ -1,0 +1,283 @@
+//! Counts which answers, rules and lines of the paper the cases came to, on both sides of each line.
+
+mod areas;
+mod combinations;
+mod dump;
+mod indices;
+mod nodes;
+
+use crate::buffers::{record_places, word_at};
+use crate::case::{CallCase, ReadCase};
+use crate::compare::CallResult;
+use crate::library::Reading;
+use combinations::Combinations;
+
+/// A line of the paper, as a condition on the facts of a case.
+type Line<Facts> = (&'static str, fn(&Facts) -> bool);
+
+/// Named counts in a fixed order. A name that never came up stays in the table with 0.
+struct Table {
+    title: &'static str,
+    rows: Vec<(&'static str, u64)>,
+}
+
+impl Table {
+    fn new(title: &'static str, names: impl Iterator<Item = &'static str>) -> Table {
+        Table { title, rows: names.map(|name| (name, 0)).collect() }
+    }
+
+    fn of_lines<Facts>(title: &'static str, lines: &[Line<Facts>]) -> Table {
+        Table::new(title, lines.iter().map(|line| line.0))
+    }
+
+    fn add(&mut self, name: &'static str, times: u64) {
+        match self.rows.iter_mut().find(|row| row.0 == name) {
+            Some(row) => row.1 += times,
+            None => self.rows.push((name, times)),
+        }
+    }
+
+    /// Counts every line that holds of the facts. The table was made of the same lines.
+    fn count_lines<Facts>(&mut self, lines: &[Line<Facts>], facts: &Facts) {
+        for (row, (_, holds)) in self.rows.iter_mut().zip(lines) {
+            row.1 += u64::from(holds(facts));
+        }
+    }
+
+    fn print(&self) {
+        println!("\n{}", self.title);
+        for (name, times) in &self.rows {
+            println!("  {times:>9}  {name}");
+        }
+    }
+}
+
+const ANSWERS: [(&str, u32, i32); 10] = [
+    ("number 10", 10, 0),
+    ("number 11", 11, 0),
+    ("number 12", 12, 0),
+    ("number 13", 13, 0),
+    ("status 0", 0, 0),
+    ("status 1", 0, 1),
+    ("status -1", 0, -1),
+    ("status -3", 0, -3),
+    ("status -9", 0, -9),
+    ("status -10", 0, -10),
+];
+
+/// The answers that a token can have; the last column is for all other tokens and for buffers too short for one.
+const POSSIBLE: [[bool; 4]; 10] = [
+    [true, true, true, true],
+    [true, true, true, true],
+    [true, true, true, true],
+    [true, true, true, true],
+    [true, true, true, false],
+    [true, true, false, false],
+    [true, true, false, false],
+    [true, true, true, true],
+    [false, false, true, false],
+    [false, false, true, false],
+];
+
+const BUFFER_RULES: [&str; 7] = [
+    "13: no registration",
+    "10: under 12 bytes",
+    "12: inputs or outputs above 16",
+    "10: under the declared size",
+    "11: no outputs",
+    "-3: unknown token",
+    "-3: counts unlike the call's own",
+];
+
+const SESSION_ROWS: [&str; 8] = [
+    "update-nodes sessions to the end",
+    "get-indices sessions to the end",
+    "answered calls in sessions",
+    "refused calls in sessions",
+    "sessions of two or more answered calls",
+    "sessions of five or more answered calls",
+    "entries that update-nodes handed out",
+    "entries that get-indices handed out",
+];
+
+pub struct Coverage {
+    answers: [[u64; 4]; 10],
+    buffer: Table,
+    node_rules: Table,
+    node_lines: Table,
+    index_rules: Table,
+    index_lines: Table,
+    dump_rules: Table,
+    dump_lines: Table,
+    node_areas: Table,
+    node_area_lines: Table,
+    index_areas: Table,
+    index_area_lines: Table,
+    sessions: Table,
+    combinations: Combinations,
+}
+
+impl Coverage {
+    pub fn new() -> Coverage {
+        Coverage {
+            answers: [[0; 4]; 10],
+            buffer: Table::new("the argument buffer, by rule", BUFFER_RULES.into_iter()),
+            node_rules: Table::new("update-nodes, by rule", nodes::RULES.into_iter()),
+            node_lines: Table::of_lines("update-nodes, lines", nodes::LINES),
+            index_rules: Table::new("get-indices, by rule", indices::RULES.into_iter()),
+            index_lines: Table::of_lines("get-indices, lines", indices::LINES),
+            dump_rules: Table::new("configure-kernel-dump, by rule", dump::RULES.into_iter()),
+            dump_lines: Table::of_lines("configure-kernel-dump, lines", dump::LINES),
+            node_areas: Table::new("node areas read", areas::NODE_REFUSALS.iter().map(|row| row.1)),
+            node_area_lines: Table::of_lines("node areas, lines", areas::NODE_LINES),
+            index_areas: Table::new("index areas read", areas::INDEX_REFUSALS.iter().map(|row| row.1)),
+            index_area_lines: Table::of_lines("index areas, lines", areas::INDEX_LINES),
+            sessions: Table::new("sessions", SESSION_ROWS.into_iter()),
+            combinations: Combinations::new(),
+        }
+    }
+
+    pub fn call(&mut self, case: &CallCase, result: &CallResult) {
+        let token = word_at(&case.args, 0);
+        self.count_answer(token, result);
+        if let Some(row) = buffer_rule(result.rule) {
+            self.buffer.add(row, 1);
+            return;
+        }
+        let inputs: Vec<u64> = case.args[12..].chunks_exact(4).map(big).collect();
+        match token {
+            Some(1) => {
+                self.node_rules.add(rule_or_answered(result.rule), 1);
+                self.node_lines.count_lines(nodes::LINES, &nodes::facts(case, result, &inputs));
+                self.combinations.count(case, result, inputs[1]);
+            }
+            Some(2) => {
+                self.index_rules.add(rule_or_answered(result.rule), 1);
+                self.index_lines.count_lines(indices::LINES, &indices::facts(case, result, &inputs));
+            }
+            _ => {
+                self.dump_rules.add(rule_or_answered(result.rule), 1);
+                self.dump_lines.count_lines(dump::LINES, &dump::facts(case, result, &inputs));
+            }
+        }
+    }
+
+    fn count_answer(&mut self, token: Option<u32>, result: &CallResult) {
+        let status = if result.number == 0 { result.status().unwrap_or(0) } else { 0 };
+        let column = match token {
+            Some(token @ 1..=3) => token as usize - 1,
+            _ => 3,
+        };
+        if let Some(row) = ANSWERS.iter().position(|answer| (answer.1, answer.2) == (result.number, status)) {
+            self.answers[row][column] += 1;
+        }
+    }
+
+    pub fn node_area(&mut self, case: &ReadCase, reading: &Reading) {
+        count_refusal(&mut self.node_areas, areas::NODE_REFUSALS, reading.refusal);
+        self.node_area_lines.count_lines(areas::NODE_LINES, &areas::facts(case, reading));
+    }
+
+    pub fn index_area(&mut self, case: &ReadCase, reading: &Reading) {
+        count_refusal(&mut self.index_areas, areas::INDEX_REFUSALS, reading.refusal);
+        self.index_area_lines.count_lines(areas::INDEX_LINES, &areas::facts(case, reading));
+    }
+
+    /// A session that came to its end.
+    pub fn session(&mut self, of_nodes: bool, answered: u64, refused: u64, entries: u64) {
+        self.sessions.add(SESSION_ROWS[usize::from(!of_nodes)], 1);
+        self.sessions.add(SESSION_ROWS[2], answered);
+        self.sessions.add(SESSION_ROWS[3], refused);
+        self.sessions.add(SESSION_ROWS[4], u64::from(answered >= 2));
+        self.sessions.add(SESSION_ROWS[5], u64::from(answered >= 5));
+        self.sessions.add(SESSION_ROWS[if of_nodes { 6 } else { 7 }], entries);
+    }
+
+    fn tables(&self) -> [&Table; 12] {
+        [
+            &self.buffer,
+            &self.node_rules,
+            &self.node_lines,
+            &self.index_rules,
+            &self.index_lines,
+            &self.dump_rules,
+            &self.dump_lines,
+            &self.node_areas,
+            &self.node_area_lines,
+            &self.index_areas,
+            &self.index_area_lines,
+            &self.sessions,
+        ]
+    }
+
+    /// The rows that never came up.
+    pub fn missing(&self) -> Vec<String> {
+        let mut missing = Vec::new();
+        for table in self.tables() {
+            let zero = table.rows.iter().filter(|row| row.1 == 0);
+            missing.extend(zero.map(|row| format!("{}: {}", table.title, row.0)));
+        }
+        for (row, answer) in ANSWERS.iter().enumerate() {
+            let never = (0..4).filter(|&column| POSSIBLE[row][column] && self.answers[row][column] == 0);
+            missing.extend(never.map(|column| format!("{} of column {}", answer.0, column + 1)));
+        }
+        missing.extend(self.combinations.missing());
+        missing
+    }
+
+    pub fn print(&self) {
+        println!("\nanswers           token 1    token 2    token 3     others");
+        for (row, answer) in ANSWERS.iter().enumerate() {
+            let cell = |column: usize| match (POSSIBLE[row][column], self.answers[row][column]) {
+                (false, 0) => String::from("-"),
+                (_, times) => times.to_string(),
+            };
+            println!("  {:<12} {:>10} {:>10} {:>10} {:>10}", answer.0, cell(0), cell(1), cell(2), cell(3));
+        }
+        self.tables().iter().for_each(|table| table.print());
+        self.combinations.print();
+        self.print_missing();
+    }
+
+    fn print_missing(&self) {
+        let missing = self.missing();
+        println!("\n{} rows never came up", missing.len());
+        missing.iter().for_each(|row| println!("  {row}"));
+    }
+}
+
+fn little(number: &[u8]) -> u64 {
+    number.iter().rev().fold(0, |number, &byte| (number << 8) | u64::from(byte))
+}
+
+/// The first record of a small buffer, of at least a header, that is malformed by itself.
+fn first_bad_record(buffer: &[u8], malformed: impl Fn(&[u8]) -> bool) -> Option<&[u8]> {
+    if buffer.len() > 4096 {
+        return None;
+    }
+    let places = record_places(buffer).into_iter();
+    places.map(|(from, to)| &buffer[from..to]).find(|record| record.len() >= 4 && malformed(record))
+}
+
+fn big(word: &[u8]) -> u64 {
+    word.iter().fold(0, |number, &byte| (number << 8) | u64::from(byte))
+}
+
+/// The row of a rule that decides before a call of its own is made.
+fn buffer_rule(rule: &'static str) -> Option<&'static str> {
+    BUFFER_RULES.into_iter().find(|row| row.split_once(": ").is_some_and(|(_, name)| name == rule))
+}
+
+fn rule_or_answered(rule: &'static str) -> &'static str {
+    if rule.is_empty() {
+        "answered"
+    } else {
+        rule
+    }
+}
+
+fn count_refusal(table: &mut Table, refusals: &[(u32, &'static str)], refusal: u32) {
+    if let Some(row) = refusals.iter().find(|row| row.0 == refusal) {
+        table.add(row.1, 1);
+    }
+}

@@ -1,0 +1,162 @@
+//! "Readings on both sides of the lines", and further lines of the paper, as cases with their values written out. They
+//! are run on both sides and judged by the written values alone.
+
+mod areas;
+mod arguments;
+mod dump;
+mod indices;
+mod large;
+mod nodes;
+mod scopes;
+
+use crate::buffers::put_word;
+use crate::case::{CallCase, ReadCase};
+use crate::compare::{run_call, run_read_indices, run_read_nodes, Sides};
+use crate::crash;
+use crate::library::Registration;
+use crate::subject::Subject;
+use crate::text;
+
+/// A call and all that it has to leave.
+pub struct CallReading {
+    name: String,
+    case: CallCase,
+    number: u32,
+    args: Vec<u8>,
+    memory: Vec<u8>,
+    registration: Registration,
+}
+
+pub const NONE: Registration = Registration { phase: 0, length: 0, copy: [0; 512] };
+
+impl CallReading {
+    /// A call that is expected to leave everything as it was, with number 0.
+    fn new(name: &str, case: CallCase) -> CallReading {
+        let (args, memory, registration) = (case.args.clone(), case.memory.clone(), case.registration);
+        CallReading { name: String::from(name), case, number: 0, args, memory, registration }
+    }
+
+    fn number(mut self, number: u32) -> CallReading {
+        self.number = number;
+        self
+    }
+
+    /// Expects these words from the first output on.
+    fn outputs(mut self, outputs: &[i32]) -> CallReading {
+        let inputs = u32::from_be_bytes([self.args[4], self.args[5], self.args[6], self.args[7]]) as usize;
+        for (place, &output) in outputs.iter().enumerate() {
+            put_word(&mut self.args, 12 + 4 * (inputs + place), output as u32);
+        }
+        self
+    }
+
+    /// Expects these bytes in memory.
+    fn writes(mut self, at: usize, bytes: &[u8]) -> CallReading {
+        self.memory[at..at + bytes.len()].copy_from_slice(bytes);
+        self
+    }
+
+    fn registration(mut self, registration: Registration) -> CallReading {
+        self.registration = registration;
+        self
+    }
+
+    /// What a side does otherwise than written.
+    fn failure(&self, subject: &dyn Subject) -> Option<String> {
+        let result = run_call(subject, &self.case);
+        let wrong = [
+            (result.number != self.number, "the number"),
+            (result.args.content() != self.args, "the argument buffer"),
+            (result.memory.content() != self.memory, "memory"),
+            (result.registration != self.registration, "the registration"),
+        ];
+        let wrong: Vec<&str> = wrong.iter().filter(|part| part.0).map(|part| part.1).collect();
+        if wrong.is_empty() {
+            return None;
+        }
+        let given = format!("number {}, argument buffer {}", result.number, text::hex(result.args.content()));
+        let written = format!("number {}, argument buffer {}", self.number, text::hex(&self.args));
+        let what = format!("wrong: {}\n  given:   {given}\n  written: {written}", wrong.join(", "));
+        Some(format!("fixed reading '{}' on {}: {what}", self.name, subject.name()))
+    }
+}
+
+/// An area and the reading that it has to have.
+pub struct AreaReading {
+    name: String,
+    area: Vec<u8>,
+    of_nodes: bool,
+    state: u32,
+    result: Result<Vec<[u64; 3]>, (u32, u64)>,
+}
+
+impl AreaReading {
+    fn failure(&self, subject: &dyn Subject) -> Option<String> {
+        let entries = self.result.as_ref().map_or(0, |entries| entries.len());
+        let rooms = [3 * entries + 4, 3 * entries, (3 * entries).saturating_sub(1), 0];
+        rooms.into_iter().find_map(|room| self.failure_with_room(subject, room))
+    }
+
+    fn failure_with_room(&self, subject: &dyn Subject, out: usize) -> Option<String> {
+        let case = ReadCase { area: self.area.clone(), out };
+        let (reading, got) = if self.of_nodes {
+            let result = run_read_nodes(subject, &case);
+            (result.reading, result.entries().iter().map(|entry| entry.map(u64::from)).collect())
+        } else {
+            let result = run_read_indices(subject, &case);
+            (result.reading, result.entries())
+        };
+        let told = (reading.refusal, reading.state_or_zero, reading.offset, reading.entries);
+        let (expected, list) = match &self.result {
+            Ok(list) => ((0, self.state, 0, list.len() as u64), list.as_slice()),
+            Err((refusal, offset)) => ((*refusal, 0, *offset, 0), [].as_slice()),
+        };
+        if told == expected && got == list[..list.len().min(out / 3)] {
+            return None;
+        }
+        let name = &self.name;
+        let side = subject.name();
+        Some(format!("fixed reading '{name}' on {side}, out {out}: {reading:?}\n  entries {got:x?}, written {list:x?}"))
+    }
+}
+
+/// Runs all fixed readings on both sides; gives what was otherwise than written.
+pub fn run(sides: Sides) -> Vec<String> {
+    let calls: Vec<CallReading> =
+        [arguments::readings(), nodes::readings(), scopes::readings(), indices::readings(), dump::readings()]
+            .into_iter()
+            .flatten()
+            .collect();
+    let areas = areas::readings();
+    let mut failures = Vec::new();
+    for subject in [sides.paper, sides.tested] {
+        for (place, reading) in calls.iter().enumerate() {
+            crash::running_fixed(place);
+            failures.extend(reading.failure(subject));
+        }
+        for (place, reading) in areas.iter().enumerate() {
+            crash::running_fixed(calls.len() + place);
+            failures.extend(reading.failure(subject));
+        }
+    }
+    println!("fixed readings: {} calls and {} areas on both sides", calls.len(), areas.len());
+    match large::run(sides) {
+        Some((readings, wrong)) => {
+            println!("fixed readings in a memory of 4 GiB and 8,192 bytes: {readings} calls on both sides");
+            failures.extend(wrong);
+        }
+        None => println!("fixed readings in a memory above 4 GiB: left out, there is no room for it"),
+    }
+    failures
+}
+
+#[cfg(test)]
+mod tests {
+    use super::*;
+    use crate::subject::Paper;
+
+    #[test]
+    fn the_paper_reads_as_written() {
+        assert_eq!(run(Sides { paper: &Paper, tested: &Paper }), Vec::<String>::new());
+    }
+}

@@ -1,0 +1,99 @@
+//! Cases, each from the seed and its number alone.
+
+pub mod arguments;
+mod damage;
+mod dump_call;
+mod index_areas;
+pub mod indices_call;
+pub mod inventories;
+pub mod journals;
+pub mod memories;
+mod node_areas;
+mod nodes_call;
+pub mod registrations;
+mod structures;
+
+use crate::case::{Asked, CallCase, Case, SessionCase};
+use crate::random::Random;
+use journals::Size;
+
+pub fn case(seed: u64, number: u64) -> Case {
+    let mut random = Random::for_case(seed, number);
+    match random.below(100) {
+        0..=71 => Case::Call(call(&mut random)),
+        72..=83 => Case::ReadNodes(node_areas::case(&mut random)),
+        84..=93 => Case::ReadIndices(index_areas::case(&mut random)),
+        94..=96 => Case::Session(node_session(&mut random)),
+        _ => Case::Session(index_session(&mut random)),
+    }
+}
+
+/// A call of any token, good or damaged.
+pub fn call(random: &mut Random) -> CallCase {
+    let mut call = match random.below(10) {
+        0..=3 => nodes_call::call(random),
+        4..=6 => indices_call::call(random),
+        _ => dump_call::call(random),
+    };
+    match random.below(16) {
+        0 => arguments::damage(random, &mut call.args),
+        1 => call.args = arguments::any(random),
+        _ => {}
+    }
+    if random.one_in(80) {
+        registrations::spoil(random, &mut call.registration);
+    }
+    call
+}
+
+/// How many things are wrong with a call.
+fn faults(random: &mut Random) -> usize {
+    match random.below(20) {
+        0..=8 => 0,
+        9..=16 => 1,
+        17 | 18 => 2,
+        _ => 3,
+    }
+}
+
+/// Room for this many entries in `out`, a number less or more, nothing, or much.
+fn room(random: &mut Random, entries: usize) -> usize {
+    match random.below(6) {
+        0 => random.below(4),
+        1 => 3 * entries,
+        2 => (3 * entries).saturating_sub(1),
+        3 => random.between(0, 3 * entries + 3),
+        _ => 3 * entries + random.below(10),
+    }
+}
+
+fn node_session(random: &mut Random) -> SessionCase {
+    let scope = journals::good_scope(random);
+    let size = match random.below(3000) {
+        0 => Size::Full,
+        1..=100 => Size::Areas,
+        101..=400 => Size::Area,
+        _ => Size::Small,
+    };
+    let records = journals::journal(random, scope, size);
+    SessionCase { seed: random.next(), records, asked: Asked::Nodes { scope }, plain: random.one_in(4) }
+}
+
+fn index_session(random: &mut Random) -> SessionCase {
+    let flag = random.below(2) as u32;
+    let kind = inventories::good_kind(random, flag);
+    let entries = if random.one_in(20) { random.between(20, 80) } else { random.between(1, 20) };
+    let records = inventories::stock(random, flag, kind, entries).bytes;
+    SessionCase { seed: random.next(), records, asked: Asked::Indices { flag, kind }, plain: random.one_in(4) }
+}
+
+#[cfg(test)]
+mod tests {
+    #[test]
+    fn a_case_follows_from_seed_and_number() {
+        for number in 0..200 {
+            assert_eq!(super::case(3, number).text(), super::case(3, number).text());
+        }
+        assert_ne!(super::case(3, 0).text(), super::case(4, 0).text());
+    }
+}

@@ -1,0 +1,59 @@
+//! The command line.
+
+pub const USAGE: &str = "usage: draugsten-compare [--cases N] [--seed S] [--only K] [--random-only]
+  --cases N      compare N random cases (200000)
+  --seed S       the seed that the cases follow from (1)
+  --only K       compare case K of the seed alone
+  --random-only  leave out the fixed readings";
+
+pub struct Options {
+    pub cases: u64,
+    pub seed: u64,
+    pub only: Option<u64>,
+    pub fixed: bool,
+}
+
+/// The options, or what is wrong with them.
+pub fn parse(arguments: impl Iterator<Item = String>) -> Result<Options, String> {
+    let mut options = Options { cases: 200_000, seed: 1, only: None, fixed: true };
+    let mut arguments = arguments;
+    while let Some(name) = arguments.next() {
+        match name.as_str() {
+            "--cases" => options.cases = number(&name, arguments.next())?,
+            "--seed" => options.seed = number(&name, arguments.next())?,
+            "--only" => options.only = Some(number(&name, arguments.next())?),
+            "--random-only" => options.fixed = false,
+            _ => return Err(format!("unknown argument {name}")),
+        }
+    }
+    Ok(options)
+}
+
+fn number(name: &str, value: Option<String>) -> Result<u64, String> {
+    let value = value.ok_or(format!("{name} needs a number"))?;
+    value.parse().map_err(|_| format!("{name} needs a number from 0 to {}, not {value}", u64::MAX))
+}
+
+#[cfg(test)]
+mod tests {
+    use super::parse;
+
+    fn of(line: &str) -> Result<super::Options, String> {
+        parse(line.split_whitespace().map(String::from))
+    }
+
+    #[test]
+    fn options_are_read() {
+        let options = of("--cases 5 --seed 7 --only 3 --random-only").unwrap();
+        assert_eq!((options.cases, options.seed, options.only, options.fixed), (5, 7, Some(3), false));
+        assert_eq!(of("").unwrap().cases, 200_000);
+    }
+
+    #[test]
+    fn bad_arguments_are_refused() {
+        assert!(of("--cases").is_err());
+        assert!(of("--cases x").is_err());
+        assert!(of("--cases -1").is_err());
+        assert!(of("--what").is_err());
+    }
+}

@@ -1,0 +1,109 @@
+//! Document 01, written out in its order and words. Nothing here is meant to be fast.
+
+pub mod get_indices;
+pub mod kernel_dump;
+pub mod readers;
+pub mod records;
+pub mod scope;
+pub mod update_nodes;
+pub mod words;
+
+pub use kernel_dump::{Phase, Registration};
+use words::{put_word, word};
+
+/// A status below 0, and the rule that gives it.
+#[derive(Clone, Copy, PartialEq, Eq, Debug)]
+pub struct Refusal {
+    pub status: i32,
+    pub rule: &'static str,
+}
+
+fn refused<T>(status: i32, rule: &'static str) -> Result<T, Refusal> {
+    Err(Refusal { status, rule })
+}
+
+/// What a call gives back, with the rule that refused it; the rule is empty for an answered call.
+pub struct Told {
+    pub number: u32,
+    pub registration: Registration,
+    pub rule: &'static str,
+}
+
+/// What an answered call writes behind its inputs, and the registration that it hands back.
+struct Answered {
+    outputs: Vec<u32>,
+    registration: Registration,
+}
+
+/// The call through the argument buffer.
+pub fn call(args: &mut [u8], memory: &mut [u8], journal: &[u8], inventory: &[u8], registration: Registration) -> Told {
+    if let Some((number, rule)) = number_above_0(args) {
+        return Told { number, registration, rule };
+    }
+    let outputs_at = 12 + 4 * word(args, 4) as usize;
+    match answer(args, memory, journal, inventory, &registration) {
+        Ok(answered) => {
+            for (place, &output) in answered.outputs.iter().enumerate() {
+                put_word(args, outputs_at + 4 * place, output);
+            }
+            Told { number: 0, registration: answered.registration, rule: "" }
+        }
+        // "Each status below 0 writes the status word only."
+        Err(refusal) => {
+            put_word(args, outputs_at, refusal.status as u32);
+            Told { number: 0, registration, rule: refusal.rule }
+        }
+    }
+}
+
+/// "The 12-byte test comes first, then 12, then the declared size, then 11."
+fn number_above_0(args: &[u8]) -> Option<(u32, &'static str)> {
+    if args.len() < 12 {
+        return Some((10, "under 12 bytes"));
+    }
+    let inputs = word(args, 4);
+    let outputs = word(args, 8);
+    if inputs > 16 || outputs > 16 {
+        return Some((12, "inputs or outputs above 16"));
+    }
+    if (args.len() as u64) < 12 + 4 * (inputs + outputs) {
+        return Some((10, "under the declared size"));
+    }
+    if outputs == 0 {
+        return Some((11, "no outputs"));
+    }
+    None
+}
+
+/// "Tokens here: 1 update-nodes, 2 get-indices, 3 configure-kernel-dump." "an unknown token or counts unlike the call's
+/// own give status -3"
+fn answer(
+    args: &[u8],
+    memory: &mut [u8],
+    journal: &[u8],
+    inventory: &[u8],
+    registration: &Registration,
+) -> Result<Answered, Refusal> {
+    let counts = (word(args, 4), word(args, 8));
+    let input = |place: usize| word(args, 12 + 4 * place);
+    let same = *registration;
+    match (word(args, 0), counts) {
+        (1, (2, 1)) => {
+            let status = update_nodes::update_nodes(memory, journal, input(0), input(1))?;
+            Ok(Answered { outputs: vec![status], registration: same })
+        }
+        (2, (5, 2)) => {
+            let (flag, kind, address, size, start) = (input(0), input(1), input(2), input(3), input(4));
+            let inputs = get_indices::Inputs { flag, kind, address, size, start };
+            let outputs = get_indices::get_indices(memory, inventory, &inputs)?;
+            Ok(Answered { outputs: vec![outputs.status, outputs.next], registration: same })
+        }
+        (3, (3, 1)) => {
+            let inputs = kernel_dump::Inputs { command: input(0), address: input(1), length: input(2) };
+            let new = kernel_dump::configure_kernel_dump(memory, &inputs, registration)?;
+            Ok(Answered { outputs: vec![0], registration: new })
+        }
+        (1..=3, _) => refused(-3, "counts unlike the call's own"),
+        _ => refused(-3, "unknown token"),
+    }
+}

@@ -1,0 +1,114 @@
+//! "Journal and inventory"
+
+use super::words::{as_word, little};
+
+/// "Journal, at most 1,048,576 bytes", "Inventory, same limit".
+const MOST_BYTES: usize = 1_048_576;
+
+/// "A record is a two-byte length, a two-byte kind and a body; the length counts kind and body."
+struct Record<'a> {
+    length: u64,
+    kind: u64,
+    body: &'a [u8],
+}
+
+/// "An operation is an opcode (1 delete, 2 update, 3 add) with its operands: the phandle, or for an addition the
+/// parent phandle and the drc-index." `second` is 0 where there is one operand.
+#[derive(Clone, Copy, PartialEq, Eq, Debug)]
+pub struct Operation {
+    pub opcode: u32,
+    pub first: u32,
+    pub second: u32,
+}
+
+/// One journal record: the node type and the operation.
+pub struct Change {
+    pub node_type: u64,
+    pub operation: Operation,
+}
+
+/// One inventory record.
+pub struct Entry<'a> {
+    pub flag: u64,
+    pub kind: u64,
+    pub index: u32,
+    pub code: &'a [u8],
+}
+
+/// The rule that makes a buffer malformed.
+type Malformed = &'static str;
+
+/// "Records fill the buffer exactly." "an oversized buffer is malformed"
+fn records(buffer: &[u8]) -> Result<Vec<Record<'_>>, Malformed> {
+    if buffer.len() > MOST_BYTES {
+        return Err("malformed: oversized");
+    }
+    let mut found = Vec::new();
+    let mut rest = buffer;
+    while !rest.is_empty() {
+        if rest.len() < 4 {
+            return Err("malformed: records do not fill the buffer");
+        }
+        let length = little(&rest[0..2]);
+        let end = 2 + length as usize;
+        if length < 2 {
+            return Err("malformed: length");
+        }
+        if end > rest.len() {
+            return Err("malformed: records do not fill the buffer");
+        }
+        found.push(Record { length, kind: little(&rest[2..4]), body: &rest[4..end] });
+        rest = &rest[end..];
+    }
+    Ok(found)
+}
+
+/// "kinds 1 (delete) and 2 (update) hold a two-byte node type and a phandle, length 8; kind 3 (add) holds node type,
+/// parent phandle and drc-index, length 12." Node types are 1 to 14.
+fn change(record: &Record) -> Result<Change, Malformed> {
+    let second = match (record.kind, record.length) {
+        (1 | 2, 8) => 0,
+        (3, 12) => as_word(little(&record.body[6..10])),
+        (1..=3, _) => return Err("malformed: length"),
+        _ => return Err("malformed: kind"),
+    };
+    let node_type = little(&record.body[0..2]);
+    if !(1..=14).contains(&node_type) {
+        return Err("malformed: node type");
+    }
+    let first = as_word(little(&record.body[2..6]));
+    let opcode = as_word(record.kind);
+    Ok(Change { node_type, operation: Operation { opcode, first, second } })
+}
+
+/// "kind 16 holds two bytes (0 indicator, 1 sensor), a four-byte type, a four-byte index and a location code of 1 to
+/// 79 non-zero bytes; length 12 plus the code."
+fn entry<'a>(record: &Record<'a>) -> Result<Entry<'a>, Malformed> {
+    if record.kind != 16 {
+        return Err("malformed: kind");
+    }
+    if !(12 + 1..=12 + 79).contains(&record.length) {
+        return Err("malformed: length");
+    }
+    let flag = little(&record.body[0..2]);
+    let kind = little(&record.body[2..6]);
+    let index = as_word(little(&record.body[6..10]));
+    let code = &record.body[10..];
+    if flag > 1 {
+        return Err("malformed: flag");
+    }
+    if code.contains(&0) {
+        return Err("malformed: NUL in a code");
+    }
+    Ok(Entry { flag, kind, index, code })
+}
+
+/// The journal's records in order, or the rule that makes it malformed.
+pub fn journal(buffer: &[u8]) -> Result<Vec<Change>, Malformed> {
+    records(buffer)?.iter().map(change).collect()
+}
+
+/// The inventory's records in order, or the rule that makes it malformed.
+pub fn inventory(buffer: &[u8]) -> Result<Vec<Entry<'_>>, Malformed> {
+    records(buffer)?.iter().map(entry).collect()
+}

@@ -1,0 +1,109 @@
+//! "update-nodes"
+
+use super::records::{self, Operation};
+use super::scope;
+use super::words::{as_word, put_word, word};
+use super::{refused, Refusal};
+
+/// "the work area is the 4,096 bytes of partition memory that start at the given address"
+const AREA: u64 = 4096;
+
+/// "the longest run of operations, from the state on, that fits 1,019 words"
+pub const MOST_WORDS: u64 = 1019;
+
+/// The status of the call, or the rule that refuses it. "Checks in order: address a multiple of 4,096 and the area
+/// inside memory (-3); scope (-3); journal (-1); bytes 4 to 15 of the area zero (-3); state (-3)."
+pub fn update_nodes(memory: &mut [u8], journal: &[u8], address: u64, scope: u64) -> Result<u32, Refusal> {
+    if !address.is_multiple_of(AREA) {
+        return refused(-3, "address no multiple of 4,096");
+    }
+    if address + AREA > memory.len() as u64 {
+        return refused(-3, "area not inside memory");
+    }
+    let Some(row) = scope::row(scope) else {
+        return refused(-3, "scope");
+    };
+    let changes = match records::journal(journal) {
+        Ok(changes) => changes,
+        Err(rule) => return refused(-1, rule),
+    };
+    let area = &mut memory[address as usize..(address + AREA) as usize];
+    if area[4..16].iter().any(|&byte| byte != 0) {
+        return refused(-3, "bytes 4 to 15 not zero");
+    }
+    let list = scope::reportable_list(&changes, &row);
+    let state = word(area, 0);
+    if !state_is_good(state, list.len() as u64) {
+        return refused(-3, "state");
+    }
+    Ok(answer(area, &list, state as usize))
+}
+
+/// "The state is 0, or above 0 and below the length of the reportable list."
+fn state_is_good(state: u64, length: u64) -> bool {
+    state == 0 || state < length
+}
+
+/// "A run costs one operator word for each opcode present, one word for each delete or update, two for each addition."
+pub fn cost(run: &[Operation]) -> u64 {
+    let operators = (1..=3).filter(|&opcode| run.iter().any(|operation| operation.opcode == opcode)).count() as u64;
+    operators + run.iter().map(operand_words).sum::<u64>()
+}
+
+/// "one word for each delete or update, two for each addition"
+fn operand_words(operation: &Operation) -> u64 {
+    if operation.opcode == 3 {
+        2
+    } else {
+        1
+    }
+}
+
+/// "the longest run of operations, from the state on, that fits": every length is tried, from the longest down.
+/// An operation costs a word at the least, so no run is longer than the words.
+pub fn longest_run(rest: &[Operation]) -> &[Operation] {
+    let longest = rest.len().min(MOST_WORDS as usize);
+    let length = (0..=longest).rev().find(|&length| cost(&rest[..length]) <= MOST_WORDS);
+    &rest[..length.unwrap_or(0)]
+}
+
+/// "The answer: new state (0 when nothing remains), twelve zero bytes, one operator and its operands for each opcode
+/// present, then 0x00000000." "Status 1 when operations remain, otherwise 0."
+fn answer(area: &mut [u8], list: &[Operation], state: usize) -> u32 {
+    let run = longest_run(&list[state..]);
+    let handed_out = state + run.len();
+    let remain = handed_out < list.len();
+    let new_state = if remain { handed_out as u64 } else { 0 };
+    put_word(area, 0, as_word(new_state));
+    area[4..16].fill(0);
+    let mut at = 16;
+    for word in run_words(run) {
+        put_word(area, at, word);
+        at += 4;
+    }
+    put_word(area, at, 0);
+    u32::from(remain)
+}
+
+/// "An operator is the opcode in the high byte and the number of operand words in the low three bytes; an addition
+/// counts two."
+fn run_words(run: &[Operation]) -> Vec<u32> {
+    let mut words = Vec::new();
+    for opcode in 1..=3u32 {
+        let present: Vec<&Operation> = run.iter().filter(|operation| operation.opcode == opcode).collect();
+        if present.is_empty() {
+            continue;
+        }
+        let operands: u64 = present.iter().map(|operation| operand_words(operation)).sum();
+        words.push((opcode << 24) | as_word(operands));
+        present.iter().for_each(|operation| push_operands(&mut words, operation));
+    }
+    words
+}
+
+fn push_operands(words: &mut Vec<u32>, operation: &Operation) {
+    words.push(operation.first);
+    if operation.opcode == 3 {
+        words.push(operation.second);
+    }
+}

@@ -1,0 +1,211 @@
+//! Makes a case with a difference smaller, as long as the difference stays.
+
+use crate::buffers::record_places;
+use crate::case::{Case, ReadCase, SessionCase};
+use std::time::{Duration, Instant};
+
+/// The parts of a case that are made smaller.
+#[derive(Clone, Copy)]
+enum Part {
+    Journal,
+    Inventory,
+    Memory,
+    Arguments,
+    Copy,
+    Area,
+    Session,
+}
+
+const ALL: [Part; 7] =
+    [Part::Journal, Part::Inventory, Part::Session, Part::Memory, Part::Area, Part::Arguments, Part::Copy];
+/// All but the copy, which has 512 bytes always.
+const OF_ANY_LENGTH: [Part; 6] =
+    [Part::Journal, Part::Inventory, Part::Session, Part::Memory, Part::Area, Part::Arguments];
+const OF_RECORDS: [Part; 3] = [Part::Journal, Part::Inventory, Part::Session];
+const MOST_TIME: Duration = Duration::from_secs(10);
+
+fn bytes_of(case: &Case, part: Part) -> &[u8] {
+    match (case, part) {
+        (Case::Call(call), Part::Journal) => &call.journal,
+        (Case::Call(call), Part::Inventory) => &call.inventory,
+        (Case::Call(call), Part::Memory) => &call.memory,
+        (Case::Call(call), Part::Arguments) => &call.args,
+        (Case::Call(call), Part::Copy) => &call.registration.copy,
+        (Case::ReadNodes(read) | Case::ReadIndices(read), Part::Area) => &read.area,
+        (Case::Session(session), Part::Session) => &session.records,
+        _ => &[],
+    }
+}
+
+/// The case with other bytes in one part. The copy keeps its 512 bytes.
+fn with_bytes(case: &Case, part: Part, bytes: Vec<u8>) -> Case {
+    let mut changed = case.clone();
+    match (&mut changed, part) {
+        (Case::Call(call), Part::Journal) => call.journal = bytes,
+        (Case::Call(call), Part::Inventory) => call.inventory = bytes,
+        (Case::Call(call), Part::Memory) => call.memory = bytes,
+        (Case::Call(call), Part::Arguments) => call.args = bytes,
+        (Case::Call(call), Part::Copy) if bytes.len() == 512 => call.registration.copy.copy_from_slice(&bytes),
+        (Case::ReadNodes(read) | Case::ReadIndices(read), Part::Area) => read.area = bytes,
+        (Case::Session(session), Part::Session) => session.records = bytes,
+        _ => {}
+    }
+    changed
+}
+
+struct Shrinking<'a> {
+    best: Case,
+    differs: &'a mut dyn FnMut(&Case) -> bool,
+    end: Instant,
+}
+
+/// A small case that still differs.
+pub fn shrink(case: Case, differs: &mut dyn FnMut(&Case) -> bool) -> Case {
+    let mut shrinking = Shrinking { best: case, differs, end: Instant::now() + MOST_TIME };
+    shrinking.simplify();
+    for _ in 0..2 {
+        OF_RECORDS.into_iter().for_each(|part| shrinking.remove_records(part));
+        OF_ANY_LENGTH.into_iter().for_each(|part| shrinking.shorten(part));
+        ALL.into_iter().for_each(|part| shrinking.zero(part));
+    }
+    shrinking.best
+}
+
+impl Shrinking<'_> {
+    /// The time for it has passed.
+    fn over(&self) -> bool {
+        Instant::now() >= self.end
+    }
+
+    /// Keeps the candidate if it still differs.
+    fn keep(&mut self, candidate: Case) -> bool {
+        let differs = !self.over() && (self.differs)(&candidate);
+        if differs {
+            self.best = candidate;
+        }
+        differs
+    }
+
+    /// Changes that are no matter of bytes.
+    fn simplify(&mut self) {
+        let candidate = match self.best.clone() {
+            Case::Session(session) => Case::Session(SessionCase { plain: true, ..session }),
+            Case::ReadNodes(read) => Case::ReadNodes(ReadCase { out: 0, ..read }),
+            Case::ReadIndices(read) => Case::ReadIndices(ReadCase { out: 0, ..read }),
+            Case::Call(mut call) => {
+                call.registration.length = 0;
+                Case::Call(call)
+            }
+        };
+        self.keep(candidate);
+    }
+
+    /// Removes records, many at a time first.
+    fn remove_records(&mut self, part: Part) {
+        let mut many = record_places(bytes_of(&self.best, part)).len();
+        while many > 0 {
+            let mut from = 0;
+            while self.remove_some(part, &mut from, many) {}
+            many /= 2;
+        }
+    }
+
+    /// Tries to remove `many` records from `from` on, and steps over them where they are needed. False at the end.
+    fn remove_some(&mut self, part: Part, from: &mut usize, many: usize) -> bool {
+        let bytes = bytes_of(&self.best, part);
+        let places = record_places(bytes);
+        if *from >= places.len() || self.over() {
+            return false;
+        }
+        let last = (*from + many).min(places.len()) - 1;
+        let rest = [&bytes[..places[*from].0], &bytes[places[last].1..]].concat();
+        if !self.keep(with_bytes(&self.best, part, rest)) {
+            *from += many;
+        }
+        true
+    }
+
+    /// Cuts bytes off the end.
+    fn shorten(&mut self, part: Part) {
+        let mut step = bytes_of(&self.best, part).len();
+        while step > 0 && !self.over() {
+            let bytes = bytes_of(&self.best, part);
+            if step > bytes.len() || !self.keep(with_bytes(&self.best, part, bytes[..bytes.len() - step].to_vec())) {
+                step /= 2;
+            }
+        }
+    }
+
+    /// Sets bytes to zero, or to the letter a where zero will not do, many at a time first.
+    fn zero(&mut self, part: Part) {
+        let (length, end) = (bytes_of(&self.best, part).len(), self.end);
+        let least = length / 1024 + 1;
+        let mut many = length;
+        while many >= least {
+            for from in (0..length).step_by(many).take_while(|_| Instant::now() < end) {
+                let _ = self.fill_some(part, from, many, 0) || self.fill_some(part, from, many, b'a');
+            }
+            many /= 2;
+        }
+    }
+
+    /// True where the bytes are such already or were made so.
+    fn fill_some(&mut self, part: Part, from: usize, many: usize, value: u8) -> bool {
+        let mut bytes = bytes_of(&self.best, part).to_vec();
+        let end = (from + many).min(bytes.len());
+        if bytes[from..end].iter().all(|&byte| byte == value) {
+            return true;
+        }
+        bytes[from..end].fill(value);
+        let candidate = with_bytes(&self.best, part, bytes);
+        self.keep(candidate)
+    }
+}
+
+#[cfg(test)]
+mod tests {
+    use super::*;
+    use crate::compare::{self, Sides};
+    use crate::coverage::Coverage;
+    use crate::generate;
+    use crate::library::{Reading, Registration};
+    use crate::subject::{Answered, Paper, Subject};
+
+    /// Gives number 9 where the journal holds a delete of node type 6.
+    struct Faulty;
+
+    impl Subject for Faulty {
+        fn name(&self) -> &'static str {
+            "faulty"
+        }
+
+        fn call(&self, a: &mut [u8], m: &mut [u8], j: &[u8], i: &[u8], r: Registration) -> Answered {
+            let answered = Paper.call(a, m, j, i, r);
+            let number = if j.windows(4).any(|part| part == [1, 0, 6, 0]) { 9 } else { answered.number };
+            Answered { number, ..answered }
+        }
+
+        fn read_nodes(&self, area: &[u8], out: &mut [u32]) -> Reading {
+            Paper.read_nodes(area, out)
+        }
+
+        fn read_indices(&self, area: &[u8], out: &mut [u64]) -> Reading {
+            Paper.read_indices(area, out)
+        }
+    }
+
+    #[test]
+    fn a_fault_is_found_and_made_small() {
+        let sides = Sides { paper: &Paper, tested: &Faulty };
+        let mut coverage = Coverage::new();
+        let mut differs = |case: &Case| compare::difference(sides, case, &mut coverage).is_some();
+        let found = (0..2000).map(|number| generate::case(1, number)).find(|case| differs(case)).unwrap();
+        let small = shrink(found, &mut differs);
+        let Case::Call(call) = &small else {
+            panic!("no call: {}", small.text());
+        };
+        assert!(differs(&small));
+        assert_eq!((call.args.len(), call.memory.len()), (0, 0));
+        assert!(call.journal.len() <= 10, "{}", small.text());
+    }
+}
