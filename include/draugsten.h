@@ -1,0 +1,190 @@
+/*
+ * Draugsten: the RTAS calls ibm,update-nodes, ibm,get-indices and ibm,configure-kernel-dump on the platform's side, and
+ * readers of the work areas that the first two fill. Link libdraugsten.a, which is for x86-64.
+ *
+ * For every function:
+ * - It takes any contents and any lengths, and returns.
+ * - A buffer is a pointer and the number of its elements, all of them initialised.
+ * - No pointer may be NULL, also where the length is 0; nothing is read or written through it then.
+ * - A buffer that is written must not overlap another buffer of the same call. Buffers that are only read may.
+ * - There is no global state, and nothing is kept or allocated. Calls are reentrant and may run at the same time in
+ *   several threads, where none writes a buffer that another one uses.
+ */
+#ifndef DRAUGSTEN_H
+#define DRAUGSTEN_H
+
+#include <stddef.h>
+#include <stdint.h>
+
+#ifdef __cplusplus
+extern "C" {
+#endif
+
+/* ---- limits */
+
+#define DRAUGSTEN_COUNT_LIMIT 16                /* inputs, and outputs, that an argument buffer may declare */
+#define DRAUGSTEN_RECORDS_LIMIT 1048576         /* bytes of a journal, and of an inventory */
+#define DRAUGSTEN_NODE_AREA_SIZE 4096           /* bytes of a node area, and what its address is a multiple of */
+#define DRAUGSTEN_NODE_OPERATIONS_LIMIT 1018    /* operations in one node area, at most */
+#define DRAUGSTEN_INDEX_AREA_SUFFICIENT 92      /* an index area of so many bytes or more holds any entry that is due */
+#define DRAUGSTEN_CODE_LIMIT 79                 /* bytes of a location code, without NULs */
+#define DRAUGSTEN_STRUCTURE_LEAST 40            /* bytes of a dump structure */
+#define DRAUGSTEN_STRUCTURE_LIMIT 512
+#define DRAUGSTEN_ENTRY_ELEMENTS 3              /* elements of `out` that a reader writes for one entry */
+
+/* ---- calls */
+
+/* What a call is asked for: the first word of its argument buffer. */
+enum draugsten_token {
+    DRAUGSTEN_TOKEN_UPDATE_NODES = 1,
+    DRAUGSTEN_TOKEN_GET_INDICES = 2,
+    DRAUGSTEN_TOKEN_CONFIGURE_KERNEL_DUMP = 3
+};
+
+/*
+ * The number of a call. The checks come in this order: 13; under 12 bytes, 10; 12; under the declared size, 10; 11.
+ * Any number but 0 leaves every buffer and the registration as they were.
+ */
+enum draugsten_number {
+    DRAUGSTEN_NUMBER_STATUS = 0,                /* the status is in the argument buffer */
+    DRAUGSTEN_NUMBER_SHORT = 10,                /* under 12 bytes, or under 12 + 4 x (inputs + outputs) */
+    DRAUGSTEN_NUMBER_NO_OUTPUTS = 11,           /* no place for a status */
+    DRAUGSTEN_NUMBER_TOO_MANY = 12,             /* inputs or outputs above 16 */
+    DRAUGSTEN_NUMBER_NO_REGISTRATION = 13       /* the registration has a phase above 2 or a length above 512 */
+};
+
+/* Statuses, as they stand in the first output word. A call is answered where it is 0 or 1, otherwise refused. */
+#define DRAUGSTEN_STATUS_DONE 0x00000000u                   /* 0 */
+#define DRAUGSTEN_STATUS_CALL_AGAIN 0x00000001u             /* 1: more remains */
+#define DRAUGSTEN_STATUS_MALFORMED 0xffffffffu              /* -1: the journal or inventory is malformed */
+#define DRAUGSTEN_STATUS_PARAMETER 0xfffffffdu              /* -3: an input, the token, the counts or the area */
+#define DRAUGSTEN_STATUS_ALREADY_REGISTERED 0xfffffff7u     /* -9 */
+#define DRAUGSTEN_STATUS_DUMP_ACTIVE 0xfffffff6u            /* -10 */
+
+/* The command of configure-kernel-dump. Only the first looks at address and length. */
+enum draugsten_command {
+    DRAUGSTEN_COMMAND_REGISTER = 1,
+    DRAUGSTEN_COMMAND_UNREGISTER = 2,
+    DRAUGSTEN_COMMAND_COMPLETE = 3
+};
+
+enum draugsten_phase {
+    DRAUGSTEN_PHASE_NONE = 0,
+    DRAUGSTEN_PHASE_REGISTERED = 1,
+    DRAUGSTEN_PHASE_ACTIVE = 2                  /* no call makes a registration active */
+};
+
+/* A partition's kernel dump registration. */
+struct draugsten_registration {
+    uint32_t phase;                             /* enum draugsten_phase */
+    size_t length;                              /* bytes of the copied structure, 0 to 512 */
+    uint8_t copy[DRAUGSTEN_STRUCTURE_LIMIT];    /* the structure, then zero bytes */
+};
+
+struct draugsten_answer {
+    uint32_t number;                            /* enum draugsten_number */
+    struct draugsten_registration registration; /* the one to give the partition's next call */
+};
+
+/* The registration that a partition starts with: phase 0, length 0, 512 zero bytes. */
+struct draugsten_registration draugsten_no_registration(void);
+
+/*
+ * One RTAS call.
+ *
+ * args       The argument buffer, big-endian words of 32 bits: token, number of inputs, number of outputs, the inputs,
+ *            the outputs. Bytes may follow.
+ *              update-nodes, 2 inputs:           address, scope (negative, 1 or 2)
+ *                            1 output:           status
+ *              get-indices, 5 inputs:            0 indicator or 1 sensor, type, address, size, Starting Number
+ *                           2 outputs:           status, Next Starting Number
+ *              configure-kernel-dump, 3 inputs:  command, address, length
+ *                                     1 output:  status
+ *            Written, with number 0: the status word, and by an answered get-indices the Next Starting Number. Never:
+ *            any other byte.
+ * memory     The partition's memory, from address 0 on.
+ *            Written by an answered update-nodes: of the 4,096 bytes from the address on, those up to the terminator's
+ *            end. By an answered get-indices: of the size from the address on, those up to the last entry's end.
+ *            Never: any byte behind these, any byte outside the area, and any byte by a refused call or a dump command.
+ * journal    The changes that update-nodes reports; no other call looks at them. Records, little-endian: length (2
+ *            bytes, counts what follows), kind (2), node type (2), then for kind 1 (delete) and 2 (update) the phandle
+ *            (4), for kind 3 (add) the parent's phandle (4) and the drc-index (4).
+ * inventory  What get-indices lists; no other call looks at it. Records, little-endian: length (2), kind 16 (2),
+ *            0 indicator or 1 sensor (2), type (4), index (4), location code (1 to 79 bytes, none zero).
+ * registration  As the partition's last call gave it. Only an answered configure-kernel-dump changes it.
+ *
+ * A session of update-nodes begins with sixteen zero bytes at the head of the area. While the status is 1, the next
+ * call finds there the sixteen bytes that the last answered one left. A session of get-indices begins with Starting
+ * Number 1; while the status is 1, the next call has the Next Starting Number.
+ */
+struct draugsten_answer draugsten_call(uint8_t *args, size_t args_length, uint8_t *memory, size_t memory_length,
+                                       const uint8_t *journal, size_t journal_length, const uint8_t *inventory,
+                                       size_t inventory_length, struct draugsten_registration registration);
+
+/* ---- readers */
+
+/* Why a reader refuses an area. */
+enum draugsten_refusal {
+    DRAUGSTEN_REFUSAL_NONE = 0,
+    /* node areas */
+    DRAUGSTEN_REFUSAL_AREA_SIZE = 20,           /* not 4,096 bytes; at 0 */
+    DRAUGSTEN_REFUSAL_RESERVED = 21,            /* bytes 4 to 15 not zero; at 4 */
+    DRAUGSTEN_REFUSAL_OPCODE = 22,              /* opcode not 1 to 3; 22 to 26 at the operator */
+    DRAUGSTEN_REFUSAL_NO_OPERANDS = 23,         /* operand count zero */
+    DRAUGSTEN_REFUSAL_OPERANDS_PAST_END = 24,
+    DRAUGSTEN_REFUSAL_ODD_OPERANDS = 25,        /* odd count for opcode 3 */
+    DRAUGSTEN_REFUSAL_ORDER = 26,               /* opcode lower than an earlier one */
+    DRAUGSTEN_REFUSAL_NO_TERMINATOR = 27,       /* the area ends before a zero word; at 4096 */
+    /* index areas */
+    DRAUGSTEN_REFUSAL_NO_COUNT = 30,            /* under 4 bytes; at 0 */
+    DRAUGSTEN_REFUSAL_SET_PAST_END = 31,        /* 31 to 33 at the set: index, length, code */
+    DRAUGSTEN_REFUSAL_CODE_LENGTH = 32,         /* zero, above 80 or no multiple of 4 */
+    DRAUGSTEN_REFUSAL_CODE = 33                 /* not a code, then one to four NULs, then nothing else */
+};
+
+enum draugsten_opcode {
+    DRAUGSTEN_OPCODE_DELETE = 1,                /* phandle */
+    DRAUGSTEN_OPCODE_UPDATE = 2,                /* phandle */
+    DRAUGSTEN_OPCODE_ADD = 3                    /* parent's phandle, drc-index */
+};
+
+struct draugsten_node_reading {
+    uint32_t refusal;                           /* enum draugsten_refusal */
+    uint32_t state;                             /* the area's State Variable; 0 with a refusal */
+    size_t offset;                              /* the refusal's place in the area, in bytes; otherwise 0 */
+    size_t entries;                             /* all operations of the area; 0 with a refusal */
+};
+
+struct draugsten_index_reading {
+    uint32_t refusal;                           /* enum draugsten_refusal */
+    size_t offset;                              /* the refusal's place in the area, in bytes; otherwise 0 */
+    size_t entries;                             /* all entries of the area; 0 with a refusal */
+};
+
+/*
+ * Reads a node area, as update-nodes leaves it.
+ *
+ * area  The whole area. Only read.
+ * out   Written, where nothing is refused: for each operation three words, opcode, first operand, second operand or 0,
+ *       as many whole operations as out_length words have room for; 3 x 1,018 words hold any area's. Never: the words
+ *       behind these, and any word with a refusal.
+ */
+struct draugsten_node_reading draugsten_read_nodes(const uint8_t *area, size_t area_length, uint32_t *out,
+                                                   size_t out_length);
+
+/*
+ * Reads an index area, as get-indices leaves it. Bytes behind the last entry are not looked at.
+ *
+ * area  The area. Only read.
+ * out   Written, where nothing is refused: for each entry three numbers, index, byte offset of its code in the area,
+ *       length of the code without NULs, as many whole entries as out_length numbers have room for; area_length / 4
+ *       numbers hold any area's. Never: the numbers behind these, and any number with a refusal.
+ */
+struct draugsten_index_reading draugsten_read_indices(const uint8_t *area, size_t area_length, uint64_t *out,
+                                                      size_t out_length);
+
+#ifdef __cplusplus
+}
+#endif
+
+#endif

@@ -1,0 +1,82 @@
+//! One RTAS call through the argument buffer.
+
+use crate::args::word;
+use crate::ffi;
+use crate::registration::Registration;
+use std::fmt;
+
+/// What an answered call says.
+#[derive(Clone, Copy, PartialEq, Eq, Debug)]
+pub enum Answer {
+    /// Status 0: nothing remains.
+    Done = 0,
+    /// Status 1: more remains.
+    CallAgain = 1,
+}
+
+/// Why a call is refused: by a status below 0, or by a number above 0, which leaves no status.
+#[derive(Clone, Copy, PartialEq, Eq, Debug)]
+pub enum Fault {
+    /// Number 10: the argument buffer has under 12 bytes, or fewer than it declares.
+    Short = 10,
+    /// Number 11: no outputs.
+    NoOutputs = 11,
+    /// Number 12: inputs or outputs above 16.
+    TooMany = 12,
+    /// Status -1: the journal or inventory is malformed.
+    Malformed = -1,
+    /// Status -3: an input, the token, the counts or the work area.
+    Parameter = -3,
+    /// Status -9: a structure is registered already.
+    AlreadyRegistered = -9,
+    /// Status -10: a dump is active.
+    DumpActive = -10,
+}
+
+impl fmt::Display for Fault {
+    fn fmt(&self, f: &mut fmt::Formatter<'_>) -> fmt::Result {
+        let sort = if *self as i32 > 0 { "number" } else { "status" };
+        write!(f, "refused by {sort} {}", *self as i32)
+    }
+}
+
+impl std::error::Error for Fault {}
+
+/// Runs the call that the argument buffer asks for. `args` gets the status, by an answered get-indices also the Next
+/// Starting Number; an answered update-nodes or get-indices writes its work area in `memory`; an answered
+/// configure-kernel-dump changes the registration. Nothing else changes.
+pub fn call(
+    args: &mut [u8],
+    memory: &mut [u8],
+    journal: &[u8],
+    inventory: &[u8],
+    registration: &mut Registration,
+) -> Result<Answer, Fault> {
+    let answer = ffi::call(args, memory, journal, inventory, registration.flat());
+    registration.replace(answer.registration);
+    match answer.number {
+        0 => answer_of(status(args)),
+        10 => Err(Fault::Short),
+        11 => Err(Fault::NoOutputs),
+        12 => Err(Fault::TooMany),
+        number => unreachable!("the library gives number {number} to no registration of this crate"),
+    }
+}
+
+/// The first output of a buffer that has one.
+fn status(args: &[u8]) -> i32 {
+    let inputs = word(args, 4) as usize;
+    word(args, 12 + 4 * inputs) as i32
+}
+
+fn answer_of(status: i32) -> Result<Answer, Fault> {
+    match status {
+        0 => Ok(Answer::Done),
+        1 => Ok(Answer::CallAgain),
+        -1 => Err(Fault::Malformed),
+        -3 => Err(Fault::Parameter),
+        -9 => Err(Fault::AlreadyRegistered),
+        -10 => Err(Fault::DumpActive),
+        _ => unreachable!("the library gives no status {status}"),
+    }
+}

@@ -1,0 +1,31 @@
+//! Safe Rust over `libdraugsten.a`: the RTAS calls ibm,update-nodes, ibm,get-indices and ibm,configure-kernel-dump on
+//! the platform's side, and readers of the work areas that the first two fill. `include/draugsten.h` has what each
+//! buffer holds and which bytes are written.
+//!
+//! ```
+//! use draugsten::{args, call, read_nodes, Answer, Operation, Registration};
+//!
+//! // One record: a node of type 11 was deleted. Its phandle is 0x2a.
+//! let journal = [8, 0, 1, 0, 11, 0, 0x2a, 0, 0, 0];
+//! let mut memory = vec![0; 8192];
+//! let mut registration = Registration::none();
+//!
+//! let mut args = args::update_nodes(4096, 1);
+//! let answer = call(&mut args, &mut memory, &journal, &[], &mut registration);
+//!
+//! assert_eq!(answer, Ok(Answer::Done));
+//! assert_eq!(read_nodes(&memory[4096..]), Ok(vec![Operation::Delete { phandle: 0x2a }]));
+//! ```
+
+#![deny(unsafe_code)]
+#![warn(missing_docs)]
+
+pub mod args;
+mod calling;
+mod ffi;
+mod reading;
+mod registration;
+
+pub use calling::{call, Answer, Fault};
+pub use reading::{read_indices, read_nodes, read_state, Entry, Operation, Reason, Refusal};
+pub use registration::{Phase, Registration};

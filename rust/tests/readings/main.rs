@@ -1,0 +1,7 @@
+//! The readings of document 01, through the safe interface.
+
+mod arguments;
+mod dump;
+mod indices;
+mod nodes;
+mod partition;

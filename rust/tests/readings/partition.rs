@@ -1,0 +1,32 @@
+//! A partition with the buffers that its calls take.
+
+use draugsten::{args, call, Answer, Fault, Registration};
+
+/// Where the node area starts in memory.
+pub const NODE_AREA: usize = 4096;
+
+pub struct Partition {
+    pub memory: Vec<u8>,
+    pub journal: Vec<u8>,
+    pub inventory: Vec<u8>,
+    pub registration: Registration,
+}
+
+impl Partition {
+    /// Two pages of zero bytes, an empty journal and inventory, nothing registered.
+    pub fn new() -> Partition {
+        Partition { memory: vec![0; 8192], journal: vec![], inventory: vec![], registration: Registration::none() }
+    }
+
+    pub fn call(&mut self, args: &mut [u8]) -> Result<Answer, Fault> {
+        call(args, &mut self.memory, &self.journal, &self.inventory, &mut self.registration)
+    }
+
+    pub fn update_nodes(&mut self, scope: i32) -> Result<Answer, Fault> {
+        self.call(&mut args::update_nodes(NODE_AREA as u32, scope))
+    }
+
+    pub fn node_area(&self) -> &[u8] {
+        &self.memory[NODE_AREA..]
+    }
+}
