@@ -1,8 +1,21 @@
-//! Links the proved scans, which `rt staticlib bench` writes at the repository's root.
+//! Links the archives that `rt staticlib bench` and `rt staticlib draugsten` write at the repository's root.
+
+use std::env;
 
 fn main() {
     let root = concat!(env!("CARGO_MANIFEST_DIR"), "/../target/staticlib");
-    println!("cargo:rerun-if-changed={root}/libbench.a");
+    println!("cargo:rerun-if-changed=build.rs");
     println!("cargo:rustc-link-search=native={root}");
-    println!("cargo:rustc-link-lib=static=bench");
+    for archive in archives() {
+        println!("cargo:rerun-if-changed={root}/lib{archive}.a");
+        println!("cargo:rustc-link-lib=static={archive}");
+    }
+}
+
+fn archives() -> &'static [&'static str] {
+    if env::var_os("CARGO_FEATURE_STAND_IN").is_some() {
+        &["bench"]
+    } else {
+        &["draugsten", "bench"]
+    }
 }

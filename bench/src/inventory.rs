@@ -1,6 +1,6 @@
 //! The inventories that are measured.
 
-use crate::journal::LIMIT;
+use crate::interface::LIMIT;
 use crate::random::Xorshift;
 
 /// The flag of every entry: a sensor.

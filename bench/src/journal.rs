@@ -1,9 +1,7 @@
 //! The journals that are measured.
 
+use crate::interface::LIMIT;
 use crate::random::Xorshift;
-
-/// The largest journal, in bytes.
-pub const LIMIT: usize = 1_048_576;
 
 fn push(journal: &mut Vec<u8>, kind: u16, node: u16, operands: u64) {
     let length: u16 = if kind == 3 { 12 } else { 8 };

@@ -1,131 +1,116 @@
-//! Measures the proved scans of a journal and of an inventory beside three ways in Rust to go over the same bytes.
+//! Measures the proved library beside straightforward Rust, the independent program, and bare ways to go over the same
+//! bytes, all in one run.
 
+mod bare;
+mod check;
+mod independent;
+mod inputs;
+mod interface;
 mod inventory;
 mod journal;
+mod library;
+mod partition;
+mod plain;
 mod random;
-mod scans;
+mod report;
+mod rows;
+mod timing;
 
-use scans::inventory::Asked;
-use std::hint::black_box;
-use std::time::Instant;
+use inputs::Inputs;
+use report::Measured;
+use rows::{get_indices, growth, readers, scans, update_nodes, Row};
+use std::path::PathBuf;
+use std::process::ExitCode;
+use std::time::Duration;
+use timing::Effort;
 
-type Scan<'a> = &'a dyn Fn(&[u8]) -> u64;
+const USAGE: &str = "usage: draugsten-bench [--quick] [--write=FOLDER]
+  --quick         fewer turns
+  --write=FOLDER  write BENCH.md and bench.svg there";
 
-const SCOPE: u32 = 1;
-const WARM_UP: usize = 50;
-const REPETITIONS: usize = 501;
+const FULL: Effort = Effort { time: Duration::from_millis(700), least: 9, most: 501 };
+const QUICK: Effort = Effort { time: Duration::from_millis(20), least: 3, most: 51 };
 
-/// Holds the proved scan to the straightforward one, over the whole journal and with its last byte cut off.
-fn check_journal(journal: &[u8]) {
-    let cut = &journal[..journal.len() - 1];
-    assert_eq!(scans::journal::proved(cut, SCOPE), scans::MALFORMED);
-    for scope in [u32::MAX, 1, 2, 3] {
-        assert_ne!(scans::journal::proved(journal, scope), scans::MALFORMED);
-        for bytes in [journal, cut] {
-            let straightforward = scans::journal::fused(bytes, scope);
-            assert_eq!(scans::journal::proved(bytes, scope), straightforward);
+struct Options {
+    effort: Effort,
+    folder: Option<PathBuf>,
+}
+
+fn options(words: impl Iterator<Item = String>) -> Option<Options> {
+    let mut options = Options { effort: FULL, folder: None };
+    for word in words {
+        match word.split_once('=') {
+            None if word == "--quick" => options.effort = QUICK,
+            Some(("--write", folder)) => options.folder = Some(folder.into()),
+            _ => return None,
         }
     }
+    Some(options)
 }
 
-/// As above, for an inventory; it is also held to it with a zero for its last byte.
-fn check_inventory(inventory: &[u8], asked: Asked) {
-    let cut = &inventory[..inventory.len() - 1];
-    let zero = [cut, &[0]].concat();
-    for bytes in [cut, &zero] {
-        assert_eq!(scans::inventory::proved(bytes, asked), scans::MALFORMED);
-        assert_eq!(scans::inventory::fused(bytes, asked), scans::MALFORMED);
+/// Measures all rows, and tells each. The calls were checked before; the scans and readings are checked on the way.
+fn rows(inputs: &Inputs, effort: Effort, mut tell: impl FnMut(Row)) {
+    for (name, journal) in &inputs.journals {
+        tell(scans::journal(name, journal, effort));
     }
-    for flag in [0, 1, 2] {
-        for kind in [0, 1, asked.kind] {
-            let asked = Asked {
-                flag,
-                kind,
-                ..asked
-            };
-            let straightforward = scans::inventory::fused(inventory, asked);
-            assert_eq!(scans::inventory::proved(inventory, asked), straightforward);
+    for (name, inventory, asked) in &inputs.inventories {
+        tell(scans::inventory(name, inventory, *asked, effort));
+    }
+    for measure in [update_nodes::one_call, update_nodes::session] {
+        for (name, journal) in &inputs.journals {
+            tell(measure(name, journal, effort));
         }
     }
-}
-
-/// The median time of each scan in microseconds; they take turns.
-fn measure(scans: [Scan; 4], bytes: &[u8]) -> [f64; 4] {
-    let mut times = scans.map(|_| Vec::with_capacity(REPETITIONS));
-    for turn in 0..WARM_UP + REPETITIONS {
-        for (scan, times) in scans.iter().zip(&mut times) {
-            let start = Instant::now();
-            black_box(scan(black_box(bytes)));
-            let time = start.elapsed();
-            if turn >= WARM_UP {
-                times.push(time);
-            }
+    for measure in [get_indices::one_call, get_indices::session] {
+        for (name, inventory, asked) in &inputs.inventories {
+            tell(measure(name, inventory, *asked, effort));
         }
     }
-    times.map(|mut times| {
-        times.sort();
-        times[REPETITIONS / 2].as_secs_f64() * 1e6
-    })
-}
-
-/// Measures the two scans of these bytes, and the two bare ways beside them, and prints a row.
-fn print_row(name: &str, bytes: &[u8], fused: Scan, proved: Scan) {
-    let records = scans::stepping(bytes);
-    let [a, b, c, d] = measure([&scans::stepping, &scans::streaming, fused, proved], bytes);
-    println!(
-        "{name:34} {:>8} {records:>8} {a:>10.1} {b:>10.1} {c:>10.1} {d:>10.1} {:>6.2} {:>6.2}",
-        bytes.len(),
-        d / a,
-        d / c
-    );
-}
-
-fn print_journals() {
-    let journals = [
-        ("journal, uniform", journal::uniform()),
-        ("journal, mixed", journal::mixed(journal::LIMIT)),
-        ("journal, mixed", journal::mixed(57_600)),
-    ];
-    for (name, journal) in &journals {
-        check_journal(journal);
-        print_row(
-            name,
-            journal,
-            &|bytes| scans::journal::fused(bytes, black_box(SCOPE)),
-            &|bytes| scans::journal::proved(bytes, black_box(SCOPE)),
-        );
+    for (name, area) in &inputs.node_areas {
+        tell(readers::nodes(name, area, effort));
+    }
+    for (name, area) in &inputs.index_areas {
+        tell(readers::indices(name, area, effort));
     }
 }
 
-/// The last type is asked for, and the entry in the middle of its list.
-fn print_inventories() {
-    for (length, kinds) in [(79, 1), (79, 16), (20, 1), (8, 1)] {
-        let inventory = inventory::sensors(length, kinds);
-        let types = if kinds == 1 { "type" } else { "types" };
-        let flag = u32::from(inventory::FLAG);
-        let mut asked = Asked {
-            flag,
-            kind: kinds as u32,
-            number: 1,
-        };
-        asked.number = scans::inventory::fused(&inventory, asked) as u32 / 2;
-        check_inventory(&inventory, asked);
-        print_row(
-            &format!("inventory, {length}-byte codes, {kinds} {types}"),
-            &inventory,
-            &|bytes| scans::inventory::fused(bytes, black_box(asked)),
-            &|bytes| scans::inventory::proved(bytes, black_box(asked)),
-        );
+/// Holds the sides to each other over the calls that are measured.
+fn check_calls(inputs: &Inputs) {
+    check::no_registration();
+    for (_, journal) in &inputs.journals {
+        check::update_nodes(journal);
+    }
+    for (_, inventory, asked) in &inputs.inventories {
+        check::get_indices(inventory, *asked);
     }
 }
 
-fn main() {
-    println!("microseconds, median of {REPETITIONS}, scope {SCOPE}, last type");
-    println!("{:63}(a)        (b)        (c)        (d)", "");
-    println!(
-        "{:34}    bytes  records   stepping  streaming      fused     proved    d/a    d/c",
-        "scan"
-    );
-    print_journals();
-    print_inventories();
+fn measure(effort: Effort) -> Measured {
+    let inputs = inputs::inputs();
+    check_calls(&inputs);
+    report::print_heading(effort);
+    let mut told = Vec::new();
+    rows(&inputs, effort, |row| {
+        report::print_row(&row);
+        told.push(row);
+    });
+    let growth = growth::growth(effort);
+    report::print_growth(&growth);
+    Measured { machine: report::machine(), effort, rows: told, growth }
+}
+
+fn main() -> ExitCode {
+    let Some(options) = options(std::env::args().skip(1)) else {
+        eprintln!("{USAGE}");
+        return ExitCode::from(2);
+    };
+    let measured = measure(options.effort);
+    let Some(folder) = options.folder else {
+        return ExitCode::SUCCESS;
+    };
+    if let Err(error) = report::write(&folder, &measured) {
+        eprintln!("draugsten-bench: {}: {error}", folder.display());
+        return ExitCode::FAILURE;
+    }
+    ExitCode::SUCCESS
 }

@@ -1,27 +1,31 @@
-//! The scans of a journal: how many operations a scope reports.
+//! The journal: what a scope reports, and the scan.
 
-use super::{le16, MALFORMED};
-use crate::journal::LIMIT;
+use super::words::le16;
+use crate::interface::{LIMIT, MALFORMED};
 
-/// The sets that a scope reports, by node type: negative scopes, scope 1, scope 2. Delete is 1, update 2, add 4.
-const ROWS: [[u8; 15]; 3] = [
+/// The sets that a scope reports, by node type. Delete is 1, update 2, add 4.
+pub type Row = [u8; 15];
+
+/// The rows of the negative scopes, of scope 1 and of scope 2.
+const ROWS: [Row; 3] = [
     [0, 0, 0, 0, 0, 2, 0, 0, 2, 2, 7, 7, 7, 7, 7],
     [0, 2, 2, 2, 2, 2, 7, 2, 2, 7, 7, 7, 7, 7, 7],
     [0, 0, 0, 2, 0, 0, 0, 0, 0, 0, 0, 0, 0, 0, 0],
 ];
 
-fn row(scope: u32) -> [u8; 15] {
+/// The row of a valid scope.
+pub fn row(scope: u32) -> Option<&'static Row> {
     match scope {
-        0x8000_0000.. => ROWS[0],
-        1 => ROWS[1],
-        2 => ROWS[2],
-        _ => [0; 15],
+        0x8000_0000.. => Some(&ROWS[0]),
+        1 => Some(&ROWS[1]),
+        2 => Some(&ROWS[2]),
+        _ => None,
     }
 }
 
 /// Judges every record and counts the deletes, updates and additions that the row reports.
 #[inline(never)]
-fn counts(journal: &[u8], row: &[u8; 15]) -> Option<[u64; 3]> {
+pub fn counts(journal: &[u8], row: &Row) -> Option<[usize; 3]> {
     if journal.len() > LIMIT {
         return None;
     }
@@ -36,7 +40,7 @@ fn counts(journal: &[u8], row: &[u8; 15]) -> Option<[u64; 3]> {
         if !(1..=14).contains(&node) {
             return None;
         }
-        let set = u64::from(row[usize::from(node)]);
+        let set = usize::from(row[usize::from(node)]);
         let length = le16(rest, 0);
         match le16(rest, 2) {
             1 if length == 8 => deletes += set & 1,
@@ -53,17 +57,8 @@ fn counts(journal: &[u8], row: &[u8; 15]) -> Option<[u64; 3]> {
     Some([deletes, updates, additions])
 }
 
-/// The straightforward scan: how many operations the scope reports, all in one pass.
-pub fn fused(journal: &[u8], scope: u32) -> u64 {
-    counts(journal, &row(scope)).map_or(MALFORMED, |counts| counts.iter().sum())
-}
-
-extern "C" {
-    fn draugsten_bench_scan(journal: *const u8, length: usize, scope: u32) -> u64;
-}
-
-/// The proved scan, which answers as `fused` does.
-pub fn proved(journal: &[u8], scope: u32) -> u64 {
-    // SAFETY: the function reads the slice that is lent to it, writes nothing of ours, and keeps no pointer.
-    unsafe { draugsten_bench_scan(journal.as_ptr(), journal.len(), scope) }
+/// How many operations the scope reports, all counted in one pass.
+pub fn scan(journal: &[u8], scope: u32) -> u64 {
+    let row = row(scope).unwrap_or(&[0; 15]);
+    counts(journal, row).map_or(MALFORMED, |counts| counts.iter().sum::<usize>() as u64)
 }

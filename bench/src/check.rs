@@ -1,0 +1,154 @@
+//! Holds the three sides to each other before they are measured: every answer and every byte.
+
+use crate::interface::{Asked, Side, MALFORMED, SIDES};
+use crate::partition::{Partition, AREA_SIZE, SCOPE};
+use std::fmt::Debug;
+
+/// What all sides answer; panics where they differ.
+fn same<T: PartialEq + Debug>(what: &str, answer: impl Fn(&Side) -> T) -> T {
+    let [first, second, third] = SIDES.each_ref().map(answer);
+    let [a, b, c] = SIDES.each_ref().map(|side| side.name);
+    assert!(first == third, "{what}: {a} {first:?}, {c} {third:?}");
+    assert!(second == third, "{what}: {b} {second:?}, {c} {third:?}");
+    third
+}
+
+/// The registration that a partition starts with.
+pub fn no_registration() {
+    same("no registration", |side| (side.no_registration)());
+}
+
+/// The scan of a journal, whole and with its last byte cut off.
+pub fn journal_scan(journal: &[u8]) {
+    let cut = &journal[..journal.len() - 1];
+    for scope in [u32::MAX, 1, 2, 3] {
+        assert_ne!(same("scan", |side| (side.scan_journal)(journal, scope)), MALFORMED);
+        assert_eq!(same("scan", |side| (side.scan_journal)(cut, scope)), MALFORMED);
+    }
+}
+
+/// The inventory with its last byte cut off, and with a zero for its last byte.
+fn malformed(inventory: &[u8]) -> [Vec<u8>; 2] {
+    let cut = &inventory[..inventory.len() - 1];
+    [cut.to_vec(), [cut, &[0]].concat()]
+}
+
+/// The scan of an inventory, of a good one and of malformed ones.
+pub fn inventory_scan(inventory: &[u8], asked: Asked) {
+    for bytes in malformed(inventory) {
+        assert_eq!(same("scan", |side| (side.scan_inventory)(&bytes, asked)), MALFORMED);
+    }
+    for flag in [0, 1, 2] {
+        for kind in [0, 1, asked.kind] {
+            let asked = Asked { flag, kind, ..asked };
+            same("scan", |side| (side.scan_inventory)(inventory, asked));
+        }
+    }
+}
+
+/// One call on every side from the same bytes. The partition is left as the call leaves it; gives the status.
+fn call(partition: &mut Partition) -> i32 {
+    let [first, second, third] = SIDES.each_ref().map(|side| {
+        let mut own = partition.clone();
+        let number = own.call(side);
+        (number, own)
+    });
+    assert!(first == third && second == third, "a call's answer, its bytes or its registration differ");
+    assert_eq!(third.0, 0);
+    *partition = third.1;
+    partition.status()
+}
+
+/// A refused call: all sides give the status and leave the same bytes.
+fn refusal(partition: &Partition, status: i32, change: impl Fn(&mut Partition)) {
+    let mut own = partition.clone();
+    own.begin_session();
+    change(&mut own);
+    assert_eq!(call(&mut own), status);
+}
+
+/// A whole session, call by call.
+fn session(mut partition: Partition) {
+    partition.begin_session();
+    while call(&mut partition) == 1 {
+        partition.carry_on();
+    }
+    assert_eq!(partition.status(), 0);
+}
+
+/// The calls of a session of update-nodes, and a refusal by each rule.
+pub fn update_nodes(journal: &[u8]) {
+    let partition = Partition::of_journal(journal);
+    let cut = Partition::of_journal(&journal[..journal.len() - 1]);
+    let length = (SIDES[0].scan_journal)(journal, SCOPE) as u32;
+    refusal(&partition, -3, |own| own.put_word(12, 1));
+    refusal(&partition, -3, |own| own.put_word(12, 3 * AREA_SIZE as u32));
+    refusal(&partition, -3, |own| own.put_word(16, 3));
+    refusal(&cut, -1, |_| ());
+    refusal(&partition, -3, |own| own.area()[15] = 1);
+    refusal(&partition, -3, |own| own.begin(length));
+    session(partition);
+}
+
+/// The calls of a session of get-indices, and a refusal by each rule.
+pub fn get_indices(inventory: &[u8], asked: Asked) {
+    let partition = Partition::of_inventory(inventory, asked);
+    let count = (SIDES[0].scan_inventory)(inventory, asked) as u32;
+    refusal(&partition, -3, |own| own.put_word(12, 2));
+    for kind in [9003, asked.kind + 1] {
+        refusal(&partition, -3, |own| own.put_word(16, kind));
+    }
+    for size in [3, 15, u32::MAX] {
+        refusal(&partition, -3, |own| own.put_word(24, size));
+    }
+    for bytes in malformed(inventory) {
+        refusal(&Partition::of_inventory(&bytes, asked), -1, |_| ());
+    }
+    for number in [0, count + 1, 0x8000_0000] {
+        refusal(&partition, -3, |own| own.begin(number));
+    }
+    session(partition);
+}
+
+/// The reading of a node area: it is good, and refused where it is short of a byte, or where the reserved bytes, the
+/// first operator's opcode or its number of operands is changed.
+pub fn read_nodes(area: &[u8], room: usize) {
+    let refused = |what: &str, bytes: &[u8]| {
+        let reading = same(what, |side| read_nodes_with(side, bytes, room)).0;
+        assert_ne!(reading, 0, "{what}");
+    };
+    assert_eq!(same("reading", |side| read_nodes_with(side, area, room)).0, 0);
+    same("reading", |side| read_nodes_with(side, area, room / 2));
+    refused("short", &area[..area.len() - 1]);
+    for at in [15, 16, 19] {
+        let mut changed = area.to_vec();
+        changed[at] ^= 0x80;
+        refused("changed", &changed);
+    }
+}
+
+fn read_nodes_with(side: &Side, area: &[u8], room: usize) -> (u32, Vec<u32>) {
+    let mut out = vec![0xa5a5_a5a5; room];
+    let reading = (side.read_nodes)(area, &mut out);
+    out.extend([reading.state, reading.offset as u32, reading.entries as u32]);
+    (reading.refusal, out)
+}
+
+/// The reading of an index area: it is good, and refused where a length, a code or the count is changed.
+pub fn read_indices(area: &[u8], room: usize) {
+    assert_eq!(same("reading", |side| read_indices_with(side, area, room)).0, 0);
+    same("reading", |side| read_indices_with(side, area, room / 2));
+    for (at, byte) in [(1, 1), (11, 81), (11, 84), (12, 0)] {
+        let mut changed = area.to_vec();
+        changed[at] = byte;
+        let reading = same("changed", |side| read_indices_with(side, &changed, room));
+        assert_ne!(reading.0, 0);
+    }
+}
+
+fn read_indices_with(side: &Side, area: &[u8], room: usize) -> (u32, Vec<u64>) {
+    let mut out = vec![0xa5a5_a5a5; room];
+    let reading = (side.read_indices)(area, &mut out);
+    out.extend([reading.offset as u64, reading.entries as u64]);
+    (reading.refusal, out)
+}

@@ -1,0 +1,99 @@
+//! The independent side: document 01 written out plainly (compare/src/paper), which is not meant to be fast.
+
+use crate::interface::{Answer, Asked, IndexReading, NodeReading, Registration, Side, MALFORMED};
+use draugsten_compare::paper::{self, readers, records, scope, Phase};
+
+pub const SIDE: Side =
+    Side { name: "independent", scan_journal, scan_inventory, no_registration, call, read_nodes, read_indices };
+
+fn scan_journal(journal: &[u8], scope: u32) -> u64 {
+    let Ok(changes) = records::journal(journal) else {
+        return MALFORMED;
+    };
+    let row = scope::row(u64::from(scope));
+    row.map_or(0, |row| scope::reportable_list(&changes, &row).len() as u64)
+}
+
+fn scan_inventory(inventory: &[u8], asked: Asked) -> u64 {
+    let Ok(entries) = records::inventory(inventory) else {
+        return MALFORMED;
+    };
+    let (flag, kind) = (u64::from(asked.flag), u64::from(asked.kind));
+    let wanted = entries.iter().filter(|entry| entry.flag == flag && entry.kind == kind);
+    wanted.count() as u64
+}
+
+/// The registration that a partition starts with.
+pub fn no_registration() -> Registration {
+    Registration { phase: 0, length: 0, copy: [0; 512] }
+}
+
+pub fn call(
+    args: &mut [u8],
+    memory: &mut [u8],
+    journal: &[u8],
+    inventory: &[u8],
+    registration: Registration,
+) -> Answer {
+    let Some(given) = for_paper(&registration) else {
+        return Answer { number: 13, registration };
+    };
+    let told = paper::call(args, memory, journal, inventory, given);
+    Answer { number: told.number, registration: from_paper(&told.registration) }
+}
+
+fn for_paper(flat: &Registration) -> Option<paper::Registration> {
+    let phase = match flat.phase {
+        0 => Phase::None,
+        1 => Phase::Registered,
+        2 => Phase::Active,
+        _ => return None,
+    };
+    let length = u32::try_from(flat.length).ok().filter(|&length| length <= 512)?;
+    Some(paper::Registration { phase, length, copy: flat.copy })
+}
+
+fn from_paper(registration: &paper::Registration) -> Registration {
+    let phase = match registration.phase {
+        Phase::None => 0,
+        Phase::Registered => 1,
+        Phase::Active => 2,
+    };
+    Registration { phase, length: registration.length as usize, copy: registration.copy }
+}
+
+/// As many whole entries as there is room for.
+fn put_entries<T: Copy>(out: &mut [T], entries: impl Iterator<Item = [T; 3]>) {
+    for (place, entry) in out.chunks_exact_mut(3).zip(entries) {
+        place.copy_from_slice(&entry);
+    }
+}
+
+pub fn read_nodes(area: &[u8], out: &mut [u32]) -> NodeReading {
+    match readers::read_nodes(area) {
+        Ok(nodes) => {
+            let operations = nodes.operations.iter();
+            put_entries(out, operations.map(|each| [each.opcode, each.first, each.second]));
+            let entries = nodes.operations.len();
+            NodeReading { refusal: 0, state: nodes.state, offset: 0, entries }
+        }
+        Err(refused) => {
+            let offset = refused.offset as usize;
+            NodeReading { refusal: refused.number, state: 0, offset, entries: 0 }
+        }
+    }
+}
+
+pub fn read_indices(area: &[u8], out: &mut [u64]) -> IndexReading {
+    match readers::read_indices(area) {
+        Ok(sets) => {
+            let sets_out = sets.iter();
+            put_entries(out, sets_out.map(|set| [u64::from(set.index), set.code_at, set.code_length]));
+            IndexReading { refusal: 0, offset: 0, entries: sets.len() }
+        }
+        Err(refused) => {
+            let offset = refused.offset as usize;
+            IndexReading { refusal: refused.number, offset, entries: 0 }
+        }
+    }
+}

@@ -1,0 +1,43 @@
+//! The journals, inventories and work areas that are measured, with their names.
+
+use crate::interface::{Asked, LIMIT, SIDES};
+use crate::partition::Partition;
+use crate::{inventory, journal};
+
+pub struct Inputs {
+    pub journals: Vec<(&'static str, Vec<u8>)>,
+    pub inventories: Vec<(String, Vec<u8>, Asked)>,
+    pub node_areas: Vec<(&'static str, Vec<u8>)>,
+    pub index_areas: Vec<(String, Vec<u8>)>,
+}
+
+pub fn inputs() -> Inputs {
+    let journals =
+        vec![("uniform", journal::uniform()), ("mixed", journal::mixed(LIMIT)), ("mixed", journal::mixed(57_600))];
+    let inventories: Vec<_> = [(79, 1), (79, 16), (20, 1), (8, 1)].map(full_inventory).into();
+    let node_areas =
+        vec![("deletes", node_area(&journal::uniform())), ("all three opcodes", node_area(&journal::mixed(14_000)))];
+    let index_areas = [&inventories[0], &inventories[3]].map(|(name, bytes, asked)| {
+        let mut partition = Partition::of_inventory(bytes, *asked);
+        partition.answered_call(&SIDES[0], asked.number);
+        (name.clone(), partition.area().to_vec())
+    });
+    Inputs { journals, inventories, node_areas, index_areas: index_areas.into() }
+}
+
+/// A full inventory with codes of this length and so many types. The last type is asked for, and of its list the entry
+/// in the middle.
+fn full_inventory((length, kinds): (usize, u32)) -> (String, Vec<u8>, Asked) {
+    let inventory = inventory::sensors(length, u64::from(kinds));
+    let mut asked = Asked { flag: u32::from(inventory::FLAG), kind: kinds, number: 1 };
+    asked.number = (SIDES[0].scan_inventory)(&inventory, asked) as u32 / 2;
+    let types = if kinds == 1 { "type" } else { "types" };
+    (format!("{length}-byte codes, {kinds} {types}"), inventory, asked)
+}
+
+/// The area that the first call over a journal fills.
+fn node_area(journal: &[u8]) -> Vec<u8> {
+    let mut partition = Partition::of_journal(journal);
+    partition.answered_call(&SIDES[0], 0);
+    partition.area().to_vec()
+}

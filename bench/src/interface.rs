@@ -1,0 +1,74 @@
+//! The library's interface: what its functions take and give.
+
+/// The largest journal and the largest inventory, in bytes.
+pub const LIMIT: usize = 1_048_576;
+
+/// The size of a node work area, in bytes.
+pub const NODE_AREA: usize = 4096;
+
+/// The answer of a scan for malformed bytes.
+pub const MALFORMED: u64 = u64::MAX;
+
+/// The registration of a kernel dump: phase 0 none, 1 registered, 2 active.
+#[repr(C)]
+#[derive(Clone, Copy, PartialEq, Eq, Debug)]
+pub struct Registration {
+    pub phase: u32,
+    pub length: usize,
+    pub copy: [u8; 512],
+}
+
+/// The number of a call, and the registration afterwards.
+#[repr(C)]
+#[derive(Clone, Copy, PartialEq, Eq, Debug)]
+pub struct Answer {
+    pub number: u32,
+    pub registration: Registration,
+}
+
+/// What a node area tells: a refusal with its offset, or the state and the number of operations.
+#[repr(C)]
+#[derive(Clone, Copy, PartialEq, Eq, Debug)]
+pub struct NodeReading {
+    pub refusal: u32,
+    pub state: u32,
+    pub offset: usize,
+    pub entries: usize,
+}
+
+/// What an index area tells: a refusal with its offset, or the number of entries.
+#[repr(C)]
+#[derive(Clone, Copy, PartialEq, Eq, Debug)]
+pub struct IndexReading {
+    pub refusal: u32,
+    pub offset: usize,
+    pub entries: usize,
+}
+
+/// The entries of an inventory that are asked for. They are numbered from 1.
+#[derive(Clone, Copy)]
+pub struct Asked {
+    pub flag: u32,
+    pub kind: u32,
+    pub number: u32,
+}
+
+/// A call with its argument buffer, memory, journal, inventory and registration.
+pub type Call = fn(&mut [u8], &mut [u8], &[u8], &[u8], Registration) -> Answer;
+
+/// One implementation of the rules. A scan answers how many operations or entries there are.
+pub struct Side {
+    pub name: &'static str,
+    pub scan_journal: fn(&[u8], u32) -> u64,
+    pub scan_inventory: fn(&[u8], Asked) -> u64,
+    /// The registration that a partition starts with.
+    pub no_registration: fn() -> Registration,
+    pub call: Call,
+    /// Three words for each operation: opcode, first operand, second operand or 0.
+    pub read_nodes: fn(&[u8], &mut [u32]) -> NodeReading,
+    /// Three numbers for each entry: index, place of the code in the area, length of the code without its NULs.
+    pub read_indices: fn(&[u8], &mut [u64]) -> IndexReading,
+}
+
+/// The three sides: straightforward Rust, the independent program, and the proved library.
+pub static SIDES: [Side; 3] = [crate::plain::SIDE, crate::independent::SIDE, crate::library::SIDE];

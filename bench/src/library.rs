@@ -1,0 +1,101 @@
+//! The proved side: the two archives over their C interface. With the feature `stand-in` there is no libdraugsten.a,
+//! and the independent program answers in its place, but for the scans.
+
+use crate::interface::{Asked, Side};
+
+#[cfg(feature = "stand-in")]
+use crate::independent::{call, no_registration, read_indices, read_nodes};
+#[cfg(not(feature = "stand-in"))]
+use archive::{call, no_registration, read_indices, read_nodes};
+
+/// Whether the library itself is measured.
+pub const REAL: bool = cfg!(not(feature = "stand-in"));
+
+pub const SIDE: Side = Side {
+    name: if REAL { "proved" } else { "stand-in" },
+    scan_journal,
+    scan_inventory,
+    no_registration,
+    call,
+    read_nodes,
+    read_indices,
+};
+
+extern "C" {
+    fn draugsten_bench_scan(journal: *const u8, length: usize, scope: u32) -> u64;
+    fn draugsten_bench_inventory(inventory: *const u8, length: usize, flag: u32, kind: u32, number: u32) -> u64;
+}
+
+fn scan_journal(journal: &[u8], scope: u32) -> u64 {
+    // SAFETY: the function reads the slice that is lent to it, writes nothing of ours, and keeps no pointer.
+    unsafe { draugsten_bench_scan(journal.as_ptr(), journal.len(), scope) }
+}
+
+fn scan_inventory(inventory: &[u8], asked: Asked) -> u64 {
+    let (bytes, length) = (inventory.as_ptr(), inventory.len());
+    // SAFETY: as above.
+    unsafe { draugsten_bench_inventory(bytes, length, asked.flag, asked.kind, asked.number) }
+}
+
+#[cfg(not(feature = "stand-in"))]
+mod archive {
+    use crate::interface::{Answer, IndexReading, NodeReading, Registration};
+
+    extern "C" {
+        fn draugsten_no_registration() -> Registration;
+
+        fn draugsten_call(
+            args: *mut u8,
+            args_len: usize,
+            memory: *mut u8,
+            memory_len: usize,
+            journal: *const u8,
+            journal_len: usize,
+            inventory: *const u8,
+            inventory_len: usize,
+            registration: Registration,
+        ) -> Answer;
+
+        fn draugsten_read_nodes(area: *const u8, area_len: usize, out: *mut u32, out_len: usize) -> NodeReading;
+
+        fn draugsten_read_indices(area: *const u8, area_len: usize, out: *mut u64, out_len: usize) -> IndexReading;
+    }
+
+    pub fn no_registration() -> Registration {
+        // SAFETY: the function takes nothing.
+        unsafe { draugsten_no_registration() }
+    }
+
+    pub fn call(
+        args: &mut [u8],
+        memory: &mut [u8],
+        journal: &[u8],
+        inventory: &[u8],
+        registration: Registration,
+    ) -> Answer {
+        // SAFETY: each pointer comes with the length of the slice that it was taken from, and none is kept.
+        unsafe {
+            draugsten_call(
+                args.as_mut_ptr(),
+                args.len(),
+                memory.as_mut_ptr(),
+                memory.len(),
+                journal.as_ptr(),
+                journal.len(),
+                inventory.as_ptr(),
+                inventory.len(),
+                registration,
+            )
+        }
+    }
+
+    pub fn read_nodes(area: &[u8], out: &mut [u32]) -> NodeReading {
+        // SAFETY: as above.
+        unsafe { draugsten_read_nodes(area.as_ptr(), area.len(), out.as_mut_ptr(), out.len()) }
+    }
+
+    pub fn read_indices(area: &[u8], out: &mut [u64]) -> IndexReading {
+        // SAFETY: as above.
+        unsafe { draugsten_read_indices(area.as_ptr(), area.len(), out.as_mut_ptr(), out.len()) }
+    }
+}

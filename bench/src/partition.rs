@@ -1,0 +1,117 @@
+//! A partition that makes calls: its argument buffer, memory and registration, and what the platform has for it.
+
+use crate::interface::{Asked, Registration, Side};
+use crate::library;
+
+/// The scope of every update-nodes call.
+pub const SCOPE: u32 = 1;
+/// The place and the size of every work area.
+pub const AREA_AT: usize = 4096;
+pub const AREA_SIZE: usize = 4096;
+
+/// The token of update-nodes; the other calls are of get-indices.
+const UPDATE_NODES: u32 = 1;
+const GET_INDICES: u32 = 2;
+/// Where get-indices has its Starting Number and its outputs.
+const STARTING_NUMBER: usize = 28;
+const NEXT_NUMBER: usize = 36;
+
+#[derive(Clone, PartialEq)]
+pub struct Partition<'a> {
+    pub args: Vec<u8>,
+    pub memory: Vec<u8>,
+    pub journal: &'a [u8],
+    pub inventory: &'a [u8],
+    pub registration: Registration,
+}
+
+impl<'a> Partition<'a> {
+    fn new(args: &[u32], journal: &'a [u8], inventory: &'a [u8]) -> Partition<'a> {
+        Partition {
+            args: args.iter().flat_map(|word| word.to_be_bytes()).collect(),
+            memory: vec![0xa5; AREA_AT + 2 * AREA_SIZE],
+            journal,
+            inventory,
+            registration: (library::SIDE.no_registration)(),
+        }
+    }
+
+    /// A partition that asks for the node updates of a journal.
+    pub fn of_journal(journal: &'a [u8]) -> Partition<'a> {
+        Partition::new(&[UPDATE_NODES, 2, 1, AREA_AT as u32, SCOPE, 0], journal, &[])
+    }
+
+    /// A partition that asks for entries of an inventory.
+    pub fn of_inventory(inventory: &'a [u8], asked: Asked) -> Partition<'a> {
+        let (at, size) = (AREA_AT as u32, AREA_SIZE as u32);
+        let args = [GET_INDICES, 5, 2, asked.flag, asked.kind, at, size, asked.number, 0, 0];
+        Partition::new(&args, &[], inventory)
+    }
+
+    pub fn word(&self, at: usize) -> u32 {
+        u32::from_be_bytes(self.args[at..at + 4].try_into().unwrap())
+    }
+
+    pub fn put_word(&mut self, at: usize, word: u32) {
+        self.args[at..at + 4].copy_from_slice(&word.to_be_bytes());
+    }
+
+    pub fn area(&mut self) -> &mut [u8] {
+        &mut self.memory[AREA_AT..AREA_AT + AREA_SIZE]
+    }
+
+    /// Makes ready for a call from a state or a Starting Number on.
+    pub fn begin(&mut self, from: u32) {
+        if self.word(0) == UPDATE_NODES {
+            self.area()[..16].fill(0);
+            self.area()[..4].copy_from_slice(&from.to_be_bytes());
+        } else {
+            self.put_word(STARTING_NUMBER, from);
+        }
+    }
+
+    /// Makes ready for the first call of a session.
+    pub fn begin_session(&mut self) {
+        self.begin(if self.word(0) == UPDATE_NODES { 0 } else { 1 });
+    }
+
+    /// Makes ready for the call after an answered one.
+    pub fn carry_on(&mut self) {
+        if self.word(0) == GET_INDICES {
+            self.put_word(STARTING_NUMBER, self.word(NEXT_NUMBER));
+        }
+    }
+
+    /// One call, which gives its number.
+    pub fn call(&mut self, side: &Side) -> u32 {
+        let (journal, inventory) = (self.journal, self.inventory);
+        let answer = (side.call)(&mut self.args, &mut self.memory, journal, inventory, self.registration);
+        self.registration = answer.registration;
+        answer.number
+    }
+
+    /// The status of the last call.
+    pub fn status(&self) -> i32 {
+        self.word(12 + 4 * self.word(4) as usize) as i32
+    }
+
+    /// One call that is answered, from a state or a Starting Number on.
+    pub fn answered_call(&mut self, side: &Side, from: u32) -> u64 {
+        self.begin(from);
+        let number = self.call(side);
+        assert!(number == 0 && self.status() >= 0);
+        self.status() as u64
+    }
+
+    /// Calls until one says done. Gives their number.
+    pub fn session(&mut self, side: &Side) -> u64 {
+        self.begin_session();
+        let mut calls = 1;
+        while self.call(side) == 0 && self.status() == 1 {
+            self.carry_on();
+            calls += 1;
+        }
+        assert_eq!(self.status(), 0);
+        calls
+    }
+}

@@ -1,0 +1,49 @@
+//! The inventory: its records, and the scan.
+
+use super::words::{le16, le32};
+use crate::interface::{Asked, LIMIT, MALFORMED};
+
+/// The size of the record that the bytes begin with, if it is a good one.
+fn good_size(rest: &[u8]) -> Option<usize> {
+    if rest.len() < 15 {
+        return None;
+    }
+    let size = 2 + usize::from(le16(rest, 0));
+    if !(15..=93).contains(&size) || rest.len() < size {
+        return None;
+    }
+    if le16(rest, 2) != 16 || le16(rest, 4) > 1 || rest[14..size].contains(&0) {
+        return None;
+    }
+    Some(size)
+}
+
+/// Whether a record has the flag and type that are asked for.
+pub fn is_asked(record: &[u8], asked: Asked) -> bool {
+    u32::from(le16(record, 4)) == asked.flag && le32(record, 6) == asked.kind
+}
+
+/// Judges every record, counts the entries asked for, and notes the place of the one with the number.
+pub fn counted(inventory: &[u8], asked: Asked) -> Option<(usize, usize)> {
+    if inventory.len() > LIMIT {
+        return None;
+    }
+    let [mut at, mut count, mut due] = [0; 3];
+    while at < inventory.len() {
+        let rest = &inventory[at..];
+        let size = good_size(rest)?;
+        if is_asked(rest, asked) {
+            count += 1;
+            if count == asked.number as usize {
+                due = at;
+            }
+        }
+        at += size;
+    }
+    Some((count, due))
+}
+
+/// How many entries there are. As in the proved scan that is measured, the place of the one due is not handed on.
+pub fn scan(inventory: &[u8], asked: Asked) -> u64 {
+    counted(inventory, asked).map_or(MALFORMED, |(count, _due)| count as u64)
+}

@@ -1,0 +1,69 @@
+//! Straightforward safe Rust, as one writes it first for release: the scans, the calls through the argument buffer, and
+//! the readers. configure-kernel-dump is not measured and not written here: its token is answered as an unknown one.
+
+mod get_indices;
+mod inventory;
+mod journal;
+mod read_indices;
+mod read_nodes;
+#[cfg(test)]
+mod tests;
+mod update_nodes;
+mod words;
+
+use crate::interface::{Answer, Registration, Side};
+use words::{be32, put_be32};
+
+pub const SIDE: Side = Side {
+    name: "Rust",
+    scan_journal: journal::scan,
+    scan_inventory: inventory::scan,
+    no_registration,
+    call,
+    read_nodes: read_nodes::read_nodes,
+    read_indices: read_indices::read_indices,
+};
+
+/// The status of a malformed journal or inventory.
+const MALFORMED: i32 = -1;
+/// The status of a wrong parameter.
+const PARAMETER: i32 = -3;
+
+/// The registration that a partition starts with.
+fn no_registration() -> Registration {
+    Registration { phase: 0, length: 0, copy: [0; 512] }
+}
+
+/// One call.
+fn call(args: &mut [u8], memory: &mut [u8], journal: &[u8], inventory: &[u8], registration: Registration) -> Answer {
+    if registration.phase > 2 || registration.length > 512 {
+        return Answer { number: 13, registration };
+    }
+    Answer { number: number(args, memory, journal, inventory), registration }
+}
+
+/// The number of a call; where it is 0, the outputs are written.
+fn number(args: &mut [u8], memory: &mut [u8], journal: &[u8], inventory: &[u8]) -> u32 {
+    if args.len() < 12 {
+        return 10;
+    }
+    let counts = (be32(args, 4), be32(args, 8));
+    if counts.0 > 16 || counts.1 > 16 {
+        return 12;
+    }
+    let outputs_at = 12 + 4 * counts.0 as usize;
+    if args.len() < outputs_at + 4 * counts.1 as usize {
+        return 10;
+    }
+    if counts.1 == 0 {
+        return 11;
+    }
+    let (inputs, outputs) = args.split_at_mut(outputs_at);
+    let status = match (be32(inputs, 0), counts) {
+        (1, (2, 1)) => update_nodes::update_nodes(&inputs[12..], memory, journal),
+        (2, (5, 2)) => get_indices::get_indices(&inputs[12..], &mut outputs[4..8], memory, inventory),
+        _ => Err(PARAMETER),
+    };
+    put_be32(outputs, 0, status.unwrap_or_else(|refusal| refusal) as u32);
+    0
+}

@@ -1,0 +1,126 @@
+//! Random cases, in which this side has to answer and to leave the bytes as the independent program does.
+
+use crate::interface::{Registration, Side};
+use crate::random::Xorshift;
+use crate::{independent, plain};
+use std::collections::BTreeMap;
+
+const SIDES: [Side; 2] = [plain::SIDE, independent::SIDE];
+const CASES: usize = 20_000;
+const AREA: usize = 4096;
+
+fn pick<T: Copy>(random: &mut Xorshift, from: &[T]) -> T {
+    from[usize::from(random.below(from.len() as u64))]
+}
+
+/// Changes a bit of one of the first bytes in one case of eight.
+fn spoil(random: &mut Xorshift, bytes: &mut [u8], within: usize) {
+    let within = within.min(bytes.len());
+    if within > 0 && random.below(8) == 0 {
+        let at = usize::from(random.below(within as u64));
+        bytes[at] ^= 1 << random.below(8);
+    }
+}
+
+fn journal(random: &mut Xorshift) -> Vec<u8> {
+    let (few, kinds) = (random.below(2) == 0, 1 + u64::from(random.below(3)));
+    let records = if few { random.below(20) } else { 1000 + random.below(2500) };
+    let mut journal = Vec::new();
+    for _ in 0..records {
+        let kind = 1 + random.below(kinds);
+        let length: u16 = if kind == 3 { 12 } else { 8 };
+        [length, kind, 1 + random.below(14)].iter().for_each(|half| journal.extend(half.to_le_bytes()));
+        journal.extend(&random.next().to_le_bytes()[..usize::from(length) - 4]);
+    }
+    spoil(random, &mut journal, AREA);
+    journal
+}
+
+fn inventory(random: &mut Xorshift) -> Vec<u8> {
+    let mut inventory = Vec::new();
+    for _ in 0..random.below(200) {
+        let code = 1 + random.below(79);
+        [12 + code, 16, random.below(2)].iter().for_each(|half| inventory.extend(half.to_le_bytes()));
+        inventory.extend(pick(random, &[1u32, 2]).to_le_bytes());
+        inventory.extend((random.next() as u32).to_le_bytes());
+        inventory.extend((0..code).map(|_| 1 + random.below(255) as u8));
+    }
+    spoil(random, &mut inventory, AREA);
+    inventory
+}
+
+/// An argument buffer of the first two calls, nearly always with counts of their own.
+fn arguments(random: &mut Xorshift) -> Vec<u8> {
+    let at = pick(random, &[0, 4096, 4096, 4096, 8192, 4097]);
+    let words = if random.below(2) == 0 {
+        vec![1, 2, 1, at, pick(random, &[1, 1, 2, 3, u32::MAX]), 7]
+    } else {
+        let size = pick(random, &[4096, 4096, 100, 92, 15, 3, u32::MAX]);
+        let number = pick(random, &[0, 1, 1, 2, 20, 1000]);
+        vec![2, 5, 2, random.below(2).into(), pick(random, &[1, 2, 1, 2, 9002, 9003]), at, size, number, 7, 7]
+    };
+    let mut bytes: Vec<u8> = words.iter().flat_map(|word: &u32| word.to_be_bytes()).collect();
+    spoil(random, &mut bytes, 12);
+    if random.below(20) == 0 {
+        bytes.truncate(random.below(bytes.len() as u64).into());
+    }
+    bytes
+}
+
+/// Memory with a good beginning of a node area, or one that is not.
+fn memory(random: &mut Xorshift) -> Vec<u8> {
+    let mut memory = vec![0xa5; 3 * AREA];
+    let state = pick(random, &[0u32, 0, 1, 10, 500, 1018, 1100]);
+    memory[AREA..AREA + 16].fill(0);
+    memory[AREA..AREA + 4].copy_from_slice(&state.to_be_bytes());
+    spoil(random, &mut memory[AREA..], 16);
+    memory
+}
+
+/// The readings of an area and what they write, on one side.
+fn readings(side: &Side, area: &[u8]) -> impl PartialEq {
+    let (mut words, mut numbers) = (vec![7; 1500], vec![7; 300]);
+    let nodes = (side.read_nodes)(area, &mut words);
+    let indices = (side.read_indices)(area, &mut numbers);
+    (nodes, indices, words, numbers)
+}
+
+/// What a call answered: its token, number and status.
+fn told(number: u32, args: &[u8]) -> (u32, u32, i32) {
+    let word = |at: usize| args.get(at..at + 4).map_or(0, |word| u32::from_be_bytes(word.try_into().unwrap()));
+    let status = if number == 0 { word(12 + 4 * word(4) as usize) as i32 } else { 0 };
+    (word(0), number, status)
+}
+
+/// One case: a call, and the readings of what it left, spoilt or not.
+fn case(random: &mut Xorshift) -> (u32, u32, i32) {
+    let (journal, inventory) = (journal(random), inventory(random));
+    let (args, memory) = (arguments(random), memory(random));
+    let none = Registration { phase: 0, length: 0, copy: [0; 512] };
+    let [left, right] = SIDES.map(|side| {
+        let (mut args, mut memory) = (args.clone(), memory.clone());
+        let answer = (side.call)(&mut args, &mut memory, &journal, &inventory, none);
+        (answer, args, memory)
+    });
+    assert!(left == right, "a call");
+    let (answer, args, mut memory) = left;
+    spoil(random, &mut memory[AREA..], 100);
+    let [left, right] = SIDES.map(|side| readings(&side, &memory[AREA..2 * AREA]));
+    assert!(left == right, "a reading");
+    told(answer.number, &args)
+}
+
+#[test]
+fn answers_as_the_independent_program() {
+    let mut random = Xorshift::new();
+    let mut seen = BTreeMap::new();
+    for _ in 0..CASES {
+        *seen.entry(case(&mut random)).or_insert(0) += 1;
+    }
+    for token in [1, 2] {
+        for status in [0, 1, -1, -3] {
+            let cases = seen.get(&(token, 0, status)).copied().unwrap_or(0);
+            assert!(cases >= 50, "token {token}, status {status}: {cases} cases");
+        }
+    }
+}

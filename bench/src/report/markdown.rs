@@ -1,0 +1,100 @@
+//! The page docs/BENCH.md.
+
+use super::{grouped, micros, ratio, warning, Measured};
+use crate::library;
+use crate::rows::growth::{each, Growth};
+use crate::rows::Row;
+use crate::timing::{Effort, SHORTEST};
+
+pub fn page(measured: &Measured) -> String {
+    let mut lines = vec![String::from("# Measured"), String::new()];
+    lines.extend(warning().map(|warning| format!("**{warning}**\n")));
+    lines
+        .push(format!("Processor: {}. Written by `bench/run --write`; times are in microseconds.\n", measured.machine));
+    lines.push(String::from("![Times beside those of straightforward Rust](bench.svg)\n"));
+    lines.extend(rows(&measured.rows));
+    lines.push(String::from("\n## How it is measured\n"));
+    lines.push(method(measured.effort));
+    lines.push(String::from("\n## How a session grows\n"));
+    lines.push(String::from("A session of update-nodes over a mixed journal; every call judges the whole journal.\n"));
+    lines.extend(growth(&measured.growth));
+    lines.join("\n") + "\n"
+}
+
+/// A line of a table.
+fn line(cells: &[String]) -> String {
+    format!("| {} |", cells.join(" | "))
+}
+
+/// The heading of a table: the first so many columns are words, the others numbers.
+fn heading(names: &[&str], words: usize) -> [String; 2] {
+    let names: Vec<String> = names.iter().map(|name| name.to_string()).collect();
+    let marks = ["---", "---:"];
+    let rule: Vec<String> = (0..names.len()).map(|column| marks[usize::from(column >= words)].to_string()).collect();
+    [line(&names), line(&rule)]
+}
+
+fn rows(rows: &[Row]) -> Vec<String> {
+    let proved = library::SIDE.name;
+    let names = ["", "over", "bytes", "passes", "streaming", "stepping", "Rust", "independent", proved];
+    let ratios = ["/ stepping", "/ Rust", "/ independent"];
+    let heading = heading(&[&names[..], &ratios].concat(), 2);
+    heading.into_iter().chain(rows.iter().map(row)).collect()
+}
+
+fn row(row: &Row) -> String {
+    line(&[
+        row.what.to_string(),
+        row.over.clone(),
+        grouped(row.bytes as u64),
+        row.passes.to_string(),
+        micros(row.streaming),
+        micros(row.stepping),
+        micros(row.rust),
+        micros(row.independent),
+        micros(row.proved),
+        ratio(row.proved, row.stepping),
+        ratio(row.proved, row.rust),
+        ratio(row.proved, row.independent),
+    ])
+}
+
+fn growth(sizes: &[Growth]) -> Vec<String> {
+    let proved = library::SIDE.name;
+    let each_operation = "ns for each operation";
+    let names = ["bytes", "operations", "calls", "Rust", each_operation, proved, each_operation, "/ Rust"];
+    let lines = sizes.iter().map(|size| {
+        line(&[
+            grouped(size.bytes as u64),
+            grouped(size.operations),
+            size.calls.to_string(),
+            micros(size.rust),
+            format!("{:.1}", each(size, size.rust)),
+            micros(size.proved),
+            format!("{:.1}", each(size, size.proved)),
+            ratio(size.proved, size.rust),
+        ])
+    });
+    heading(&names, 0).into_iter().chain(lines).collect()
+}
+
+/// How it is measured, in a paragraph.
+fn method(effort: Effort) -> String {
+    let Effort { time, least, most } = effort;
+    let (time, shortest) = (time.as_millis(), SHORTEST.as_micros());
+    format!(
+        "Everything is measured in one run, on one thread. The works of a row take turns; each is given about {time} \
+        milliseconds, but {least} turns at the least and {most} at the most, and the median is told. A work that takes \
+        less than {shortest} microseconds is done several times in a turn. The independent program alone is measured \
+        after the others of its row: it fills the caches and the branch predictor with its own. Before they are \
+        measured, the three sides are held to each other: over every call of every session, every reading, and \
+        refusals, they must answer the same and leave the same bytes. *Streaming* adds up the words of the bytes. \
+        *Stepping* goes from record to record by their lengths alone, in a work area from operator to operator or from \
+        entry to entry. Neither judges anything, and beside a session both go over the bytes once for each of its \
+        calls: these are the passes. *Rust* is straightforward safe Rust written for release (`bench/src/plain`), \
+        *independent* the rules written out plainly and not for speed (`compare/src/paper`); `cargo build --release` \
+        builds both, and `rt staticlib` the proved archives. The scope is 1, and of an inventory's types the last is \
+        asked for. One call of update-nodes begins at state 0, one of get-indices in the middle of the list; every \
+        work area has 4,096 bytes. The scan of an inventory does not hand on the entry due, on any side."
+    )
+}

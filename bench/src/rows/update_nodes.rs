@@ -1,0 +1,27 @@
+//! The calls of update-nodes.
+
+use super::{Row, Subject};
+use crate::bare;
+use crate::partition::Partition;
+use crate::timing::Effort;
+
+/// One call from state 0.
+pub fn one_call(over: &str, journal: &[u8], effort: Effort) -> Row {
+    let stepping = bare::stepping_records;
+    let subject = Subject { what: "update-nodes, one call", over, bytes: journal, passes: 1, stepping };
+    subject.measure(effort, |side| {
+        let mut partition = Partition::of_journal(journal);
+        Box::new(move || partition.answered_call(side, 0))
+    })
+}
+
+/// All calls from state 0 to status 0.
+pub fn session(over: &str, journal: &[u8], effort: Effort) -> Row {
+    let stepping = bare::stepping_records;
+    let passes = Partition::of_journal(journal).session(&crate::interface::SIDES[0]) as usize;
+    let subject = Subject { what: "update-nodes, session", over, bytes: journal, passes, stepping };
+    subject.measure(effort, |side| {
+        let mut partition = Partition::of_journal(journal);
+        Box::new(move || partition.session(side))
+    })
+}
