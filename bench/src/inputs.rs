@@ -12,11 +12,15 @@ pub struct Inputs {
 }
 
 pub fn inputs() -> Inputs {
-    let journals =
-        vec![("uniform", journal::uniform()), ("mixed", journal::mixed(LIMIT)), ("mixed", journal::mixed(57_600))];
+    let journals = vec![
+        ("uniform", journal::uniform(LIMIT)),
+        ("mixed", journal::mixed(LIMIT)),
+        ("uniform", journal::uniform(57_600)),
+        ("mixed", journal::mixed(57_600)),
+    ];
     let inventories: Vec<_> = [(79, 1), (79, 16), (20, 1), (8, 1)].map(full_inventory).into();
     let node_areas =
-        vec![("deletes", node_area(&journal::uniform())), ("all three opcodes", node_area(&journal::mixed(14_000)))];
+        vec![("deletes", node_area(&journal::uniform(LIMIT))), ("all three opcodes", node_area(&journal::mixed(14_000)))];
     let index_areas = [&inventories[0], &inventories[3]].map(|(name, bytes, asked)| {
         let mut partition = Partition::of_inventory(bytes, *asked);
         partition.answered_call(&SIDES[0], asked.number);

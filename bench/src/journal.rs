@@ -1,6 +1,5 @@
 //! The journals that are measured.
 
-use crate::interface::LIMIT;
 use crate::random::Xorshift;
 
 fn push(journal: &mut Vec<u8>, kind: u16, node: u16, operands: u64) {
@@ -11,10 +10,10 @@ fn push(journal: &mut Vec<u8>, kind: u16, node: u16, operands: u64) {
     journal.extend(&operands.to_le_bytes()[..usize::from(length) - 4]);
 }
 
-/// As many deletes of node type 10 as the limit has room for.
-pub fn uniform() -> Vec<u8> {
+/// As many deletes of node type 10 as so many bytes have room for.
+pub fn uniform(size: usize) -> Vec<u8> {
     let mut journal = Vec::new();
-    for phandle in 0..LIMIT / 10 {
+    for phandle in 0..size / 10 {
         push(&mut journal, 1, 10, phandle as u64);
     }
     journal
