@@ -21,7 +21,7 @@ use Rattle.rtas.specs.Lent.{partAt, withPart}
 use Rattle.rtas.specs.UpdateNodes.{placed, reserved, goodState, areaStatus, areaAfter, nodesStatus, nodesMemory}
 use Rattle.rtas.specs.Buffer.{numberFor, asks, nodesOutcome, outcome, callOf, answered}
 use Rattle.rtas.specs.Session.{Call, start, after, standing, Session}
-use Rattle.rtas.specs.Readings.{times}
+use Rattle.dump.specs.Claims.{times}
 
 -- a call of scope 1 with a work area at an address, over 4,096 bytes of memory that begin with a state
 abbrev at : ℕ → ℕ → Call

@@ -1,5 +1,5 @@
 -- The table of readings, cited by the contract of `call`: 01, "Cases marked * are proved of the written rules themselves, gathered into a single table under a single claim."
-use Prim.Native.Nat.{ℕ, zero, suc, _+_}
+use Prim.Native.Nat.{ℕ, _+_}
 use mathlib.Core.Bool.{Bool, true, _&&_, _||_, not}
 use mathlib.Core.List.{List, [], _∷_, _++_}
 use lib.Dec.{T, eqb}
@@ -10,7 +10,7 @@ use Rattle.nodes.specs.Reading.{Reading, read, refused, reading}
 use Rattle.dump.specs.declared.registration.Phase.{Phase}
 use Rattle.dump.specs.declared.registration.Phase.the-variants.{Unregistered, Registered, Active}
 use Rattle.dump.specs.declared.registration.Registration.{Registration}
-use Rattle.dump.specs.Claims.{from, bare, asked}
+use Rattle.dump.specs.Claims.{from, bare, asked, times}
 use Rattle.inventory.specs.Claims.{entry, bytes}
 use Rattle.indices.specs.Reading as indices
 use Rattle.rtas.specs.declared.indices_call.Request.{Request}
@@ -58,10 +58,6 @@ nodesCases =
     ∷ case 3 0 0 1 2 Done 1 0
     ∷ case 3 0 0 1 3 Parameter 0 3
     ∷ []
-
-abbrev pub times : ℕ → List ℕ → List ℕ
-times zero r = []
-times (suc n) r = r ++ times n r
 
 -- an answered area reads as so many operations; a refused one is as it was, sevens behind the sixteen bytes, and does not read
 abbrev pub reads : Status → ℕ → Reading → Bool
