@@ -13,14 +13,14 @@ use Rattle.words.proofs.Stores.{sets-append}
 use Rattle.journal.specs.declared.operation.Operation.{Operation}
 use Rattle.journal.specs.declared.operation.Operation.the-variants.{Delete, Update, Add}
 use Rattle.nodes.specs.declared.reading.Cursor.{Cursor}
-use Rattle.nodes.specs.declared.reading.Next.{Next}
 use Rattle.nodes.specs.declared.reading.Next.the-variants.{Entry, End}
 use Rattle.nodes.specs.declared.reading.Refusal.{Refusal}
 use Rattle.nodes.specs.declared.reading.Refusal.the-variants.{Size}
 use Rattle.nodes.specs.declared.reading.Check.{Check}
 use Rattle.nodes.specs.declared.reading.Check.the-variants.{Entries, Refused}
 use Rattle.nodes.specs.Reading.{Reading, read, refused, reading, checkOf}
-use Rattle.nodes.specs.Cursor.{remaining, startOf, Gives}
+use Rattle.nodes.specs.Cursor.{remaining, startOf, nextOf}
+use Rattle.nodes.proofs.Steps.{steps-give}
 use Rattle.nodes.proofs.Verdicts.{entries-in-order}
 use Rattle.draugsten.specs.Readings.{operationWords, operationsWords, nodesOut}
 
@@ -55,21 +55,19 @@ module _ {area start l : List ℕ} {count i : ℕ} {at : Cursor} (s : Storing ar
   unfolding operationsWords
   storing-all h = let none : count - i ≡ 0 = omega arith in rw none at (s .rest)
 
-  -- at a step of the cursor
-  module _ (x : Next) (g : Gives area (remaining area at) x) where
-    -- the area has no more
-    pub storing-end : x ≡ End → l ≡ whole area start count
-    unfolding operationsWords
-    storing-end e = let none : remaining area at ≡ [] = rw e at g in rw (none, take-nil) at (s .rest)
+  -- at a step of the cursor: the area has no more
+  pub storing-end : nextOf area at ≡ End → l ≡ whole area start count
+  unfolding operationsWords
+  storing-end e = let none : remaining area at ≡ [] = rw e at (steps-give area at) in rw (none, take-nil) at (s .rest)
 
-    -- its operation is stored
-    pub storing-entry : (o : Operation) (behind : Cursor) (m : List ℕ) → x ≡ Entry o behind → i < count → m ≡ sets l (3 * i) (operationWords o) → Storing area start count m behind (i + 1)
-    unfolding operationsWords
-    storing-entry o behind m e h stored =
-        let first : remaining area at ≡ o ∷ remaining area behind = rw e at g in
-        let more : count - i ≡ suc (count - (i + 1)) = omega arith in
-        let place : 3 * (i + 1) ≡ 3 * i + length (operationWords o) = omega (arith, length-operation o) in
-        record { rest = rw (stored, place, ← sets-append) (rw (first, more) at (s .rest)) }
+  -- or its operation is stored
+  pub storing-entry : (o : Operation) (behind : Cursor) (m : List ℕ) → nextOf area at ≡ Entry o behind → i < count → m ≡ sets l (3 * i) (operationWords o) → Storing area start count m behind (i + 1)
+  unfolding operationsWords
+  storing-entry o behind m e h stored =
+      let first : remaining area at ≡ o ∷ remaining area behind = rw e at (steps-give area at) in
+      let more : count - i ≡ suc (count - (i + 1)) = omega arith in
+      let place : 3 * (i + 1) ≡ 3 * i + length (operationWords o) = omega (arith, length-operation o) in
+      record { rest = rw (stored, place, ← sets-append) (rw (first, more) at (s .rest)) }
 
 -- ---- what a check of an area tells of its reading
 

@@ -3,6 +3,7 @@ pub mod Cut
 pub mod Listed
 pub mod Writes
 pub mod Verdicts
+pub mod Steps
 pub mod Decoding
 pub mod Claims
 pub mod Answers

@@ -8,7 +8,7 @@ use native.Mathlib.Omega.{arith}
 use lib.Dec.{leb, ltb, eqb}
 use lib.ListN.{length, drop, length-drop}
 use lib.Seq.{drop-drop, slice}
-use borrow.Author.Tests.{eq-eqb, ne-eqb, ltb-false, leb-true, leb-false, eqb-true, eqb-false, not-true, not-false}
+use borrow.Author.Tests.{eq-eqb, ne-eqb, ltb-false, eqb-true, eqb-false}
 use Rattle.words.specs.Numbers.{be, words, zeros}
 use Rattle.words.proofs.Words.{words-step, words-short, words-drop, length-words}
 use Rattle.words.proofs.Choice.{choose}
@@ -60,7 +60,7 @@ module _ (code w : ℕ) (ws : List ℕ) where
   unfolding operationsAt
   operations-more h = rw (ne-eqb w 0 h)
 
-one-less : (n : ℕ) → suc n - 1 ≡ n
+pub one-less : (n : ℕ) → suc n - 1 ≡ n
 one-less n = omega arith
 
 -- at the operands of an operation
@@ -74,16 +74,6 @@ pub operations-pair : (code w v : ℕ) (ws : List ℕ) (n : ℕ) → code ≡ 3 
 unfolding operationsAt
 operations-pair code w v ws zero e l = absurd (omega arith)
 operations-pair code w v ws (suc n) e l = rw (one-less n, eq-eqb code 3 e)
-
-pub operations-none : (code n : ℕ) → operationsAt [] code n ≡ []
-unfolding operationsAt
-operations-none code n = refl
-
--- an addition of which one operand is past the end
-pub operations-half : (code w n : ℕ) → code ≡ 3 → 0 < n → operationsAt (w ∷ []) code n ≡ []
-unfolding operationsAt
-operations-half code w zero e l = absurd (omega arith)
-operations-half code w (suc n) e l = rw (eq-eqb code 3 e)
 
 -- past operand words
 operations-singles : (code n : ℕ) (ws : List ℕ) → (code ≡ 3 → ⊥) → n ≤ length ws → length (operationsAt ws code n) ≡ n + length (operationsAt (drop n ws) code 0)
@@ -210,36 +200,6 @@ module _ (a : List ℕ) (at last entries : ℕ) (s : Stands a at last entries) w
           few = omega (arith, s .few, few-operations w);
           finds = rw (s .finds, ahead, verdict-fine w at last ws h (rw behind at e), operations-more last w ws h, passed, rest, add-assoc entries);
         }
-
--- ---- the operations from a place of an area on
-
--- the code's test of a place
-pub room : (n at : ℕ) (t : Bool) → t ≡ leb 4 (n - at) → not t ≡ false → at + 4 ≤ n
-room n at t e h = omega (arith, leb-true 4 (n - at) (sym e ∙ not-false t h))
-
-pub no-room : (n at : ℕ) (t : Bool) → t ≡ leb 4 (n - at) → not t ≡ true → n - at < 4
-no-room n at t e h = leb-false 4 (n - at) (sym e ∙ not-true t h)
-
-module _ (a : List ℕ) (at code n : ℕ) where
-  pub ends-out : length a - at < 4 → operationsAt (words (drop at a)) code n ≡ []
-  ends-out h = rw (words-short a at h, operations-none code n)
-
-  module _ (fits : at + 4 ≤ length a) where
-    pub ends-zero : n ≡ 0 → be 4 a at ≡ 0 → operationsAt (words (drop at a)) code n ≡ []
-    ends-zero e z = rw (e, words-step a at fits, operations-end code (be 4 a at) _ z)
-
-    pub goes-on : n ≡ 0 → (be 4 a at ≡ 0 → ⊥) → operationsAt (words (drop at a)) code n ≡ operationsAt (words (drop (at + 4) a)) (opcodeIn (be 4 a at)) (countIn (be 4 a at))
-    goes-on e z = rw (e, words-step a at fits, operations-more code (be 4 a at) _ z)
-
-    module _ (some : 0 < n) where
-      pub gives-single : (code ≡ 3 → ⊥) → operationsAt (words (drop at a)) code n ≡ single code (be 4 a at) ∷ operationsAt (words (drop (at + 4) a)) code (n - 1)
-      gives-single h = rw (words-step a at fits, operations-single code (be 4 a at) _ n h some)
-
-      pub ends-half : code ≡ 3 → length a - (at + 4) < 4 → operationsAt (words (drop at a)) code n ≡ []
-      ends-half e h = rw (words-step a at fits, words-short a (at + 4) h, operations-half code (be 4 a at) n e some)
-
-      pub gives-pair : code ≡ 3 → at + 4 + 4 ≤ length a → operationsAt (words (drop at a)) code n ≡ Add (be 4 a at) (be 4 a (at + 4)) ∷ operationsAt (words (drop (at + 4 + 4) a)) code (n - 1 - 1)
-      gives-pair e h = rw (words-step a at fits, words-step a (at + 4) h, operations-pair code (be 4 a at) (be 4 a (at + 4)) _ n e some)
 
 -- ---- the operations of a reading, in order
 

@@ -6,7 +6,7 @@ ghost use Prim.Native.Nat.{_-_, _%_, _<_};
 ghost use lib.ListN.{length, drop};
 ghost use Rattle.words.specs.Numbers.{words};
 ghost use Rattle.nodes.specs.Reading.{faultOf, operationsIn, verdict, operationsAt, single, readBy, reading, checkOf};
-ghost use Rattle.nodes.specs.Cursor.{remaining, Gives, startOf, EntriesInOrder};
+ghost use Rattle.nodes.specs.Cursor.{stepAt, nextOf, StepsGive, startOf, EntriesInOrder};
 use crate::run::less;
 use journal::Operation;
 
@@ -141,7 +141,7 @@ fn has_word(area: &[u8], at: usize) -> bool
 // The operation whose operands stand at a place, of an opcode with operand words left.
 fn operation_at(area: &[u8], at: usize, code: u32, left: usize) -> Next
     requires { ⌜ 0 < left ⌝ }
-    ensures { λ r. ⌜ Gives (now (area .entry)) (operationsAt (words (drop at (now (area .entry)))) code left) r ⌝ }
+    ensures { λ r. ⌜ r ≡ stepAt (words (drop at (now (area .entry)))) at code left ⌝ }
 {
     if !has_word(area, at) {
         return Next::End;
@@ -195,9 +195,11 @@ impl Cursor {
         }
     }
 
-    // The next operation of an area. From the start, in an area that a check passes, the steps are its operations in order, then the end.
+    // The first of the operations that the cursor has before it, with the cursor behind that one, or the end where it has none.
+    // From the start these are, in an area that a check passes, the area's operations in order.
     pub fn next(self, area: &[u8]) -> Next
-        ensures { λ r. ⌜ Gives (now (area .entry)) (remaining (now (area .entry)) self) r ⌝ }
+        ensures { λ r. ⌜ r ≡ nextOf (now (area .entry)) self ⌝ }
+        ensures steps { λ _. ⌜ StepsGive ⌝ }
     {
         let mut at = self.at;
         let mut code = self.code;

@@ -6,19 +6,19 @@ use native.Mathlib.Omega.{arith}
 use lib.ListN.{length}
 use Rattle.journal.specs.declared.operation.Operation.{Operation}
 use Rattle.nodes.specs.declared.reading.Cursor.{Cursor}
-use Rattle.nodes.specs.declared.reading.Next.{Next}
 use Rattle.nodes.specs.declared.reading.Next.the-variants.{Entry, End}
-use Rattle.nodes.specs.Cursor.{remaining, Gives}
+use Rattle.nodes.specs.Cursor.{remaining, nextOf}
+use Rattle.nodes.proofs.Steps.{steps-give}
 use Rattle.print_nodes.specs.Text.{line, lines}
 
-module _ (area : List ℕ) (at : Cursor) (x : Next) (g : Gives area (remaining area at) x) where
-  pub lines-end : x ≡ End → lines (remaining area at) ≡ []
+module _ (area : List ℕ) (at : Cursor) where
+  pub lines-end : nextOf area at ≡ End → lines (remaining area at) ≡ []
   unfolding lines
-  lines-end e = let none : remaining area at ≡ [] = rw e at g in rw none
+  lines-end e = let none : remaining area at ≡ [] = rw e at (steps-give area at) in rw none
 
-  module _ (o : Operation) (behind : Cursor) (e : x ≡ Entry o behind) where
+  module _ (o : Operation) (behind : Cursor) (e : nextOf area at ≡ Entry o behind) where
     step : remaining area at ≡ o ∷ remaining area behind
-    step = rw e at g
+    step = rw e at (steps-give area at)
 
     pub lines-entry : lines (remaining area at) ≡ line o ++ lines (remaining area behind)
     unfolding lines

@@ -1,4 +1,5 @@
 -- `reading::store_operations` meets its contract.
+use mathlib.Core.Path.{sym, _∙_}
 use Prim.Native.Nat.{_-_}
 use native.Mathlib.Omega.{arith}
 use borrow.Author.Needs.{needs}
@@ -28,7 +29,7 @@ same-length : tie.Need-same-length Inv-loop μ-loop
 same-length c = storing-length (c .before .before .before .before .loop .inv)
 
 returns : tie.Need-returns Inv-loop μ-loop
-returns c = storing-end (c .before .before .before .before .loop .inv) _ (c .before .before .next .ensures) (c .enum-told .given .1)
+returns c = storing-end (c .before .before .before .before .loop .inv) (sym (c .before .before .next .ensures .0) ∙ c .enum-told .given .1)
 
 enum-known-step : tie.Need-enum-known-step Inv-loop μ-loop
 enum-known-step c = search needs
@@ -46,7 +47,7 @@ loop-less : tie.Need-loop-less Inv-loop μ-loop
 loop-less c = search needs
 
 loop-again : tie.Need-loop-again Inv-loop μ-loop
-loop-again c = storing-entry (c .before .before .before .before .before .before .before .before .before .loop .inv) _ (c .before .before .before .before .before .before .before .next .ensures) _ _ _ (c .before .before .before .before .before .step .given .1) (c .before .before .before .before .before .before .before .before .loop-test .taken) (c .before .before .store-operation .ensures)
+loop-again c = storing-entry (c .before .before .before .before .before .before .before .before .before .loop .inv) _ _ _ (sym (c .before .before .before .before .before .before .before .next .ensures .0) ∙ c .before .before .before .before .before .step .given .1) (c .before .before .before .before .before .before .before .before .loop-test .taken) (c .before .before .store-operation .ensures)
 
 same-length-2 : tie.Need-same-length-2 Inv-loop μ-loop
 same-length-2 c = storing-length (c .before .loop .inv)

@@ -4,8 +4,7 @@ use native.Mathlib.Omega.{arith}
 use lib.ListN.{length}
 use borrow.Author.Needs.{needs}
 use denote.Ref.{now}
-use Rattle.nodes.proofs.Verdicts.{room, no-room, ends-out, ends-half, gives-single, gives-pair}
-use Rattle.nodes.specs.Cursor.{remaining}
+use Rattle.nodes.proofs.Steps.{room, no-room, ends-out, ends-half, gives-single, gives-pair}
 use Rattle.nodes.proofs.reading.operation_at.Statement.{statement}
 use Rattle.nodes.proofs.reading.operation_at.Tie as tie
 
@@ -48,7 +47,6 @@ less-requires : tie.Need-less-requires
 less-requires c κs = search needs
 
 returns-3 : tie.Need-returns-3
-unfolding remaining
 returns-3 c = rw (c .less .ensures, c .before .read-be322 .ensures, c .before .before .before .before .before .read-be32 .ensures) (gives-pair (now (c .before .before .before .before .before .before .before .before .before .args .area)) (c .before .before .before .before .before .before .before .before .before .args .at) (c .before .before .before .before .before .before .before .before .before .args .code) (c .before .before .before .before .before .before .before .before .before .args .left) (fits (c .before .before .before .before .before .before)) (c .before .before .before .before .before .before .before .before .before .pre) (c .before .before .before .before .if2 .taken) (fits-two (c .before .before)))
 
 single-of-requires : tie.Need-single-of-requires
@@ -58,7 +56,6 @@ sub-t18 : tie.Need-sub-t18
 sub-t18 c = search needs
 
 returns-4 : tie.Need-returns-4
-unfolding remaining
 returns-4 c = rw (c .single-of .ensures, c .before .before .read-be32 .ensures) (gives-single (now (c .before .before .before .before .before .before .args .area)) (c .before .before .before .before .before .before .args .at) (c .before .before .before .before .before .before .args .code) (c .before .before .before .before .before .before .args .left) (fits (c .before .before .before)) (c .before .before .before .before .before .before .pre) (c .before .if2 .left))
 
 pub operation-at-spec : {M : Type 1} → statement M

@@ -1,4 +1,5 @@
 -- `text::put_lines` meets its contract.
+use mathlib.Core.Path.{sym, _∙_}
 use mathlib.Core.List.{_++_}
 use lib.ListN.{length}
 use borrow.Author.Needs.{needs}
@@ -29,20 +30,20 @@ enum-told : tie.Need-enum-told Inv-loop μ-loop
 enum-told c = search needs
 
 returns : tie.Need-returns Inv-loop μ-loop
-returns c = ahead-none (rw (lines-end _ _ _ (c .before .before .next .ensures) (c .enum-told .given .1)) at (c .before .before .before .loop .inv))
+returns c = ahead-none (rw (lines-end _ _ (sym (c .before .before .next .ensures .0) ∙ c .enum-told .given .1)) at (c .before .before .before .loop .inv))
 
 enum-known-step : tie.Need-enum-known-step Inv-loop μ-loop
 enum-known-step c = search needs
 
 -- the line of an operation comes next
 entry : (c : tie.After-step Inv-loop μ-loop) → Ahead (lines (remaining (now (c .before .before .before .before .before .before .args .input)) startOf)) (now (c .before .before .before .before .before .before .args .out)) (c .before .before .before .before .before .before .args .at) (c .before .before .before .loop .out) (c .before .before .before .loop .to) (line (c .step .given .0 .0) ++ lines (remaining (now (c .before .before .before .before .before .before .args .input)) (c .step .given .0 .1 .0)))
-entry c = rw (lines-entry _ _ _ (c .before .before .next .ensures) _ _ (c .step .given .1)) at (c .before .before .before .loop .inv)
+entry c = rw (lines-entry _ _ _ _ (sym (c .before .before .next .ensures .0) ∙ c .step .given .1)) at (c .before .before .before .loop .inv)
 
 put-line-requires : tie.Need-put-line-requires Inv-loop μ-loop
 put-line-requires c κs = fits-first _ (line _) _ (entry (c .before .before) .fits)
 
 loop-less : tie.Need-loop-less Inv-loop μ-loop
-loop-less c = fewer _ _ _ (c .before .before .before .before .before .next .ensures) _ _ (c .before .before .before .step .given .1)
+loop-less c = fewer _ _ _ _ (sym (c .before .before .before .before .before .next .ensures .0) ∙ c .before .before .before .step .given .1)
 
 loop-again : tie.Need-loop-again Inv-loop μ-loop
 loop-again c = ahead-then _ (entry (c .before .before .before)) (c .put-line .ensures)

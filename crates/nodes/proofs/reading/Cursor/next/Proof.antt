@@ -5,15 +5,14 @@ use native.Mathlib.Omega.{arith}
 use lib.ListN.{length, drop}
 use borrow.Author.Needs.{needs}
 use denote.Ref.{now}
-use Rattle.nodes.proofs.Verdicts.{room, no-room, ends-out, ends-zero, goes-on}
-use Rattle.nodes.specs.Cursor.{remaining}
-use Rattle.nodes.specs.Reading.{operationsAt}
+use Rattle.nodes.proofs.Steps.{room, no-room, ends-out, ends-zero, goes-on, steps-give}
+use Rattle.nodes.specs.Cursor.{stepAt, nextOf}
 use Rattle.words.specs.Numbers.{words}
 use Rattle.nodes.proofs.reading.Cursor.next.Statement.{statement}
 use Rattle.nodes.proofs.reading.Cursor.next.Tie as tie
 
 abbrev Inv-loop : tie.InvT-loop
-Inv-loop area at₀ code₀ left₀ at code left = operationsAt (words (drop at₀ area)) code₀ left₀ ≡ operationsAt (words (drop at area)) code left
+Inv-loop area at₀ code₀ left₀ at code left = stepAt (words (drop at₀ area)) at₀ code₀ left₀ ≡ stepAt (words (drop at area)) at code left
 
 abbrev μ-loop : tie.MeasureT-loop
 μ-loop area at₀ code₀ left₀ at code left = length area - at
@@ -25,8 +24,8 @@ has-word-requires : tie.Need-has-word-requires Inv-loop μ-loop
 has-word-requires c κs = search needs
 
 returns : tie.Need-returns Inv-loop μ-loop
-unfolding remaining
-returns c = c .before .before .before .loop .inv ∙ ends-out (now (c .before .before .before .before .before .args .area)) (c .before .before .before .loop .at) (c .before .before .before .loop .code) (c .before .before .before .loop .left) (no-room _ _ _ (c .before .has-word .ensures) (c .if1 .taken))
+unfolding nextOf
+returns c = (ends-out (now (c .before .before .before .before .before .args .area)) (c .before .before .before .loop .at) (c .before .before .before .loop .code) (c .before .before .before .loop .left) (no-room _ _ _ (c .before .has-word .ensures) (c .if1 .taken)) ∙ sym (c .before .before .before .loop .inv), steps-give)
 
 -- a whole word stands there
 fits : (c : tie.Else1 Inv-loop μ-loop) → c .before .before .before .loop .at + 4 ≤ length (now (c .before .before .before .before .before .args .area))
@@ -36,8 +35,8 @@ read-be32-requires : tie.Need-read-be32-requires Inv-loop μ-loop
 read-be32-requires c κs = fits c
 
 returns-2 : tie.Need-returns-2 Inv-loop μ-loop
-unfolding remaining
-returns-2 c = c .before .before .before .before .before .loop .inv ∙ ends-zero (now (c .before .before .before .before .before .before .before .args .area)) (c .before .before .before .before .before .loop .at) (c .before .before .before .before .before .loop .code) (c .before .before .before .before .before .loop .left) (fits (c .before .before)) (c .before .before .before .before .loop-test .taken) (sym (c .before .read-be32 .ensures) ∙ c .if2 .taken)
+unfolding nextOf
+returns-2 c = (ends-zero (now (c .before .before .before .before .before .before .before .args .area)) (c .before .before .before .before .before .loop .at) (c .before .before .before .before .before .loop .code) (c .before .before .before .before .before .loop .left) (fits (c .before .before)) (c .before .before .before .before .loop-test .taken) (sym (c .before .read-be32 .ensures) ∙ c .if2 .taken) ∙ sym (c .before .before .before .before .before .loop .inv), steps-give)
 
 cast-left : tie.Need-cast-left Inv-loop μ-loop
 cast-left c = search needs
@@ -55,8 +54,8 @@ operation-at-requires : tie.Need-operation-at-requires Inv-loop μ-loop
 operation-at-requires c κs = search needs
 
 returns-3 : tie.Need-returns-3 Inv-loop μ-loop
-unfolding remaining
-returns-3 c = rw (c .before .before .loop .inv) (c .operation-at .ensures)
+unfolding nextOf
+returns-3 c = (c .operation-at .ensures ∙ sym (c .before .before .loop .inv), steps-give)
 
 pub next-spec : {M : Type 1} → statement M
 next-spec =
