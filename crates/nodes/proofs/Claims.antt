@@ -19,18 +19,18 @@ use Rattle.journal.proofs.Entries.{operations-few}
 use Rattle.journal.proofs.Operands.{SmallEntries, entries-small}
 use Rattle.journal.proofs.Walks.{within-limit}
 use Rattle.nodes.specs.Run.{present, cost, longest, run, remains, nextState}
+use Rattle.nodes.specs.Longest.{AllOf}
 use Rattle.nodes.specs.Area.{operandsOf, part, body, answer, written}
 use Rattle.nodes.specs.Reading.{read, reading}
 use Rattle.nodes.specs.Claims.{Sorted, SmallOperands, Listed, ReportableListed, NeverEmpty, WellFilled, RunCases, AreaClaims}
-use Rattle.nodes.proofs.Runs.{length-operandsOf, length-body, run-facts, next-le}
-use Rattle.nodes.proofs.Cut.{Code}
+use Rattle.nodes.proofs.Runs.{length-operandsOf, length-body, longest-run, run-facts, next-le}
 use Rattle.nodes.proofs.Listed.{chosen-code}
 use Rattle.nodes.proofs.Decoding.{sorted-lower, body-reads}
 
 -- ---- every reportable list is listed
 
 -- operations of an opcode, and behind them those of higher ones
-sorted-join : (code : ℕ) (os ps : List Operation) → Code code os → Sorted (suc code) ps → Sorted code (os ++ ps)
+sorted-join : (code : ℕ) (os ps : List Operation) → AllOf code os → Sorted (suc code) ps → Sorted code (os ++ ps)
 sorted-join code [] ps c s = sorted-lower code (suc code) ps (omega arith) s
 sorted-join code (o ∷ os) ps c s = (omega (arith, c .0), rw (c .0) (sorted-join code os ps (c .1) s))
 
@@ -157,4 +157,4 @@ unfolding nextState remains run longest cost present operandWords
 run-cases = tt
 
 pub area-claims : AreaClaims
-area-claims = record { reportable-listed = reportable-listed; round-trip = read-back; never-empty = never-empty; well-filled = well-filled; run-cases = run-cases }
+area-claims = record { reportable-listed = reportable-listed; round-trip = read-back; longest-run = longest-run; never-empty = never-empty; well-filled = well-filled; run-cases = run-cases }

@@ -13,23 +13,19 @@ use Rattle.journal.specs.declared.operation.Operation.{Operation}
 use Rattle.journal.specs.declared.operation.Operation.the-variants.{Delete, Update, Add}
 use Rattle.journal.specs.declared.scanning.Counts.{Counts}
 use Rattle.journal.specs.Journal.{opcode, operands}
-use Rattle.nodes.specs.Run.{cost, longest, operator, partWords, onesIn, twosIn, cut}
+use Rattle.nodes.specs.Run.{cost, operator, partWords, onesIn, twosIn, cut}
+use Rattle.nodes.specs.Longest.{LongestOf, AllOf, CutIsLongest}
 use Rattle.nodes.specs.Area.{wordsOf, operandsOf, part, body}
-use Rattle.nodes.proofs.Runs.{operator-zero, operator-pos, operator-le, length-part, length-body, longest-unique}
+use Rattle.nodes.proofs.Runs.{operator-zero, operator-pos, operator-le, length-part, length-body, longest-by}
 
 -- ---- lists of one opcode
 
--- every operation has the opcode
-abbrev pub Code : ℕ → List Operation → Type 0
-Code code [] = Unit {0}
-Code code (o ∷ os) = (opcode o ≡ code) × Code code os
-
-pub code-take : (code n : ℕ) (os : List Operation) → Code code os → Code code (take n os)
+pub code-take : (code n : ℕ) (os : List Operation) → AllOf code os → AllOf code (take n os)
 code-take code zero os h = tt
 code-take code (suc n) [] h = tt
 code-take code (suc n) (o ∷ os) h = (h .0, code-take code n os (h .1))
 
-pub code-drop : (code n : ℕ) (os : List Operation) → Code code os → Code code (drop n os)
+pub code-drop : (code n : ℕ) (os : List Operation) → AllOf code os → AllOf code (drop n os)
 code-drop code zero os h = h
 code-drop code (suc n) [] h = tt
 code-drop code (suc n) (o ∷ os) h = code-drop code n os (h .1)
@@ -43,25 +39,25 @@ operandsOf-append code (o ∷ os) ps =
 operandsOf-three : (code : ℕ) (os ps qs : List Operation) → operandsOf code (os ++ (ps ++ qs)) ≡ operandsOf code os ++ (operandsOf code ps ++ operandsOf code qs)
 operandsOf-three code os ps qs = rw (operandsOf-append code os (ps ++ qs), operandsOf-append code ps qs)
 
-pub operandsOf-same : (code : ℕ) (os : List Operation) → Code code os → operandsOf code os ≡ wordsOf os
+pub operandsOf-same : (code : ℕ) (os : List Operation) → AllOf code os → operandsOf code os ≡ wordsOf os
 unfolding operandsOf wordsOf
 operandsOf-same code [] h = refl
 operandsOf-same code (o ∷ os) h = rw (eq-eqb (opcode o) code (h .0), operandsOf-same code os (h .1))
 
-pub operandsOf-other : (code other : ℕ) (os : List Operation) → (other ≡ code → ⊥) → Code other os → operandsOf code os ≡ []
+pub operandsOf-other : (code other : ℕ) (os : List Operation) → (other ≡ code → ⊥) → AllOf other os → operandsOf code os ≡ []
 unfolding operandsOf
 operandsOf-other code other [] n h = refl
 operandsOf-other code other (o ∷ os) n h = rw (ne-eqb (opcode o) code (λ e. n (sym (h .0) ∙ e)), operandsOf-other code other os n (h .1))
 
 -- deletes and updates have one operand word each, additions two
-pub words-one : (code : ℕ) (os : List Operation) → code ≤ 2 → Code code os → length (wordsOf os) ≡ length os
+pub words-one : (code : ℕ) (os : List Operation) → code ≤ 2 → AllOf code os → length (wordsOf os) ≡ length os
 unfolding wordsOf
 words-one code [] l h = refl
 words-one code (Delete p ∷ os) l h = omega (arith, words-one code os l (h .1))
 words-one code (Update p ∷ os) l h = omega (arith, words-one code os l (h .1))
 words-one code (Add p i ∷ os) l h = absurd (omega (arith, h .0))
 
-pub words-two : (os : List Operation) → Code 3 os → length (wordsOf os) ≡ 2 * length os
+pub words-two : (os : List Operation) → AllOf 3 os → length (wordsOf os) ≡ 2 * length os
 unfolding wordsOf
 words-two [] h = refl
 words-two (Delete p ∷ os) h = absurd (omega (arith, h .0))
@@ -74,7 +70,7 @@ words-two (Add p i ∷ os) h = omega (arith, words-two os (h .1))
 abbrev pub worth : ℕ → ℕ → ℕ → ℕ
 worth x y z = partWords x + partWords y + partWords (2 * z)
 
-module _ (ds us adds : List Operation) (hd : Code 1 ds) (hu : Code 2 us) (ha : Code 3 adds) where
+module _ (ds us adds : List Operation) (hd : AllOf 1 ds) (hu : AllOf 2 us) (ha : AllOf 3 adds) where
   pub body-split : body (ds ++ (us ++ adds)) ≡ part 1 (wordsOf ds) ++ (part 2 (wordsOf us) ++ part 3 (wordsOf adds))
   unfolding body
   body-split =
@@ -199,7 +195,7 @@ cut-is left =
 
 -- ---- the cut is the longest run
 
-module _ (ds us adds : List Operation) (hd : Code 1 ds) (hu : Code 2 us) (ha : Code 3 adds) where
+module _ (ds us adds : List Operation) (hd : AllOf 1 ds) (hu : AllOf 2 us) (ha : AllOf 3 adds) where
   -- what the first operations cost
   cost-first : (x y z : ℕ) → Inside (length ds) (length us) (length adds) x y z → cost (take (x + y + z) (ds ++ (us ++ adds))) ≡ worth x y z
   cost-first x y z h =
@@ -208,13 +204,15 @@ module _ (ds us adds : List Operation) (hd : Code 1 ds) (hu : Code 2 us) (ha : C
       ∙ cost-split (take x ds) (take y us) (take z adds) (code-take 1 x ds hd) (code-take 2 y us hu) (code-take 3 z adds ha)
       ∙ rw (length-take-le x ds (p .x-in), length-take-le y us (p .y-in), length-take-le z adds (p .z-in))
 
-  pub cut-longest : (x y z : ℕ) → Cut (length ds) (length us) (length adds) x y z → x + y + z ≡ longest (length (ds ++ (us ++ adds))) (ds ++ (us ++ adds))
+  pub cut-longest : (x y z : ℕ) → Cut (length ds) (length us) (length adds) x y z → LongestOf (ds ++ (us ++ adds)) (take x ds ++ (take y us ++ take z adds))
   cut-longest x y z q =
       let p = parts-in (q .inside) in
       let n : length (ds ++ (us ++ adds)) ≡ length ds + length us + length adds = simp length-append (omega arith) in
-      longest-unique (length (ds ++ (us ++ adds))) (ds ++ (us ++ adds)) (x + y + z)
-      (record {
-        within = omega arith;
-        fits = rw (cost-first x y z (q .inside)) (q .fits);
-        full = λ h. let m = q .full (omega arith) in rw (← m .4, cost-first (m .0) (m .1) (m .2) (m .3)) (m .5);
-      })
+      rw (← take-split ds us adds x y z (q .inside))
+      (longest-by (ds ++ (us ++ adds)) (x + y + z)
+      (omega arith)
+      (rw (cost-first x y z (q .inside)) (q .fits))
+      (λ h. let m = q .full (omega arith) in rw (← m .4, cost-first (m .0) (m .1) (m .2) (m .3)) (m .5)))
+
+pub cut-is-longest : CutIsLongest
+cut-is-longest ds us adds hd hu ha = cut-longest ds us adds hd hu ha _ _ _ (cut-is (record { deletes = length ds; updates = length us; additions = length adds }))

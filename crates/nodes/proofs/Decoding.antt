@@ -14,11 +14,12 @@ use Rattle.journal.specs.declared.operation.Operation.the-variants.{Delete, Upd
 use Rattle.journal.specs.Journal.{opcode, operands}
 use Rattle.nodes.specs.declared.reading.Fault.the-variants.{Fine}
 use Rattle.nodes.specs.Run.{cost}
+use Rattle.nodes.specs.Longest.{AllOf}
 use Rattle.nodes.specs.Area.{wordsOf, part, body}
 use Rattle.nodes.specs.Reading.{opcodeIn, countIn, faultOf, good, verdict, operationsAt}
 use Rattle.nodes.specs.Claims.{Sorted}
 use Rattle.nodes.proofs.Runs.{length-part, length-body}
-use Rattle.nodes.proofs.Cut.{Code, words-two, body-split}
+use Rattle.nodes.proofs.Cut.{words-two, body-split}
 use Rattle.nodes.proofs.Verdicts.{operations-end, operations-more, operations-single, operations-pair, verdict-end, verdict-fine}
 
 -- ---- a list sorted by opcode is its deletes, then its updates, then its additions
@@ -36,7 +37,7 @@ opcode-some (Add p i) = (omega arith, omega arith)
 record Apart (code : ℕ) (os : List Operation) : Type 0 where
   these : List Operation
   others : List Operation
-  code-is : Code code these
+  code-is : AllOf code these
   later : Sorted (suc code) others
   joined : os ≡ these ++ others
 
@@ -66,14 +67,14 @@ operation-first (Delete p) code ws n e = let m : 1 + n - 1 ≡ n = omega arith i
 operation-first (Update p) code ws n e = let m : 1 + n - 1 ≡ n = omega arith in rw (← e, operations-single 2 p ws (1 + n) (λ q. omega arith) (omega arith), m)
 operation-first (Add p i) code ws n e = let m : 2 + n - 1 - 1 ≡ n = omega arith in rw (← e, operations-pair 3 p i ws (2 + n) refl (omega arith), m)
 
-operations-of : (code : ℕ) (os : List Operation) (ws : List ℕ) → Code code os → operationsAt (wordsOf os ++ ws) code (length (wordsOf os)) ≡ os ++ operationsAt ws code 0
+operations-of : (code : ℕ) (os : List Operation) (ws : List ℕ) → AllOf code os → operationsAt (wordsOf os ++ ws) code (length (wordsOf os)) ≡ os ++ operationsAt ws code 0
 unfolding wordsOf
 operations-of code [] ws c = refl
 operations-of code (o ∷ os) ws c =
     rw (append-assoc (operands o) (wordsOf os) ws, length-append (operands o) (wordsOf os))
     (operation-first o code (wordsOf os ++ ws) (length (wordsOf os)) (c .0) ∙ ap (λ (l : List Operation). o ∷ l) (operations-of code os ws (c .1)))
 
-even-additions : (code : ℕ) (os : List Operation) → Code code os → (eqb code 3 && eqb (length (wordsOf os) % 2) 1) ≡ false
+even-additions : (code : ℕ) (os : List Operation) → AllOf code os → (eqb code 3 && eqb (length (wordsOf os) % 2) 1) ≡ false
 even-additions code os c = go (eqb code 3) refl
   where
     go : (t : Bool) → eqb code 3 ≡ t → (t && eqb (length (wordsOf os) % 2) 1) ≡ false
@@ -121,11 +122,11 @@ reads-lower b c ws os l r at last h = r at last (omega arith)
 reads-end : (code : ℕ) (ws : List ℕ) → Reads code (0 ∷ ws) []
 reads-end code ws at last h = (verdict-end 0 at last ws refl, operations-end last 0 ws refl)
 
-words-operands : (code : ℕ) (os : List Operation) → 1 ≤ code → code ≤ 3 → length (wordsOf os) < 16777216 → Code code os → Operands code (wordsOf os) os
+words-operands : (code : ℕ) (os : List Operation) → 1 ≤ code → code ≤ 3 → length (wordsOf os) < 16777216 → AllOf code os → Operands code (wordsOf os) os
 words-operands code os low high short c =
     record { low = low; high = high; short = short; even = even-additions code os c; holds = λ ws. operations-of code os ws c }
 
-parts-read : (ds us adds : List Operation) (ws : List ℕ) → Code 1 ds → Code 2 us → Code 3 adds → cost (ds ++ (us ++ adds)) ≤ 1019 → Reads 0 (body (ds ++ (us ++ adds)) ++ (0 ∷ ws)) (ds ++ (us ++ adds))
+parts-read : (ds us adds : List Operation) (ws : List ℕ) → AllOf 1 ds → AllOf 2 us → AllOf 3 adds → cost (ds ++ (us ++ adds)) ≤ 1019 → Reads 0 (body (ds ++ (us ++ adds)) ++ (0 ∷ ws)) (ds ++ (us ++ adds))
 parts-read ds us adds ws cd cu ca short =
     let split = body-split ds us adds cd cu ca in
     let size = simp (length-append, length-part) at (sym (length-body (ds ++ (us ++ adds))) ∙ ap length split) in

@@ -15,20 +15,21 @@ use Rattle.journal.specs.Journal.{Entry, opcode, entries}
 use Rattle.journal.specs.Reportable.{reports, chosen, reportable, countsOf}
 use Rattle.words.proofs.Choice.{choose, and-left}
 use Rattle.nodes.specs.Run.{run, remains, nextState, partWords, cut, leftOf, total}
+use Rattle.nodes.specs.Longest.{AllOf}
 use Rattle.nodes.specs.Area.{wordsOf, part, body}
-use Rattle.nodes.proofs.Runs.{run-facts}
-use Rattle.nodes.proofs.Cut.{Code, code-take, code-drop, words-one, words-two, body-split, Parts, parts-in, take-split, Cut, cut-is, cut-longest}
+use Rattle.nodes.proofs.Runs.{longest-one, longest-run, run-facts}
+use Rattle.nodes.proofs.Cut.{code-take, code-drop, words-one, words-two, body-split, Parts, parts-in, Cut, cut-is, cut-longest}
 
 -- an entry that is reported under an opcode is an operation of it
 pub report-code : (row : List ℕ) (code : ℕ) (e : Entry) → reports row code e ≡ true → opcode (e .operation) ≡ code
 unfolding reports
 report-code row code e h = eqb-true _ _ (and-left (eqb (opcode (e .operation)) code) _ h)
 
-pub chosen-code : (row : List ℕ) (code : ℕ) (es : List Entry) → Code code (chosen row code es)
+pub chosen-code : (row : List ℕ) (code : ℕ) (es : List Entry) → AllOf code (chosen row code es)
 unfolding chosen
 chosen-code row code [] = tt
 chosen-code row code (e ∷ es) =
-    choose (reports row code e) (Code code) {x = e .operation ∷ chosen row code es} {y = chosen row code es}
+    choose (reports row code e) (AllOf code) {x = e .operation ∷ chosen row code es} {y = chosen row code es}
     (λ h. (report-code row code e h, chosen-code row code es))
     (λ _. chosen-code row code es)
 
@@ -48,13 +49,13 @@ abbrev pub later : List ℕ → List ℕ → ℕ → ℕ → List Operation
 later row j code skip = drop skip (chosen row code (entries j))
 
 module _ (row j : List ℕ) (code skip : ℕ) where
-  pub later-code : Code code (later row j code skip)
+  pub later-code : AllOf code (later row j code skip)
   later-code = code-drop code skip (chosen row code (entries j)) (chosen-code row code (entries j))
 
   later-length : (n : ℕ) → n ≡ length (chosen row code (entries j)) → length (later row j code skip) ≡ n - skip
   later-length n e = length-drop skip (chosen row code (entries j)) ∙ rw (← e)
 
-  first-code : (n : ℕ) → Code code (take n (later row j code skip))
+  first-code : (n : ℕ) → AllOf code (take n (later row j code skip))
   first-code n = code-take code n (later row j code skip) later-code
 
 -- ---- the run of a call
@@ -99,11 +100,10 @@ module _ (row j : List ℕ) (c : Counts) (k : ℕ) (counted : c ≡ countsOf row
   parts = parts-in (cut-here .inside)
 
   pub run-parts : run (reportable row j) k ≡ take (r .deletes) ds ++ (take (r .updates) us ++ take (r .additions) adds)
-  unfolding run
   run-parts =
-      rw rest
-      (ap (λ (n : ℕ). take n (ds ++ (us ++ adds))) (sym (cut-longest ds us adds (later-code row j 1 k) (later-code row j 2 (k - c .deletes)) (later-code row j 3 (k - c .deletes - c .updates)) (r .deletes) (r .updates) (r .additions) cut-here))
-      ∙ take-split ds us adds (r .deletes) (r .updates) (r .additions) (cut-here .inside))
+      longest-one (drop k (reportable row j)) _ _ (longest-run (reportable row j) k)
+      (rw rest
+      (cut-longest ds us adds (later-code row j 1 k) (later-code row j 2 (k - c .deletes)) (later-code row j 3 (k - c .deletes - c .updates)) (r .deletes) (r .updates) (r .additions) cut-here))
 
   pub run-length : length (run (reportable row j) k) ≡ total r
   run-length =
@@ -127,13 +127,13 @@ module _ (row j : List ℕ) (c : Counts) (k : ℕ) (counted : c ≡ countsOf row
   pub few : k + total r ≤ total c
   few = rw (← run-length, ← all) (run-facts (reportable row j) k (rw all inside) .within)
 
-  code-ds : Code 1 (take (r .deletes) ds)
+  code-ds : AllOf 1 (take (r .deletes) ds)
   code-ds = first-code row j 1 k (r .deletes)
 
-  code-us : Code 2 (take (r .updates) us)
+  code-us : AllOf 2 (take (r .updates) us)
   code-us = first-code row j 2 (k - c .deletes) (r .updates)
 
-  code-adds : Code 3 (take (r .additions) adds)
+  code-adds : AllOf 3 (take (r .additions) adds)
   code-adds = first-code row j 3 (k - c .deletes - c .updates) (r .additions)
 
   pub body-is : body (run (reportable row j) k)

@@ -5,10 +5,10 @@ use mathlib.Core.List.{List, [], _∷_, _++_}
 use mathlib.Core.Logic.{⊎-elim}
 use Prim.Native.Nat.{ℕ, zero, suc, _+_, _*_, _-_, _≤_, _<_}
 use native.Mathlib.Omega.{arith}
-use native.Mathlib.Nat.{eq-or-lt-of-le, not-le-of-lt}
+use native.Mathlib.Nat.{eq-or-lt-of-le, lt-of-not-le}
 use lib.Dec.{leb, eqb}
 use borrow.Author.Tests.{leb-true, leb-false}
-use lib.ListN.{length, take, drop, length-append, length-drop, take-append-drop}
+use lib.ListN.{length, take, drop, length-append, length-take, length-drop, take-append-drop}
 use lib.Seq.{take-add, length-take-le, take-take}
 use Rattle.journal.specs.declared.operation.Operation.{Operation}
 use Rattle.journal.specs.declared.operation.Operation.the-variants.{Delete, Update, Add}
@@ -16,6 +16,7 @@ use Rattle.journal.specs.Journal.{opcode, operands}
 use Rattle.journal.specs.Reportable.{operandWords}
 use Rattle.words.proofs.Choice.{choose}
 use Rattle.nodes.specs.Run.{present, cost, longest, run, remains, nextState, operator, partWords}
+use Rattle.nodes.specs.Longest.{LongestOf, LongestRun}
 use Rattle.nodes.specs.Area.{operandsOf, part, body}
 
 -- ---- operators
@@ -123,44 +124,60 @@ cost-shorter m n os h = subst (λ (x : List Operation). cost x ≤ cost (take n 
 
 -- ---- the longest run
 
--- what it is: of no more than n operations, it fits, and with one operation more it does not
-pub record Longest (n : ℕ) (os : List Operation) (m : ℕ) : Type 0 where
-  pub within : m ≤ n
-  pub fits : cost (take m os) ≤ 1019
-  pub full : m < n → 1019 < cost (take (suc m) os)
-
-pub longest-is : (n : ℕ) (os : List Operation) → Longest n os (longest n os)
-unfolding longest cost present operandWords
-longest-is zero os = record { within = omega arith; fits = omega arith; full = λ h. omega arith }
-longest-is (suc n) os = choose (leb (cost (take (suc n) os)) 1019) (Longest (suc n) os)
-    (λ e. record { within = omega arith; fits = leb-true _ _ e; full = λ h. omega arith })
-    (λ e. let l = longest-is n os in record {
-      within = omega arith;
-      fits = l .fits;
-      full = λ h. ⊎-elim
-          (λ q. subst (λ (m : ℕ). 1019 < cost (take (suc m) os)) (sym q) (leb-false _ _ e)) (l .full) (eq-or-lt-of-le (l .within));
-    })
-
--- no run that fits is longer
-pub longest-most : (n : ℕ) (os : List Operation) (m : ℕ) → m ≤ n → cost (take m os) ≤ 1019 → m ≤ longest n os
+-- its length is within the bound, so many operations fit, and no more do
+longest-within : (n : ℕ) (os : List Operation) → longest n os ≤ n
 unfolding longest
-longest-most zero os m h c = h
-longest-most (suc n) os m h c = choose (leb (cost (take (suc n) os)) 1019) (λ (l : ℕ). m ≤ l)
-    (λ e. h)
-    (λ e. ⊎-elim
-    (λ q. absurd (not-le-of-lt (leb-false _ _ e) (subst (λ (i : ℕ). cost (take i os) ≤ 1019) q c)))
-    (λ l. longest-most n os m (omega arith) c)
+longest-within zero os = omega arith
+longest-within (suc n) os = choose (leb (cost (take (suc n) os)) 1019) (λ (m : ℕ). m ≤ suc n) (λ e. omega arith) (λ e. omega (arith, longest-within n os))
+
+longest-fits : (n : ℕ) (os : List Operation) → cost (take (longest n os) os) ≤ 1019
+unfolding longest cost present operandWords
+longest-fits zero os = omega arith
+longest-fits (suc n) os = choose (leb (cost (take (suc n) os)) 1019) (λ (m : ℕ). cost (take m os) ≤ 1019) (λ e. leb-true _ _ e) (λ e. longest-fits n os)
+
+longest-most : (n : ℕ) (os : List Operation) (m : ℕ) → m ≤ n → longest n os < m → 1019 < cost (take m os)
+unfolding longest
+longest-most zero os m h = λ l. absurd (omega arith)
+longest-most (suc n) os m h = choose (leb (cost (take (suc n) os)) 1019) (λ (k : ℕ). k < m → 1019 < cost (take m os))
+    (λ e l. absurd (omega arith))
+    (λ e l. ⊎-elim
+    (λ q. subst (λ (i : ℕ). 1019 < cost (take i os)) (sym q) (leb-false _ _ e))
+    (λ g. longest-most n os m (omega arith) l)
     (eq-or-lt-of-le h))
 
--- and no other number of operations is `Longest`
-pub longest-unique : (n : ℕ) (os : List Operation) (m : ℕ) → Longest n os m → m ≡ longest n os
-longest-unique n os m l =
-    let r = longest-is n os in
-    ⊎-elim (λ q. q)
-    (λ g. absurd (not-le-of-lt (l .full (omega (arith, r .within))) (omega (arith, cost-shorter (suc m) (longest n os) os g, r .fits))))
-    (eq-or-lt-of-le (longest-most n os m (l .within) (l .fits)))
+longest-is : (os : List Operation) → LongestOf os (take (longest (length os) os) os)
+longest-is os =
+    let m = longest (length os) os in
+    let t : length (take m os) ≡ m = length-take-le m os (longest-within (length os) os) in
+    record { first = rw t; fits = longest-fits (length os) os; no-longer = λ n l h. longest-most (length os) os n h (omega arith) }
+
+-- so are the first m operations that fit, where with one operation more they do not
+pub longest-by : (os : List Operation) (m : ℕ) → m ≤ length os → cost (take m os) ≤ 1019 → (m < length os → 1019 < cost (take (suc m) os)) → LongestOf os (take m os)
+longest-by os m within fits full =
+    let t : length (take m os) ≡ m = length-take-le m os within in
+    record { first = rw t; fits = fits; no-longer = λ n h g. omega (arith, full (omega arith), cost-shorter (suc m) n os (omega arith)) }
+
+module _ (os : List Operation) where
+  longest-inside : (a : List Operation) → LongestOf os a → length a ≤ length os
+  longest-inside a l = omega (arith, ap length (l .first), length-take (length a) os)
+
+  -- none is longer than another
+  longest-le : (a b : List Operation) → LongestOf os a → LongestOf os b → length b ≤ length a
+  longest-le a b l k =
+      let h : length b < suc (length a) = lt-of-not-le (λ h. omega (arith, l .no-longer (length b) (omega arith) (longest-inside b k), k .fits, ap cost (k .first))) in
+      omega arith
+
+  -- so there is but one
+  pub longest-one : (a b : List Operation) → LongestOf os a → LongestOf os b → a ≡ b
+  longest-one a b l k =
+      let n : length a ≡ length b = omega (arith, longest-le a b l k, longest-le b a k l) in
+      l .first ∙ ap (λ (i : ℕ). take i os) n ∙ sym (k .first)
 
 -- ---- the run of a call
+
+pub longest-run : LongestRun
+unfolding run
+longest-run os state = longest-is (drop state os)
 
 -- The run from a state on fits and ends within the list; with what stands before the state it is the list's first operations; it leaves something only
 -- after 1,015 operand words; and it is not empty where something is left.
@@ -173,22 +190,21 @@ pub record RunFacts (os : List Operation) (k : ℕ) : Type 0 where
   pub some-more : k < length os → 0 < length (run os k)
 
 pub run-facts : (os : List Operation) (k : ℕ) → k ≤ length os → RunFacts os k
-unfolding run
 run-facts os k h =
     let r = drop k os in
-    let m = longest (length r) r in
-    let l : Longest (length r) r m = longest-is (length r) r in
+    let m = length (run os k) in
+    let l : LongestOf r (run os k) = longest-run os k in
     let d : length r ≡ length os - k = length-drop k os in
-    let t : length (take m r) ≡ m = length-take-le m r (l .within) in
-    let joins : take k os ++ take m r ≡ take (k + length (take m r)) os = rw t (sym (take-add k m os)) in
-    let full : m < length r → 1015 ≤ operandWords (take m r) = λ g. omega (arith, l .full g, cost-le (take (suc m) r), operandWords-suc m r) in
+    let joins : take k os ++ run os k ≡ take (k + m) os = ap (λ (x : List Operation). take k os ++ x) (l .first) ∙ sym (take-add k m os) in
+    let full : m < length r → 1015 ≤ operandWords (run os k) = λ g. omega (arith, l .no-longer (suc m) (omega arith) g, cost-le (take (suc m) r), operandWords-suc m r, ap operandWords (l .first)) in
+    let inside : m ≤ length r = longest-inside r (run os k) l in
     record {
       fits = l .fits;
       within = omega arith;
       so-far = joins;
-      words-so-far = ap operandWords (sym joins) ∙ operandWords-append (take k os) (take m r);
+      words-so-far = ap operandWords (sym joins) ∙ operandWords-append (take k os) (run os k);
       many = λ g. full (omega arith);
-      some-more = λ g. ⊎-elim (λ q. omega arith) (λ q. omega (arith, full q, operandWords-le (take m r))) (eq-or-lt-of-le (l .within));
+      some-more = λ g. ⊎-elim (λ q. omega arith) (λ q. omega (arith, full q, operandWords-le (run os k))) (eq-or-lt-of-le inside);
     }
 
 -- the state after a call is a place in the list

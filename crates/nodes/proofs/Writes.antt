@@ -21,16 +21,17 @@ use Rattle.journal.proofs.Entries.{one-if}
 use Rattle.journal.proofs.Judging.{judged-kind}
 use Rattle.journal.proofs.Walks.{all-good, walked, walked-on, walked-fits, walked-size, walked-operands, still-inside, chosen-here, chosen-later}
 use Rattle.nodes.specs.Run.{partWords, operator}
+use Rattle.nodes.specs.Longest.{AllOf}
 use Rattle.nodes.specs.Area.{wordsOf, part}
 use Rattle.nodes.specs.Writing.{width, Due, dueWords, partFrom}
-use Rattle.nodes.proofs.Cut.{Code, code-take, words-one, words-two}
+use Rattle.nodes.proofs.Cut.{code-take, words-one, words-two}
 use Rattle.nodes.proofs.Listed.{chosen-code}
 
 -- ---- how many words are due
 
-pub words-width : (code : ℕ) (os : List Operation) → 1 ≤ code → code ≤ 3 → Code code os → length (wordsOf os) ≡ width code * length os
+pub words-width : (code : ℕ) (os : List Operation) → 1 ≤ code → code ≤ 3 → AllOf code os → length (wordsOf os) ≡ width code * length os
 words-width code os l h =
-    each-code (λ (k : ℕ). Code k os → length (wordsOf os) ≡ width k * length os)
+    each-code (λ (k : ℕ). AllOf k os → length (wordsOf os) ≡ width k * length os)
     (λ c. omega (arith, words-one 1 os (omega arith) c)) (λ c. omega (arith, words-one 2 os (omega arith) c)) (words-two os) code l h
 
 pub width-some : (code : ℕ) → (1 ≤ width code) × (width code ≤ 2)

@@ -11,6 +11,7 @@ use Rattle.journal.specs.declared.operation.Operation.the-variants.{Delete, Upd
 use Rattle.journal.specs.Journal.{opcode, operands, wellFormed}
 use Rattle.journal.specs.Reportable.{reportable, operandWords}
 use Rattle.nodes.specs.Run.{run, remains, nextState}
+use Rattle.nodes.specs.Longest.{LongestRun}
 use Rattle.nodes.specs.Area.{written}
 use Rattle.nodes.specs.Reading.{read, reading}
 
@@ -86,6 +87,7 @@ RunCases = T (allAgree runCases)
 pub record AreaClaims : Type 0 where
   pub reportable-listed : ReportableListed
   pub round-trip : RoundTrip
+  pub longest-run : LongestRun
   pub never-empty : NeverEmpty
   pub well-filled : WellFilled
   pub run-cases : RunCases

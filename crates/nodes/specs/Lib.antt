@@ -1,4 +1,5 @@
 pub mod Run
+pub mod Longest
 pub mod Area
 pub mod Reading
 pub mod Cursor

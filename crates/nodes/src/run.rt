@@ -2,6 +2,7 @@
 ghost use mathlib.Core.Path.{_≡_};
 ghost use Prim.Native.Nat.{_-_, min};
 ghost use Rattle.nodes.specs.Run.{partWords, cut, leftOf};
+ghost use Rattle.nodes.specs.Longest.{CutIsLongest};
 use journal::Counts;
 
 // What is left of `a` once `b` is taken away.
@@ -36,6 +37,7 @@ fn room_after(room: usize, n: usize) -> usize
 // How many deletes, updates and additions the longest run has, from how many are left.
 pub fn longest_run(left: Counts) -> Counts
     ensures { λ r. ⌜ r ≡ cut left ⌝ }
+    ensures longest { λ _. ⌜ CutIsLongest ⌝ }
 {
     let deletes = least(left.deletes, 1018);
     let second = room_after(1019, deletes);

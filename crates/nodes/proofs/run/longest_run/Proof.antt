@@ -1,6 +1,7 @@
 -- `run::longest_run` meets its contract.
 use borrow.Author.Needs.{needs}
 use Rattle.nodes.specs.Run.{cut}
+use Rattle.nodes.proofs.Cut.{cut-is-longest}
 use Rattle.nodes.proofs.run.longest_run.Statement.{statement}
 use Rattle.nodes.proofs.run.longest_run.Tie as tie
 
@@ -27,7 +28,7 @@ least-requires-3 c κs = search needs
 
 returns : tie.Need-returns
 unfolding cut
-returns c = cc
+returns c = (cc, cut-is-longest)
 
 pub longest-run-spec : {M : Type 1} → statement M
 longest-run-spec =

@@ -24,7 +24,7 @@ longest-run-requires : tie.Need-longest-run-requires
 longest-run-requires c κs = search needs
 
 fitting : (c : tie.After-longest-run) → c .longest-run .result ≡ cut (leftOf (c .before .before .before .before .before .args .counts) (c .before .before .before .before .before .args .state .0))
-fitting c = c .longest-run .ensures ∙ ap cut (c .before .counts-left .ensures)
+fitting c = c .longest-run .ensures .0 ∙ ap cut (c .before .counts-left .ensures)
 
 -- the operations reported by then are no more than all, which are few
 sums : (c : tie.After-longest-run) → (c .before .before .before .before .before .args .state .0 + total (c .longest-run .result) ≤ total (c .before .before .before .before .before .args .counts)) × (total (c .before .before .before .before .before .args .counts) ≤ 3145728)
