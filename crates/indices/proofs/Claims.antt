@@ -3,7 +3,8 @@ use Rattle.words.specs.Numbers.{be, beBytes, zeros}
 use Rattle.words.specs.Nul.{untilNul}
 use Rattle.indices.specs.Claims.{ReadingCases, AreaClaims}
 use Rattle.indices.specs.Reading.{lengthAt, fieldAt, goodLength, goodField, faultAt, readFrom, reading}
-use Rattle.indices.proofs.Written.{round-trip, reads-back, holds-due, fits}
+use Rattle.indices.proofs.Written.{round-trip, reads-back, holds-due}
+use Rattle.indices.proofs.Longest.{fits}
 
 reading-cases : ReadingCases
 unfolding be beBytes zeros lengthAt fieldAt untilNul goodLength goodField faultAt readFrom reading

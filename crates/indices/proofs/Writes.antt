@@ -17,7 +17,8 @@ use Rattle.inventory.specs.Listing.{Entry, entryOf, listed}
 use Rattle.inventory.specs.Scanning.{Onward, Next}
 use Rattle.indices.specs.Area.{filled, entrySize, codeField, entryBytes, entriesBytes, fitting, run, answer, written, left}
 use Rattle.indices.specs.Writing.{entryFrom, ahead, Due}
-use Rattle.indices.proofs.Written.{entry-length, fitting-length, fitting-few}
+use Rattle.indices.proofs.Written.{fitting-few}
+use Rattle.indices.proofs.Longest.{entry-length, entries-length, fitting-taken}
 
 -- ---- an entry
 
@@ -166,4 +167,4 @@ module _ (area : List ℕ) {inventory : List ℕ} {flag kind number from count :
     run-none h = answered p (q ∙ left-none area due-run (omega arith))
 
     pub run-counted : {m : List ℕ} → 4 ≤ length area → 0 < handed → m ≡ sets l 0 (beBytes 4 handed) → Answered handed m
-    run-counted f h e = answered p (e ∙ rw (q, p) (left-some area due-run (omega arith) (omega (arith, fitting-length (length area - 4) (ahead flag kind inventory from)))))
+    run-counted f h e = answered p (e ∙ rw (q, p) (left-some area due-run (omega arith) (omega (arith, entries-length due-run, fitting-taken (length area - 4) (ahead flag kind inventory from)))))

@@ -20,7 +20,7 @@ use Rattle.inventory.specs.Listing.{Entry, entryOf, matches, chosen, listed}
 use Rattle.indices.specs.declared.reading.Fault.the-variants.{Fine}
 use Rattle.indices.specs.Area.{filled, entrySize, codeField, entryBytes, entriesBytes, fitting, run, answer, written}
 use Rattle.indices.specs.Reading.{lengthAt, fieldAt, goodLength, goodField, faultAt, entryAt, read, readFrom, reading}
-use Rattle.indices.specs.Claims.{Sound, RoundTrip, ReadsBack, HoldsDue, Fits}
+use Rattle.indices.specs.Claims.{Sound, RoundTrip, ReadsBack, HoldsDue}
 
 -- ---- a word at a place of which it is known what stands there
 
@@ -210,7 +210,7 @@ reads-back area inventory flag type size number bytes formed =
     (omega (arith, fitting-few (size - 4) rest, length-drop (number - 1) es, listed-few flag type inventory formed))
     (sound-fitting (size - 4) rest (sound-drop (number - 1) es (listed-sound flag type inventory formed bytes)))
 
--- ---- what an area holds
+-- ---- an area holds the entry due
 
 first-fits : (room : ℕ) (es : List Entry) → Sound es → 1 ≤ length es → 88 ≤ room → 1 ≤ length (fitting room es)
 unfolding fitting Sound
@@ -220,21 +220,3 @@ first-fits room (e ∷ es) h p q = rw (le-leb (entrySize (length (e .code))) roo
 pub holds-due : HoldsDue
 unfolding run
 holds-due size number es h p q = first-fits (size - 4) (drop (number - 1) es) (sound-drop (number - 1) es h) (omega (arith, length-drop (number - 1) es)) (omega arith)
-
-pub entry-length : (e : Entry) → length (entryBytes e) ≡ entrySize (length (e .code))
-unfolding entryBytes codeField
-entry-length e =
-    let n = filled (length (e .code)) in
-    omega (arith, length-append (beBytes 4 (e .index)) (beBytes 4 n ++ codeField (e .code)), length-append (beBytes 4 n) (codeField (e .code)), length-append (e .code) (replicate (n - length (e .code)) 0), length-replicate {A = ℕ} (n - length (e .code)) 0, length-beBytes 4 (e .index), length-beBytes 4 n)
-
-pub fitting-length : (room : ℕ) (es : List Entry) → length (entriesBytes (fitting room es)) ≤ room
-unfolding fitting entriesBytes
-fitting-length room [] = omega arith
-fitting-length room (e ∷ es) =
-    choose (leb (entrySize (length (e .code))) room) (λ l. length (entriesBytes l) ≤ room) {x = e ∷ fitting (room - entrySize (length (e .code))) es} {y = []}
-    (λ q. omega (arith, leb-true (entrySize (length (e .code))) room q, entry-length e, length-append (entryBytes e) (entriesBytes (fitting (room - entrySize (length (e .code))) es)), fitting-length (room - entrySize (length (e .code))) es))
-    (λ _. omega arith)
-
-pub fits : Fits
-unfolding run answer
-fits size number es h = omega (arith, length-append (beBytes 4 (length (fitting (size - 4) (drop (number - 1) es)))) (entriesBytes (fitting (size - 4) (drop (number - 1) es))), length-beBytes 4 (length (fitting (size - 4) (drop (number - 1) es))), fitting-length (size - 4) (drop (number - 1) es))

@@ -1,4 +1,5 @@
 pub mod Area
+pub mod Longest
 pub mod Writing
 pub mod Reading
 pub mod Cursor

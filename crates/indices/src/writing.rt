@@ -6,6 +6,7 @@ ghost use lib.Seq.{sets};
 ghost use Rattle.inventory.specs.Listing.{listed};
 ghost use Rattle.inventory.specs.Scanning.{Onward};
 ghost use Rattle.indices.specs.Area.{filled, entrySize, entryBytes, entriesBytes, fitting, run, left};
+ghost use Rattle.indices.specs.Longest.{LongestRun};
 ghost use Rattle.indices.specs.Writing.{entryFrom, ahead, Due};
 
 // The Starting Number: the number of the entry due. It counts from 1.
@@ -62,7 +63,8 @@ fn write_entries(
     handed
 }
 
-// The run from a Starting Number on, with its count, or nothing where the entry due does not fit. Gives how many entries it has.
+// The longest fitting run from a Starting Number on, with its count, or nothing where the entry due does not fit. Gives how many
+// entries it has.
 pub fn write_run(
     area: &mut [u8],
     inventory: &[u8],
@@ -75,6 +77,7 @@ pub fn write_run(
     requires { ⌜ (4 ≤ length (now area)) × Due flag kind (number .0) (now inventory) from count ⌝ }
     ensures { λ r. ⌜ r ≡ length (run (length (now (area .entry))) (number .0) (listed flag kind (now (inventory .entry)))) ⌝ }
     ensures { λ _. ⌜ now (area .exit) ≡ left (now (area .entry)) (run (length (now (area .entry))) (number .0) (listed flag kind (now (inventory .entry)))) ⌝ }
+    ensures claims { λ _. ⌜ LongestRun ⌝ }
 {
     let handed = write_entries(area, inventory, flag, kind, from, count);
     if 0 < handed {

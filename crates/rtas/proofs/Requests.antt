@@ -14,7 +14,7 @@ use Rattle.words.proofs.Choice.{choose, and-left, and-right}
 use Rattle.inventory.specs.Inventory.{wellFormed}
 use Rattle.inventory.specs.Listing.{Entry}
 use Rattle.indices.specs.Area.{entrySize, fitting, run, answer, written}
-use Rattle.indices.proofs.Written.{fits}
+use Rattle.indices.proofs.Longest.{fits}
 use Rattle.rtas.specs.declared.indices_call.Request.{Request}
 use Rattle.rtas.specs.declared.status.Status.{Status}
 use Rattle.rtas.specs.declared.status.Status.the-variants.{Done, Again, Parameter}

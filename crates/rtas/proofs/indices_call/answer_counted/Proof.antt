@@ -40,7 +40,7 @@ ran c = record {
   low = omega arith;
   high = omega arith;
   counted = rw (c .before .before .before .before .before .before .before .before .pre .1) (c .write-run .ensures .0);
-  stored = rw (c .before .before .before .before .before .before .before .before .pre .1) (c .write-run .ensures .1);
+  stored = rw (c .before .before .before .before .before .before .before .before .pre .1) (c .write-run .ensures .1 .0);
 }
 
 returns-3 : tie.Need-returns-3
