@@ -1,7 +1,8 @@
 -- Demand 1: what no call changes.
 use mathlib.Core.Path.{_≡_, refl, sym, ap, _∙_}
-use mathlib.Core.Bool.{Bool, true, false, cond, _&&_, _||_, false≢true}
+use mathlib.Core.Bool.{Bool, true, false, cond, _&&_, false≢true}
 use mathlib.Core.List.{List, [], _∷_}
+use mathlib.Core.Logic.{⊎-elim}
 use Prim.Native.Nat.{ℕ, _+_, _*_, _<_, _≤_}
 use native.Mathlib.Omega.{arith}
 use lib.ListN.{length, getD}
@@ -15,21 +16,22 @@ use Rattle.nodes.specs.Run.{remains}
 use Rattle.journal.specs.Scope.{valid, rowOf}
 use Rattle.rtas.specs.declared.status.Number.the-variants.{Given}
 use Rattle.rtas.specs.declared.status.Status.the-variants.{Done, Again, Malformed, Parameter}
-use Rattle.rtas.specs.Status.{isGiven, isAnswer, statusWord}
+use Rattle.rtas.specs.Status.{numberOf, isGiven, isAnswer, statusWord}
 use Rattle.rtas.specs.UpdateNodes.{areaAt, withArea, placed, reserved, goodState, areaStatus, areaAfter, nodesStatus, nodesMemory}
-use Rattle.rtas.specs.Buffer.{outputs, input, statusAt, numberFor, isNodes, isIndices, isDump, requestOf, Outcome, nodesOutcome, indicesOutcome, dumpOutcome, refusal, outcome, Result, callOf, answered}
-use Rattle.rtas.specs.Demands.{among, inArea, Confined, Demand1}
+use Rattle.rtas.specs.Buffer.{outputs, input, statusAt, numberFor, isNodes, isIndices, isDump, requestOf, Outcome, nodesOutcome, indicesOutcome, dumpOutcome, refusal, outcome, Result, callOf}
+use Rattle.rtas.specs.Terms.{HasStatus, Refused, Asks, Outside}
+use Rattle.rtas.specs.Demands.{Confined, Demand1}
 use Rattle.rtas.proofs.Areas.{placed-inside, state-within, nodes-checked}
-use Rattle.rtas.proofs.Calls.{decide, answered-by}
+use Rattle.rtas.proofs.Calls.{decide, status-word}
 use Rattle.rtas.proofs.Heads.{whole-buffer, asked, unchanged, carried-out, outcome-ways}
 use Rattle.rtas.proofs.Memory.{part-length, part-kept, part-before, part-behind, part-same, written-length}
-use lib.Dec.{eqb}
+use lib.Dec.{leb, eqb}
+use borrow.Author.Tests.{leb-true}
 use Rattle.dump.specs.declared.registration.Verdict.{Verdict}
 use Rattle.dump.specs.declared.registration.Verdict.the-variants as verdict
 use Rattle.dump.specs.Registration.{isDone, noRegistration, registered, structureAt, verdictOf, registrationAfter}
 use Rattle.rtas.specs.ConfigureDump.{verdictStatus, dumpStatus}
 use Rattle.rtas.specs.GetIndices.{indicesStatus, nextNumber}
-use Rattle.rtas.proofs.Places.{outside}
 use Rattle.rtas.proofs.Requests.{indices-refused, indices-outside, indices-length}
 
 -- ---- the memory that update-nodes leaves
@@ -88,9 +90,9 @@ module _ (m : List ℕ) (address scope : ℕ) (j : List ℕ) where
   nodes-length : length (nodesMemory m address scope j) ≡ length m
   nodes-length = ways (λ (l : List ℕ). length l ≡ length m) (λ p v. part-kept m address 4096 (inside p) next (size p)) refl
 
-  nodes-outside : (k : ℕ) → among address 4096 k ≡ false → getD (nodesMemory m address scope j) k 0 ≡ getD m k 0
+  nodes-outside : (k : ℕ) → Outside address 4096 k → getD (nodesMemory m address scope j) k 0 ≡ getD m k 0
   nodes-outside k e = ways (λ (l : List ℕ). getD l k 0 ≡ getD m k 0)
-      (λ p v. outside address 4096 k e (part-before m address 4096 (inside p) next (size p) k) (part-behind m address 4096 (inside p) next (size p) k)) refl
+      (λ p v. ⊎-elim (part-before m address 4096 (inside p) next (size p) k) (part-behind m address 4096 (inside p) next (size p) k) e) refl
 
 -- ---- a call's own work
 
@@ -100,23 +102,10 @@ record Proper (b m : List ℕ) (r : Registration) (o : Outcome) : Type 0 where
   refused-more : isAnswer (o .status) ≡ false → o .more ≡ []
   refused-memory : isAnswer (o .status) ≡ false → o .memory ≡ m
   refused-registration : isAnswer (o .status) ≡ false → o .registration ≡ r
-  beside : (k : ℕ) → inArea b k ≡ false → getD (o .memory) k 0 ≡ getD m k 0
+  beside : (k : ℕ) → (Asks 1 2 1 b → Outside (be32 b 12) 4096 k) → (Asks 2 5 2 b → Outside (be32 b 20) (be32 b 24) k) → getD (o .memory) k 0 ≡ getD m k 0
   size : length (o .memory) ≡ length m
 
--- a byte outside the area is outside the area of the call that is asked for
-area-of : (t u : Bool) (x y : Bool) → ((t && x) || (u && y)) ≡ false → (t ≡ true → x ≡ false) × (u ≡ true → y ≡ false)
-area-of true true false false e = (λ _. refl, λ _. refl)
-area-of true true false true e = absurd (false≢true (sym e))
-area-of true u true y e = absurd (false≢true (sym e))
-area-of true false false y e = (λ _. refl, λ h. absurd (false≢true h))
-area-of false true x false e = (λ h. absurd (false≢true h), λ _. refl)
-area-of false true x true e = absurd (false≢true (sym e))
-area-of false false x y e = (λ h. absurd (false≢true h), λ h. absurd (false≢true h))
-
 module _ (b m j i : List ℕ) (r : Registration) where
-  in-area : (k : ℕ) → inArea b k ≡ false → (isNodes b ≡ true → among (input b 0) 4096 k ≡ false) × (isIndices b ≡ true → among (input b 2) (input b 3) k ≡ false)
-  in-area k e = area-of (isNodes b) (isIndices b) (among (input b 0) 4096 k) (among (input b 2) (input b 3) k) e
-
   nodes-proper : isNodes b ≡ true → Proper b m r (nodesOutcome b m j r)
   unfolding nodesOutcome
   nodes-proper e =
@@ -125,7 +114,7 @@ module _ (b m j i : List ℕ) (r : Registration) where
         refused-more = λ _. refl;
         refused-memory = nodes-refused m (input b 0) (input b 1) j;
         refused-registration = λ _. refl;
-        beside = λ k h. nodes-outside m (input b 0) (input b 1) j k (in-area k h .0 e);
+        beside = λ k f g. nodes-outside m (input b 0) (input b 1) j k (f (asked 1 2 1 b e));
         size = nodes-length m (input b 0) (input b 1) j;
       }
 
@@ -142,7 +131,7 @@ module _ (b m j i : List ℕ) (r : Registration) where
         refused-more = λ h. rw h;
         refused-memory = indices-refused m i q;
         refused-registration = λ _. refl;
-        beside = λ k h. indices-outside m i q k (in-area k h .1 e);
+        beside = λ k f g. indices-outside m i q k (g (asked 2 5 2 b e));
         size = indices-length m i q;
       }
 
@@ -165,13 +154,13 @@ module _ (b m j i : List ℕ) (r : Registration) where
         refused-more = λ _. refl;
         refused-memory = λ _. refl;
         refused-registration = dump-kept (input b 0) (input b 1) (input b 2);
-        beside = λ _ _. refl;
+        beside = λ _ _ _. refl;
         size = refl;
       }
 
   refusal-proper : 0 < outputs b → Proper b m r (refusal m r)
   refusal-proper h =
-      record { outputs-hold = h; refused-more = λ _. refl; refused-memory = λ _. refl; refused-registration = λ _. refl; beside = λ _ _. refl; size = refl }
+      record { outputs-hold = h; refused-more = λ _. refl; refused-memory = λ _. refl; refused-registration = λ _. refl; beside = λ _ _ _. refl; size = refl }
 
   abbrev o : Outcome
   o = outcome b m j i r
@@ -192,24 +181,25 @@ module _ (b m j i : List ℕ) (r : Registration) where
       (λ e. rw (unchanged b m j i r e) (f e))
 
   -- a refused call's own work is refused
-  refused-own : answered b (callOf b m j i r) ≡ false → isGiven (numberFor b) ≡ true → isAnswer (o .status) ≡ false
-  refused-own h e = rw e at (sym (answered-by b m j i r) ∙ h)
+  refused-own : Refused b (callOf b m j i r) → isGiven (numberFor b) ≡ true → isAnswer (o .status) ≡ false
+  refused-own h e = decide (isAnswer (o .status))
+      (λ a. absurd (h (ap (λ (x : Result). numberOf (x .number)) (carried-out b m j i r e)) (leb-true _ 1 (ap (λ (n : ℕ). leb n 1) (status-word b m j i r e) ∙ a)))) (λ a. a)
 
   -- bytes outside of words that were stored
-  words-outside : (ws : List ℕ) (k n : ℕ) → length ws ≤ n → among (statusAt b) (4 * n) k ≡ false → getD (sets b (statusAt b) (wordBytes ws)) k 0 ≡ getD b k 0
-  words-outside ws k n h e = outside (statusAt b) (4 * n) k e (sets-before (wordBytes ws) b (statusAt b) k) (λ g. sets-after (wordBytes ws) b (statusAt b) k (omega (arith, length-wordBytes ws)))
+  words-outside : (ws : List ℕ) (k n : ℕ) → length ws ≤ n → Outside (statusAt b) (4 * n) k → getD (sets b (statusAt b) (wordBytes ws)) k 0 ≡ getD b k 0
+  words-outside ws k n h = ⊎-elim (sets-before (wordBytes ws) b (statusAt b) k) (λ g. sets-after (wordBytes ws) b (statusAt b) k (omega (arith, length-wordBytes ws)))
 
   confined : Confined b m r (callOf b m j i r)
   confined =
       record {
-        no-status = call-ways (λ (x : Result). isGiven (x .number) ≡ false → x .args ≡ b) (λ _ _. refl) (λ _ _ h. absurd (false≢true (sym h)));
+        no-status = call-ways (λ (x : Result). (HasStatus x → ⊥) → x .args ≡ b) (λ _ _. refl) (λ _ _ h. absurd (h refl));
         refused-args = λ h k n. call-ways (λ (x : Result). getD (x .args) k 0 ≡ getD b k 0) (λ _. refl)
             (λ e p. rw (p .refused-more (refused-own h e)) (words-outside (statusWord (o .status) ∷ []) k 1 (omega arith) n));
         refused-memory = λ h. call-ways (λ (x : Result). x .memory ≡ m) (λ _. refl) (λ e p. p .refused-memory (refused-own h e));
         refused-registration = λ h. call-ways (λ (x : Result). x .registration ≡ r) (λ _. refl) (λ e p. p .refused-registration (refused-own h e));
         outside-outputs = λ k n. call-ways (λ (x : Result). getD (x .args) k 0 ≡ getD b k 0) (λ _. refl)
             (λ e p. words-outside (statusWord (o .status) ∷ o .more) k (outputs b) (omega (arith, p .outputs-hold)) n);
-        outside-area = λ k n. call-ways (λ (x : Result). getD (x .memory) k 0 ≡ getD m k 0) (λ _. refl) (λ e p. p .beside k n);
+        outside-area = λ k f g. call-ways (λ (x : Result). getD (x .memory) k 0 ≡ getD m k 0) (λ _. refl) (λ e p. p .beside k f g);
         args-length = call-ways (λ (x : Result). length (x .args) ≡ length b) (λ _. refl) (λ _ _. length-sets b (statusAt b) stored);
         memory-length = call-ways (λ (x : Result). length (x .memory) ≡ length m) (λ _. refl) (λ e p. p .size);
       }

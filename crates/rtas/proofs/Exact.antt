@@ -1,127 +1,163 @@
--- Demand 2: the exact condition of each status, and that what was written reads back.
+-- Demand 2: the number of a call, and all that it leaves by its token and counts.
 use mathlib.Core.Path.{_≡_, refl, sym, ap, _∙_}
-use mathlib.Core.Bool.{Bool, true, false, cond, _&&_, not, false≢true}
-use mathlib.Core.List.{List}
-use Prim.Native.Nat.{ℕ, _-_}
-use lib.ListN.{drop}
-use Rattle.words.specs.Numbers.{Bytes, be32}
-use Rattle.journal.specs.Journal.{wellFormed}
-use Rattle.journal.specs.Scope.{valid, rowOf}
-use Rattle.journal.specs.Reportable.{reportable}
-use Rattle.nodes.specs.Run.{run, remains}
-use Rattle.nodes.specs.Area.{written}
-use Rattle.nodes.specs.Reading.{read, reading}
-use Rattle.nodes.proofs.Claims.{area-claims}
-use Rattle.inventory.specs.Inventory as inventory
-use Rattle.indices.specs.Reading as indices
-use Rattle.indices.proofs.Written as indices-written
-use Rattle.rtas.specs.declared.indices_call.Request.{Request}
-use Rattle.rtas.specs.declared.status.Status.{Status}
-use Rattle.rtas.specs.declared.status.Status.the-variants.{Done, Again, Malformed, Parameter}
-use Rattle.rtas.specs.Status.{isAnswer, isDone, isMalformed}
-use Rattle.rtas.specs.UpdateNodes.{areaAt, placed, reserved, goodState, areaStatus, nodesStatus, nodesMemory}
-use Rattle.rtas.specs.Lent.{partAt}
-use Rattle.rtas.specs.GetIndices.{askable, lendable, entriesFor, numberIn, runFor, goodNumber, dueFits, moreEntries, listStatus, indicesStatus, indicesMemory}
-use Rattle.rtas.specs.Demands.{ExactNodes, ExactIndices, Demand2}
-use Rattle.rtas.proofs.Areas.{state-within}
-use Rattle.rtas.proofs.Calls.{Passed, passed-is, nodes-memory}
+use mathlib.Core.Bool.{Bool, true, false, _||_}
+use mathlib.Core.List.{List, []}
+use mathlib.Core.Logic.{⊎-elim}
+use Prim.Native.Nat.{ℕ, _+_, _*_, _≤_}
+use native.Mathlib.Omega.{arith}
+use borrow.Author.Tests.{lt-ltb, le-ltb, eq-eqb, ne-eqb}
+use lib.Dec.{ltb}
+use lib.ListN.{length}
+use Rattle.words.specs.Numbers.{be32}
+use Rattle.words.proofs.Stores.{wordBytes-one}
+use Rattle.dump.specs.declared.registration.Registration.{Registration}
+use Rattle.rtas.specs.declared.status.Number.{Number}
+use Rattle.rtas.specs.declared.status.Number.the-variants.{Given, Short, NoOutputs, TooMany}
+use Rattle.rtas.specs.Status.{numberOf, isGiven, statusWord}
+use Rattle.rtas.specs.Buffer.{inputs, outputs, requestOf, statusAt, numberFor, asks, Result, Outcome, nodesOutcome, indicesOutcome, dumpOutcome, refusal, outcome, callOf}
+use Rattle.rtas.specs.GetIndices.{indicesStatus, nextNumber}
+use Rattle.rtas.specs.Terms.{HasStatus, Asks, statusOf}
+use Rattle.rtas.specs.ExactNodes.{ExactNodes}
+use Rattle.rtas.specs.ExactIndices.{ExactIndices}
+use Rattle.rtas.specs.ExactDump.{ExactDump}
+use Rattle.rtas.specs.Demands.{Numbered, Unknown, ByToken, Demand2}
+use Rattle.rtas.proofs.Heads.{asked, given-number, unchanged, carried-out, nodes-outcome, indices-outcome, dump-outcome}
+use Rattle.rtas.proofs.Calls.{decide, status-word}
+use Rattle.rtas.proofs.Requests.{passed-is}
+use Rattle.rtas.proofs.IndicesCalls.{number-word}
+use Rattle.rtas.proofs.Exactly.{at-most}
+use Rattle.rtas.proofs.ExactNodes.{exact-nodes}
+use Rattle.rtas.proofs.ExactIndices.{exact-indices}
 use Rattle.rtas.proofs.ExactDump.{exact-dump}
-use Rattle.rtas.proofs.Memory.{part-length, part-stored, written-length}
-use Rattle.rtas.proofs.Requests as requests
 
--- the checks as a ladder of tests
-abbrev ladder : Bool → Bool → Bool → Bool → Bool → Bool → Status
-ladder p v w r g m = cond p (cond v (cond w (cond r (cond g (cond m Again Done) Parameter) Parameter) Malformed) Parameter) Parameter
+-- ---- the number
 
-ladder-malformed : (p v w r g m : Bool) → isMalformed (ladder p v w r g m) ≡ (p && (v && not w))
-ladder-malformed false v w r g m = refl
-ladder-malformed true false w r g m = refl
-ladder-malformed true true false r g m = refl
-ladder-malformed true true true false g m = refl
-ladder-malformed true true true true false m = refl
-ladder-malformed true true true true true false = refl
-ladder-malformed true true true true true true = refl
+or-right : (a b : Bool) → b ≡ true → (a || b) ≡ true
+or-right true b e = refl
+or-right false b e = e
 
-ladder-answers : (p v w r g m : Bool) → isAnswer (ladder p v w r g m) ≡ (p && (v && (w && (r && g))))
-ladder-answers false v w r g m = refl
-ladder-answers true false w r g m = refl
-ladder-answers true true false r g m = refl
-ladder-answers true true true false g m = refl
-ladder-answers true true true true false m = refl
-ladder-answers true true true true true false = refl
-ladder-answers true true true true true true = refl
+numbered : (b : List ℕ) → Numbered b (inputs b) (outputs b) (numberOf (numberFor b))
+unfolding numberFor
+numbered b =
+    let n = length b in
+    let i = inputs b in
+    let o = outputs b in
+    let size = 12 + 4 * (i + o) in
+    record {
+      no-head = λ h. rw (lt-ltb n 12 h);
+      too-many = λ h e. let many : (ltb 16 i || ltb 16 o) ≡ true = ⊎-elim (λ g. rw (lt-ltb 16 i g)) (λ g. or-right (ltb 16 i) _ (lt-ltb 16 o g)) e in rw (le-ltb n 12 h, many);
+      cut-off = λ h g f l. rw (le-ltb n 12 h, le-ltb 16 i g, le-ltb 16 o f, lt-ltb n size l);
+      no-outputs = λ g l e. rw (le-ltb n 12 (omega arith), le-ltb 16 i g, le-ltb 16 o (omega arith), le-ltb n size l, eq-eqb o 0 e);
+      given = λ g f l s. rw (le-ltb n 12 (omega arith), le-ltb 16 i g, le-ltb 16 o f, le-ltb n size l, ne-eqb o 0 (λ e. omega arith));
+    }
 
-ladder-done : (p v w r g m : Bool) → isAnswer (ladder p v w r g m) ≡ true → isDone (ladder p v w r g m) ≡ not m
-ladder-done false v w r g m e = absurd (false≢true e)
-ladder-done true false w r g m e = absurd (false≢true e)
-ladder-done true true false r g m e = absurd (false≢true e)
-ladder-done true true true false g m e = absurd (false≢true e)
-ladder-done true true true true false m e = absurd (false≢true e)
-ladder-done true true true true true false e = refl
-ladder-done true true true true true true e = refl
+zero-given : (n : Number) → numberOf n ≡ 0 → isGiven n ≡ true
+zero-given Given e = refl
+zero-given Short e = absurd (omega (arith, e))
+zero-given NoOutputs e = absurd (omega (arith, e))
+zero-given TooMany e = absurd (omega (arith, e))
 
-module _ (m : List ℕ) (address scope : ℕ) (j : List ℕ) where
-  abbrev area : List ℕ
-  area = areaAt m address
+module _ (b m j i : List ℕ) (r : Registration) where
+  abbrev x : Result
+  x = callOf b m j i r
 
-  abbrev ladder-here : Status
-  ladder-here = ladder (placed m address) (valid scope) (wellFormed j) (reserved area) (goodState (rowOf scope) j area) (remains (reportable (rowOf scope) j) (be32 area 0))
+  number-is : x .number ≡ numberFor b
+  number-is = decide (isGiven (numberFor b))
+      (λ e. ap (λ (y : Result). y .number) (carried-out b m j i r e) ∙ sym (given-number (numberFor b) e))
+      (λ e. ap (λ (y : Result). y .number) (unchanged b m j i r e))
 
-  status-is : nodesStatus m address scope j ≡ ladder-here
-  unfolding nodesStatus areaStatus
-  status-is = refl
+  numbers : Numbered b (be32 b 4) (be32 b 8) (numberOf (x .number))
+  numbers = rw number-is (numbered b)
 
-  reads-back : Bytes j → isAnswer (nodesStatus m address scope j) ≡ true → reading (areaAt (nodesMemory m address scope j) address) ≡ read (run (reportable (rowOf scope) j) (be32 area 0))
-  reads-back bytes e =
-      let p : Passed m address scope j = passed-is m address scope j e in
-      let os = reportable (rowOf scope) j in
-      let size = part-length m address 4096 (p .inside) in
-      let within = state-within (rowOf scope) j area (p .begun) in
-      ap (λ (l : List ℕ). reading (areaAt l address)) (nodes-memory m address scope j p)
-      ∙ ap reading (part-stored m address 4096 (p .inside) (written area os (be32 area 0)) (written-length area os (be32 area 0) size within))
-      ∙ area-claims .round-trip area os (be32 area 0) size (area-claims .reportable-listed (rowOf scope) j bytes (p .formed)) within
+  -- ---- the status and the rest
 
-  exact-nodes : ExactNodes m address scope j
-  exact-nodes =
-      record {
-        malformed = ap isMalformed status-is ∙ ladder-malformed (placed m address) (valid scope) (wellFormed j) (reserved area) (goodState (rowOf scope) j area) (remains (reportable (rowOf scope) j) (be32 area 0));
-        answers = ap isAnswer status-is ∙ ladder-answers (placed m address) (valid scope) (wellFormed j) (reserved area) (goodState (rowOf scope) j area) (remains (reportable (rowOf scope) j) (be32 area 0));
-        done = λ e. ap isDone status-is
-            ∙ ladder-done (placed m address) (valid scope) (wellFormed j) (reserved area) (goodState (rowOf scope) j area) (remains (reportable (rowOf scope) j) (be32 area 0)) (sym (ap isAnswer status-is) ∙ e);
-        reads-back = reads-back;
+  module _ (zero-is : HasStatus x) where
+    given : isGiven (numberFor b) ≡ true
+    given = zero-given (numberFor b) (ap numberOf (sym number-is) ∙ zero-is)
+
+    -- what is left where a call's own work is known
+    module _ (o : Outcome) (e : outcome b m j i r ≡ o) where
+      status-is : statusOf b x ≡ statusWord (o .status)
+      status-is = status-word b m j i r given ∙ ap (λ (y : Outcome). statusWord (y .status)) e
+
+      memory-is : x .memory ≡ o .memory
+      memory-is = ap (λ (y : Result). y .memory) (carried-out b m j i r given) ∙ ap (λ (y : Outcome). y .memory) e
+
+      registration-is : x .registration ≡ o .registration
+      registration-is = ap (λ (y : Result). y .registration) (carried-out b m j i r given) ∙ ap (λ (y : Outcome). y .registration) e
+
+    asks-is : (t n k : ℕ) → Asks t n k b → asks t n k b ≡ true
+    unfolding asks
+    asks-is t n k h = rw (eq-eqb _ _ (h .0), eq-eqb _ _ (h .1), eq-eqb _ _ (h .2))
+
+    asks-not : (t n k : ℕ) → (Asks t n k b → ⊥) → asks t n k b ≡ false
+    asks-not t n k h = decide (asks t n k b) (λ e. absurd (h (asked t n k b e))) (λ e. e)
+
+    module _ (h : Asks 1 2 1 b) where
+      own-nodes : outcome b m j i r ≡ nodesOutcome b m j r
+      own-nodes = nodes-outcome b m j i r (asks-is 1 2 1 h)
+
+      nodes : ExactNodes m j (be32 b 12) (be32 b 16) (statusOf b x) (x .memory)
+      unfolding nodesOutcome
+      nodes = rw (status-is (nodesOutcome b m j r) own-nodes, memory-is (nodesOutcome b m j r) own-nodes) (exact-nodes m j (be32 b 12) (be32 b 16))
+
+      nodes-registration : x .registration ≡ r
+      unfolding nodesOutcome
+      nodes-registration = registration-is (nodesOutcome b m j r) own-nodes
+
+    module _ (h : Asks 2 5 2 b) where
+      own-indices : outcome b m j i r ≡ indicesOutcome b m i r
+      own-indices = indices-outcome b m j i r (asks-is 2 5 2 h)
+
+      -- the second output stands behind five inputs and the status
+      next-is : statusWord (indicesStatus m i (requestOf b)) ≤ 1 → be32 (x .args) 36 ≡ nextNumber i (requestOf b)
+      next-is l =
+          let place : 36 ≡ statusAt b + 4 = omega (arith, h .1) in
+          ap (be32 (x .args)) place ∙ number-word b m j i r given (asks-is 2 5 2 h) (passed-is m i (requestOf b) (at-most _ 1 .1 l))
+
+      indices : ExactIndices m i (be32 b 12) (be32 b 16) (be32 b 20) (be32 b 24) (be32 b 28) (statusOf b x) (be32 (x .args) 36) (x .memory)
+      unfolding indicesOutcome
+      indices = rw (status-is (indicesOutcome b m i r) own-indices, memory-is (indicesOutcome b m i r) own-indices) (exact-indices m i (requestOf b) (be32 (x .args) 36) next-is)
+
+      indices-registration : x .registration ≡ r
+      unfolding indicesOutcome
+      indices-registration = registration-is (indicesOutcome b m i r) own-indices
+
+    module _ (h : Asks 3 3 1 b) where
+      own-dump : outcome b m j i r ≡ dumpOutcome b m r
+      own-dump = dump-outcome b m j i r (asks-is 3 3 1 h)
+
+      dump : ExactDump m (be32 b 12) (be32 b 16) (be32 b 20) (statusOf b x) r (x .registration)
+      unfolding dumpOutcome
+      dump = rw (status-is (dumpOutcome b m r) own-dump, registration-is (dumpOutcome b m r) own-dump) (exact-dump m (be32 b 12) (be32 b 16) (be32 b 20) r)
+
+      dump-memory : x .memory ≡ m
+      unfolding dumpOutcome
+      dump-memory = memory-is (dumpOutcome b m r) own-dump
+
+    module _ (f : Asks 1 2 1 b → ⊥) (g : Asks 2 5 2 b → ⊥) (d : Asks 3 3 1 b → ⊥) where
+      own-none : outcome b m j i r ≡ refusal m r
+      unfolding outcome
+      own-none = rw (asks-not 1 2 1 f, asks-not 2 5 2 g, asks-not 3 3 1 d)
+
+      unknown : Unknown b m r x
+      unknown = record {
+        args = rw (carried-out b m j i r given, own-none, wordBytes-one (statusWord (refusal m r .status)));
+        memory = memory-is (refusal m r) own-none;
+        registration = registration-is (refusal m r) own-none;
       }
 
--- ---- get-indices
-
-module _ (m i : List ℕ) (q : Request) where
-  abbrev due : Bool
-  due = dueFits (q .size) (drop (numberIn q - 1) (entriesFor i q))
-
-  abbrev numbered : Bool
-  numbered = goodNumber (numberIn q) (entriesFor i q)
-
-  indices-ladder : indicesStatus m i q ≡ ladder (askable (q .flag) (q .kind)) (lendable m (q .address) (q .size)) (inventory.wellFormed i) numbered due (moreEntries i q)
-  unfolding indicesStatus listStatus
-  indices-ladder = refl
-
-  indices-back : Bytes i → isAnswer (indicesStatus m i q) ≡ true → indices.reading (partAt (indicesMemory m i q) (q .address) (q .size)) ≡ indices.read (runFor i q)
-  indices-back bytes e =
-      let p : requests.Passed m i q = requests.passed-is m i q e in
-      let before = requests.areaBefore m i q in
-      ap (λ (l : List ℕ). indices.reading (partAt l (q .address) (q .size))) (requests.indices-memory m i q p)
-      ∙ ap indices.reading (part-stored m (q .address) (q .size) (requests.inside m i q p) (requests.areaAfter m i q) (requests.after-length m i q p))
-      ∙ indices-written.reads-back before i (q .flag) (q .kind) (q .size) (numberIn q) bytes (p .formed)
-
-  exact-indices : ExactIndices m i q
-  exact-indices =
-      record {
-        malformed = ap isMalformed indices-ladder ∙ ladder-malformed (askable (q .flag) (q .kind)) (lendable m (q .address) (q .size)) (inventory.wellFormed i) numbered due (moreEntries i q);
-        answers = ap isAnswer indices-ladder ∙ ladder-answers (askable (q .flag) (q .kind)) (lendable m (q .address) (q .size)) (inventory.wellFormed i) numbered due (moreEntries i q);
-        done = λ e. ap isDone indices-ladder
-            ∙ ladder-done (askable (q .flag) (q .kind)) (lendable m (q .address) (q .size)) (inventory.wellFormed i) numbered due (moreEntries i q) (sym (ap isAnswer indices-ladder) ∙ e);
-        some = λ e. requests.run-some m i q (requests.passed-is m i q e);
-        reads-back = indices-back;
-      }
+    by-token : ByToken b m j i r x
+    by-token =
+        record {
+          nodes = nodes;
+          nodes-registration = nodes-registration;
+          indices = indices;
+          indices-registration = indices-registration;
+          dump = dump;
+          dump-memory = dump-memory;
+          other = unknown;
+        }
 
 pub demand2 : Demand2
-demand2 = record { nodes = exact-nodes; indices-listed = exact-indices; dump = exact-dump }
+demand2 = record { numbers = numbers; statuses = by-token }

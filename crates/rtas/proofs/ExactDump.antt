@@ -1,20 +1,26 @@
 -- Demand 2 of configure-kernel-dump: the exact condition of each status, and the registration afterwards.
-use mathlib.Core.Path.{_≡_, refl, _∙_}
-use mathlib.Core.Bool.{Bool, true, false, cond, _&&_, _||_, not}
+use mathlib.Core.Path.{_≡_, refl, sym, ap, _∙_}
+use mathlib.Core.Bool.{Bool, true, false, cond, _&&_, _||_, not, false≢true}
 use mathlib.Core.List.{List}
-use Prim.Native.Nat.{ℕ, zero, suc, _≤_}
+use mathlib.Core.Logic.{_⊎_}
+use Prim.Native.Nat.{ℕ, zero, suc, _+_, _≤_}
 use native.Mathlib.Omega.{arith}
 use lib.Dec.{leb, ltb, eqb}
+use lib.ListN.{length}
 use borrow.Author.Tests.{eq-eqb, ne-eqb, lt-ltb, le-ltb}
 use Rattle.dump.specs.declared.registration.Phase.{Phase}
 use Rattle.dump.specs.declared.registration.Phase.the-variants.{Unregistered, Registered, Active}
 use Rattle.dump.specs.declared.registration.Registration.{Registration}
 use Rattle.dump.specs.declared.registration.Verdict.{Verdict}
 use Rattle.dump.specs.declared.registration.Verdict.the-variants.{Done, Parameter, AlreadyRegistered, DumpActive}
+use Rattle.dump.specs.Structure.{goodStructure}
 use Rattle.dump.specs.Registration.{isNone, isRegistered, isActive, isDone, acceptable, verdictOf, registrationAfter, noRegistration, registered, structureAt}
 use Rattle.rtas.specs.Status.{statusWord}
+use Rattle.rtas.specs.Lent.{partAt}
 use Rattle.rtas.specs.ConfigureDump.{verdictStatus, dumpStatus}
-use Rattle.rtas.specs.Demands.{gives, ExactDump}
+use Rattle.rtas.specs.Terms.{minus, Exactly}
+use Rattle.rtas.specs.ExactDump.{Acceptable, ExactDump}
+use Rattle.rtas.proofs.Exactly.{equal, at-most, both, either, same}
 
 -- the conditions, over any command, phase and judgement of the structure
 abbrev doneIf : ℕ → Phase → Bool → Bool
@@ -64,11 +70,11 @@ agrees (suc (suc (suc (suc c)))) p a = over (suc (suc (suc (suc c)))) (omega ari
         record { done = rw (one, two, three, some, large); already-registered = rw (one, some, large); dump-active = rw (one, two, some, large) }
 
 -- one of four
-one-of : (v : Verdict) → word 4294967293 v ≡ not (word 0 v || (word 4294967287 v || word 4294967286 v))
-one-of Done = refl
-one-of Parameter = refl
-one-of AlreadyRegistered = refl
-one-of DumpActive = refl
+one-of : (v : Verdict) → let s = statusWord (verdictStatus v) in (s ≡ minus 10 → ⊥) → (s ≡ minus 9 → ⊥) → (s ≡ 0 → ⊥) → s ≡ minus 3
+one-of Done a b c = absurd (c refl)
+one-of Parameter a b c = refl
+one-of AlreadyRegistered a b c = absurd (b refl)
+one-of DumpActive a b c = absurd (a refl)
 
 done-word : (v : Verdict) → isDone v ≡ word 0 v
 done-word Done = refl
@@ -76,32 +82,61 @@ done-word Parameter = refl
 done-word AlreadyRegistered = refl
 done-word DumpActive = refl
 
+-- ---- the phases and the structure, in the paper's terms
+
+none-exact : (p : Phase) → Exactly (isNone p ≡ true) (p ≡ Unregistered)
+none-exact Unregistered = (λ _. refl, λ _. refl)
+none-exact Registered = (λ e. absurd (false≢true e), λ e. ap isNone e)
+none-exact Active = (λ e. absurd (false≢true e), λ e. ap isNone e)
+
+registered-exact : (p : Phase) → Exactly (isRegistered p ≡ true) (p ≡ Registered)
+registered-exact Unregistered = (λ e. absurd (false≢true e), λ e. ap isRegistered e)
+registered-exact Registered = (λ _. refl, λ _. refl)
+registered-exact Active = (λ e. absurd (false≢true e), λ e. ap isRegistered e)
+
+active-exact : (p : Phase) → Exactly (isActive p ≡ true) (p ≡ Active)
+active-exact Unregistered = (λ e. absurd (false≢true e), λ e. ap isActive e)
+active-exact Registered = (λ e. absurd (false≢true e), λ e. ap isActive e)
+active-exact Active = (λ _. refl, λ _. refl)
+
+acceptable-exact : (m : List ℕ) (address len : ℕ) → Exactly (acceptable m address len ≡ true) (Acceptable m address len)
+unfolding acceptable partAt
+acceptable-exact m address len =
+    let e = both (leb 40 len) _ (at-most 40 len) (both (leb len 512) _ (at-most len 512) (both (leb (address + len) (length m)) (goodStructure (structureAt m address len)) (at-most (address + len) (length m)) (λ h. h, λ h. h))) in
+    (λ h. let a = e .0 h in record { long = a .0; short = a .1 .0; inside = a .1 .1 .0; good = a .1 .1 .1 }, λ a. e .1 (a .long, (a .short, (a .inside, a .good))))
+
 module _ (m : List ℕ) (command address len : ℕ) (r : Registration) where
-  status-is : (w : ℕ) → gives w m command address len r ≡ word w (ladder command (r .phase) (acceptable m address len))
-  unfolding dumpStatus verdictOf
-  status-is w = refl
+  abbrev status : ℕ
+  status = statusWord (dumpStatus m command address len r)
+
+  abbrev phase : Phase
+  phase = r .phase
 
   abbrev next : Registration
   next = registrationAfter m command address len r
 
   -- the registration afterwards, by whether the status is 0
-  after-done : gives 0 m command address len r ≡ true → next ≡ cond (eqb command 1) (registered (structureAt m address len)) noRegistration
+  after-done : status ≡ 0 → next ≡ cond (eqb command 1) (registered (structureAt m address len)) noRegistration
   unfolding dumpStatus registrationAfter
-  after-done e = rw (done-word (verdictOf m command address len (r .phase)), e)
+  after-done e = rw (done-word (verdictOf m command address len phase), eq-eqb status 0 e)
 
-  after-refused : gives 0 m command address len r ≡ false → next ≡ r
+  after-refused : (status ≡ 0 → ⊥) → next ≡ r
   unfolding dumpStatus registrationAfter
-  after-refused e = rw (done-word (verdictOf m command address len (r .phase)), e)
+  after-refused n = rw (done-word (verdictOf m command address len phase), ne-eqb status 0 n)
 
-  pub exact-dump : ExactDump m command address len r
-  unfolding dumpStatus
+  pub exact-dump : ExactDump m command address len status r next
+  unfolding dumpStatus verdictOf partAt
   exact-dump =
-      let a = agrees command (r .phase) (acceptable m address len) in
+      let a = agrees command phase (acceptable m address len) in
+      let is : (n : ℕ) → Exactly (eqb command n ≡ true) (command ≡ n) = equal command in
       record {
-        done = status-is 0 ∙ a .done;
-        already-registered = status-is 4294967287 ∙ a .already-registered;
-        dump-active = status-is 4294967286 ∙ a .dump-active;
-        otherwise = one-of (verdictOf m command address len (r .phase));
+        dump-active = same (eqb status 4294967286) _ (a .dump-active) (equal status 4294967286) (both (eqb command 1 || eqb command 2) (isActive phase) (either (eqb command 1) (eqb command 2) (is 1) (is 2)) (active-exact phase));
+        already-registered = same (eqb status 4294967287) _ (a .already-registered) (equal status 4294967287) (both (eqb command 1) (isRegistered phase) (is 1) (registered-exact phase));
+        done = same (eqb status 0) _ (a .done) (equal status 0)
+            (either (eqb command 1 && (isNone phase && acceptable m address len)) _
+            (both (eqb command 1) _ (is 1) (both (isNone phase) _ (none-exact phase) (acceptable-exact m address len)))
+            (either (eqb command 2 && isRegistered phase) (eqb command 3 && isActive phase) (both (eqb command 2) (isRegistered phase) (is 2) (registered-exact phase)) (both (eqb command 3) (isActive phase) (is 3) (active-exact phase))));
+        otherwise = one-of (verdictOf m command address len phase);
         registers = λ e c. after-done e ∙ rw (eq-eqb command 1 c);
         ends = λ e n. after-done e ∙ rw (ne-eqb command 1 n);
         keeps = after-refused;

@@ -1,5 +1,5 @@
 -- Laws of a call: what an answered get-indices call leaves, and when it is answered.
-use mathlib.Core.Path.{_≡_, _∙_, sym}
+use mathlib.Core.Path.{_≡_, ap, _∙_, sym}
 use mathlib.Core.Bool.{true, cond, false≢true}
 use mathlib.Core.List.{List, []}
 use Prim.Native.Nat.{ℕ, _+_, _-_, _≤_, _<_}
@@ -7,18 +7,20 @@ use native.Mathlib.Nat.{mod-eq-of-lt}
 use native.Mathlib.Omega.{arith}
 use lib.ListN.{length}
 use borrow.Author.Tests.{ltb-true}
-use Rattle.words.specs.Numbers.{be32}
+use Rattle.words.specs.Numbers.{Bytes, be32}
 use Rattle.words.proofs.Choice.{choose, and-left, and-right}
 use Rattle.dump.specs.declared.registration.Registration.{Registration}
 use Rattle.inventory.specs.Inventory.{wellFormed}
+use Rattle.indices.specs.Reading.{read, reading}
 use Rattle.indices.proofs.Written.{listed-few}
 use Rattle.rtas.specs.declared.indices_call.Request.{Request}
+use Rattle.rtas.specs.Lent.{partAt}
 use Rattle.rtas.specs.Status.{isGiven, isAnswer, statusWord}
 use Rattle.rtas.specs.GetIndices.{entriesFor, numberIn, runFor, moreEntries, indicesStatus, indicesMemory, nextNumber}
 use Rattle.rtas.specs.Buffer.{token, statusAt, numberFor, isIndices, requestOf, Outcome, indicesOutcome, outcome, Result, callOf, answered}
 use Rattle.rtas.proofs.Heads.{whole-buffer, asked, carried-out, outcome-ways, indices-outcome}
 use Rattle.rtas.proofs.Calls.{status-word, answered-by, word-either, second-stored}
-use Rattle.rtas.proofs.Requests.{Passed, passed-is, indices-status, indices-answers}
+use Rattle.rtas.proofs.Requests.{Passed, passed-is, indices-status, indices-answers, reads-back}
 
 -- the next number fits its word: an inventory has no more entries than bytes
 next-fits : (i : List ℕ) (q : Request) → wellFormed i ≡ true → nextNumber i q < 4294967296
@@ -37,6 +39,7 @@ module _ (b m j i : List ℕ) (r : Registration) where
   pub record Answered : Type 0 where
     pub passed : Passed m i q
     pub memory : called .memory ≡ indicesMemory m i q
+    pub reads-back : Bytes i → reading (partAt (called .memory) (q .address) (q .size)) ≡ read (runFor i q)
     pub status : be32 (called .args) (statusAt b) ≡ cond (moreEntries i q) 1 0
     pub number : be32 (called .args) (statusAt b + 4) ≡ nextNumber i q
 
@@ -52,7 +55,11 @@ module _ (b m j i : List ℕ) (r : Registration) where
     both-inside : statusAt b + 8 ≤ length b
     both-inside = let w = whole-buffer b given in omega (arith, asked 2 5 2 b own)
 
-    number-word : Passed m i q → be32 (called .args) (statusAt b + 4) ≡ nextNumber i q
+    memory : called .memory ≡ indicesMemory m i q
+    unfolding indicesOutcome
+    memory = rw (carried-out b m j i r given, work)
+
+    pub number-word : Passed m i q → be32 (called .args) (statusAt b + 4) ≡ nextNumber i q
     unfolding indicesOutcome
     number-word p =
         rw (carried-out b m j i r given, work, indices-answers m i q p)
@@ -72,7 +79,8 @@ module _ (b m j i : List ℕ) (r : Registration) where
       let passed : Passed m i q = passed-is m i q (rw (work given own) at good) in
       record {
         passed = passed;
-        memory = rw (carried-out b m j i r given, work given own);
+        memory = memory given own;
+        reads-back = λ bytes. ap (λ (l : List ℕ). reading (partAt l (q .address) (q .size))) (memory given own) ∙ reads-back m i q passed bytes;
         status = status-word b m j i r given ∙ rw (work given own, indices-status m i q passed) (word-either (moreEntries i q));
         number = number-word given own passed;
       }

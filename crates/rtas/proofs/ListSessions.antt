@@ -21,11 +21,11 @@ use Rattle.rtas.specs.Status.{isGiven}
 use Rattle.rtas.specs.Lent.{partAt}
 use Rattle.rtas.specs.GetIndices.{askable, lendable, runFor, goodNumber, dueFits, moreEntries, nextNumber}
 use Rattle.rtas.specs.Buffer.{input, numberFor, asks, isIndices, requestOf}
-use Rattle.rtas.specs.ListSession.{Call, isAnswered, areaThen, statusThen, numberThen, Standing, start, after, standing, Continues, Session, WellMade, Driven, joined, readings, handedOut}
-use Rattle.rtas.specs.Demands.{HandedOut, WholeList}
+use Rattle.rtas.specs.ListSession.{Call, isAnswered, areaThen, statusThen, numberThen, Standing, start, after, standing, Continues, Rule, Session, WellMade, joined, readings, handedOut}
+use Rattle.rtas.specs.WholeList.{HandedOut, Ends, WholeList}
+use Rattle.rtas.proofs.Account.{kept, done-or-answered}
 use Rattle.rtas.proofs.Calls.{decide}
-use Rattle.rtas.proofs.Exact.{demand2}
-use Rattle.rtas.proofs.Requests.{Passed, indices-answers, run-some, some-due}
+use Rattle.rtas.proofs.Requests.{Passed, run-some, some-due}
 use Rattle.rtas.proofs.IndicesCalls.{Answered, answered-is, will-answer}
 
 -- ---- readings, one after the other
@@ -108,10 +108,7 @@ module _ (i : List ℕ) (flag kind : ℕ) (bytes : Bytes i) (formed : wellFormed
       some = rw run-is at (run-some (c .memory) i q (left .passed))
 
       area-reads : reading (areaThen i c) ≡ read handed-run
-      area-reads =
-          ap (λ (m : List ℕ). reading (partAt m (input (c .args) 2) size)) (left .memory)
-          ∙ demand2 .indices-listed (c .memory) i q .reads-back bytes (indices-answers (c .memory) i q (left .passed))
-          ∙ ap read run-is
+      area-reads = left .reads-back bytes ∙ ap read run-is
 
       handed-then : readings (st .areas ++ (areaThen i c ∷ [])) ≡ read (take (k + length handed-run) es)
       unfolding joined
@@ -160,7 +157,7 @@ module _ (i : List ℕ) (flag kind : ℕ) (bytes : Bytes i) (formed : wellFormed
       k-less : k < length es
       k-less = ⊎-elim (λ e. omega arith) (λ e. omega arith) (o .place)
 
-      module _ (c : Call) (m : WellMade flag kind (st .next) c) where
+      module _ (c : Call) (m : WellMade flag kind st c) where
         abbrev address : ℕ
         address = input (c .args) 2
 
@@ -219,18 +216,14 @@ module _ (i : List ℕ) (flag kind : ℕ) (bytes : Bytes i) (formed : wellFormed
 
   -- ---- a call keeps what stands, and so does a list of calls
 
-  stands-after : (st : Standing) (c : Call) → Stands es st → (isAnswered i c ≡ true → Continues flag kind st c) → Stands es (after i st c)
+  stands-after : (st : Standing) (c : Call) → Stands es st → Rule i flag kind st c → Stands es (after i st c)
   unfolding after
   stands-after st c s h = choose (isAnswered i c) (Stands es)
       {x = record { next = numberThen i c; done = eqb (statusThen i c) 0; areas = st .areas ++ (areaThen i c ∷ []) }} {y = st}
       (λ e. ⊎-elim (λ o. stands-then st (o .0) (o .1) c (h e) e) (λ o. absurd (true≢false (sym (o .finished) ∙ h e .unfinished))) s)
       (λ e. s)
 
-  stands : (st : Standing) (cs : List Call) → Stands es st → Session i flag kind st cs → Stands es (standing i st cs)
-  stands st [] s h = s
-  stands st (c ∷ cs) s h = stands (after i st c) cs (stands-after st c s (h .0)) (h .1)
-
-  -- ---- a session of well-made calls comes to done
+  -- ---- a session ends
 
   after-refused : (st : Standing) (c : Call) → isAnswered i c ≡ false → after i st c ≡ st
   unfolding after
@@ -240,29 +233,21 @@ module _ (i : List ℕ) (flag kind : ℕ) (bytes : Bytes i) (formed : wellFormed
   unfolding after
   after-answered st c e = rw e (length-append (st .areas) (areaThen i c ∷ []))
 
-  stays-done : (st : Standing) (cs : List Call) → st .done ≡ true → Session i flag kind st cs → standing i st cs .done ≡ true
-  stays-done st [] d h = d
-  stays-done st (c ∷ cs) d h = stays-done (after i st c) cs
-      (decide (isAnswered i c) (λ e. absurd (true≢false (sym d ∙ h .0 e .unfinished))) (λ e. ap (λ (x : Standing). x .done) (after-refused st c e) ∙ d)) (h .1)
+  stays : (st : Standing) (c : Call) → Rule i flag kind st c → st .done ≡ true → after i st c .done ≡ true
+  stays st c h d = decide (isAnswered i c) (λ e. absurd (true≢false (sym d ∙ h e .unfinished))) (λ e. ap (λ (x : Standing). x .done) (after-refused st c e) ∙ d)
 
-  module _ (may : askable flag kind ≡ true) (some-entry : 1 ≤ length es) where
-    -- each call is answered until one says done
-    each-answered : (st : Standing) (cs : List Call) → Stands es st → Session i flag kind st cs → Driven i flag kind st cs
-        → (standing i st cs .done ≡ true) ⊎ (length (standing i st cs .areas) ≡ length (st .areas) + length cs)
-    each-answered st [] s h g = inr (omega arith)
-    each-answered st (c ∷ cs) s h g = ⊎-elim
-        (λ o.
-        let e = answers st (o .0) (o .1) may some-entry c (g .0 (o .1 .unfinished)) in
-        ⊎-elim (λ d. inl d) (λ n. inr (omega (arith, after-answered st c e)))
-        (each-answered (after i st c) cs (stands-after st c s (h .0)) (h .1) (g .1)))
-        (λ o. inl (stays-done st (c ∷ cs) (o .finished) h)) s
+  grows : (st : Standing) (c : Call) → length (st .areas) ≤ length (after i st c .areas)
+  grows st c = decide (isAnswered i c) (λ e. omega (arith, after-answered st c e)) (λ e. omega (arith, ap (λ (x : Standing). length (x .areas)) (after-refused st c e)))
 
-    ends-driven : (cs : List Call) → Session i flag kind start cs → Driven i flag kind start cs → length es ≤ length cs → standing i start cs .done ≡ true
-    ends-driven cs h g l = ⊎-elim (λ d. d)
-        (λ n. ⊎-elim (λ o. absurd (omega (arith, o .1 .few, k-less _ (o .0) (o .1) may some-entry))) (λ o. o .finished) (stands start cs (starts es) h))
-        (each-answered start cs (starts es) h g)
+  session-ends : (cs : List Call) → Session i flag kind start cs → Ends i flag kind cs
+  session-ends cs h may some n a l = ⊎-elim (λ d. d)
+      (λ g. ⊎-elim (λ o. absurd (omega (arith, o .1 .few, k-less _ (o .0) (o .1) may some))) (λ o. o .finished) (kept (after i) (Rule i flag kind) (Stands es) stands-after start cs (starts es) h))
+      (done-or-answered (after i) (Rule i flag kind) (Stands es) stands-after (WellMade flag kind) (λ (x : Standing). x .done) (λ (x : Standing). length (x .areas)) stays grows answered start cs n (starts es) h a)
+    where
+      answered : (st : Standing) (c : Call) → Stands es st → st .done ≡ false → WellMade flag kind st c → length (st .areas) + 1 ≤ length (after i st c .areas)
+      answered st c s d m = ⊎-elim (λ o. omega (arith, after-answered st c (answers st (o .0) (o .1) may some c m))) (λ o. absurd (true≢false (sym (o .finished) ∙ d))) s
 
 pub whole-list : WholeList
 whole-list i flag kind bytes formed cs h =
     let st = standing i start cs in
-    (⊎-elim (λ o. open-handed i flag kind bytes formed st (o .0) (o .1)) (closed-handed i flag kind bytes formed st) (stands i flag kind bytes formed start cs (starts (listed flag kind i)) h), λ may some. ends-driven i flag kind bytes formed may some cs h)
+    (⊎-elim (λ o. open-handed i flag kind bytes formed st (o .0) (o .1)) (closed-handed i flag kind bytes formed st) (kept (after i) (Rule i flag kind) (Stands (listed flag kind i)) (stands-after i flag kind bytes formed) start cs (starts (listed flag kind i)) h), session-ends i flag kind bytes formed cs h)

@@ -19,10 +19,11 @@ use Rattle.indices.specs.Reading as index-reading
 use Rattle.rtas.specs.GetIndices.{askable, lendable, goodNumber, dueFits, moreEntries, listStatus, indicesStatus, indicesMemory, nextNumber}
 use Rattle.words.specs.Nul.{untilNul}
 use Rattle.dump.specs.Structure.{goodHeader, eachSection, goodType, goodSection, requested, withoutDisk, goodPath, goodStructure}
-use Rattle.dump.specs.Registration.{acceptable, verdictOf}
+use Rattle.dump.specs.Registration.{acceptable, verdictOf, registrationAfter, padded}
 use Rattle.rtas.specs.ConfigureDump.{dumpStatus}
+use Rattle.rtas.specs.Buffer.{numberFor, asks, nodesOutcome, indicesOutcome, dumpOutcome, outcome, callOf}
 use Rattle.rtas.specs.Readings.{Readings}
 
 pub readings : Readings
-unfolding be le beBytes wordBytes words zeros lengthOf kindOf recordsFrom records whole allGood wellFormedBy goodFrame nodeType goodRecord wellFormed operationOf entries negative valid rowOf reports chosen reportable operandWords present cost longest run remains nextState operandsOf body answer written faultOf verdict operationsAt reading partAt withPart placed reserved goodState areaStatus areaAfter nodesStatus nodesMemory flagOf typeOf indexOf codeOf nonZero goodCode inventory.goodRecord inventory.wellFormed listing.matches listing.chosen listing.listed codeField entryBytes entriesBytes fitting index-area.run index-area.answer index-area.written lengthAt fieldAt goodLength goodField faultAt readFrom index-reading.reading askable lendable goodNumber dueFits moreEntries listStatus indicesStatus indicesMemory nextNumber untilNul goodHeader eachSection goodType goodSection requested withoutDisk goodPath goodStructure acceptable verdictOf dumpStatus
+unfolding be le beBytes wordBytes words zeros lengthOf kindOf recordsFrom records whole allGood wellFormedBy goodFrame nodeType goodRecord wellFormed operationOf entries negative valid rowOf reports chosen reportable operandWords present cost longest run remains nextState operandsOf body answer written faultOf verdict operationsAt reading partAt withPart placed reserved goodState areaStatus areaAfter nodesStatus nodesMemory flagOf typeOf indexOf codeOf nonZero goodCode inventory.goodRecord inventory.wellFormed listing.matches listing.chosen listing.listed codeField entryBytes entriesBytes fitting index-area.run index-area.answer index-area.written lengthAt fieldAt goodLength goodField faultAt readFrom index-reading.reading askable lendable goodNumber dueFits moreEntries listStatus indicesStatus indicesMemory nextNumber untilNul goodHeader eachSection goodType goodSection requested withoutDisk goodPath goodStructure acceptable verdictOf registrationAfter padded dumpStatus numberFor asks nodesOutcome indicesOutcome dumpOutcome outcome callOf
 readings = tt

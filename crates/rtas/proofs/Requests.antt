@@ -2,29 +2,31 @@
 use mathlib.Core.Path.{_≡_, refl, sym, ap, _∙_}
 use mathlib.Core.Bool.{true, false, cond, false≢true}
 use mathlib.Core.List.{List, [], _∷_}
+use mathlib.Core.Logic.{⊎-elim}
 use Prim.Native.Nat.{ℕ, _+_, _-_, _≤_}
 use native.Mathlib.Omega.{arith}
 use lib.Dec.{leb}
 use lib.ListN.{length, drop, getD, length-append, length-drop}
 use lib.Seq.{sets}
 use borrow.Author.Tests.{leb-true, leb-false, le-leb, lt-leb}
-use Rattle.words.specs.Numbers.{beBytes, wordBytes}
+use Rattle.words.specs.Numbers.{Bytes, beBytes, wordBytes}
 use Rattle.words.proofs.Stores.{wordBytes-one}
 use Rattle.words.proofs.Choice.{choose, and-left, and-right}
 use Rattle.inventory.specs.Inventory.{wellFormed}
 use Rattle.inventory.specs.Listing.{Entry}
 use Rattle.indices.specs.Area.{entrySize, fitting, run, answer, written}
+use Rattle.indices.specs.Reading.{read, reading}
 use Rattle.indices.proofs.Longest.{fits}
+use Rattle.indices.proofs.Written as indices-written
 use Rattle.rtas.specs.declared.indices_call.Request.{Request}
 use Rattle.rtas.specs.declared.status.Status.{Status}
 use Rattle.rtas.specs.declared.status.Status.the-variants.{Done, Again, Parameter}
 use Rattle.rtas.specs.Status.{isAnswer}
 use Rattle.rtas.specs.Lent.{partAt, withPart}
 use Rattle.rtas.specs.GetIndices.{askable, lendable, entriesFor, numberIn, runFor, goodNumber, dueFits, moreEntries, listStatus, indicesStatus, indicesMemory, nextNumber, numberGiven}
-use Rattle.rtas.specs.Demands.{among}
-use Rattle.rtas.proofs.Memory.{part-length, part-kept, part-before, part-behind}
+use Rattle.rtas.specs.Terms.{Outside}
+use Rattle.rtas.proofs.Memory.{part-length, part-stored, part-kept, part-before, part-behind}
 use Rattle.rtas.proofs.Calls.{decide}
-use Rattle.rtas.proofs.Places.{outside}
 
 -- a part that may be lent
 pub lent-size : (m : List ℕ) (address size : ℕ) → lendable m address size ≡ true → (4 ≤ size) × (address + size ≤ 4294967296) × (address + size ≤ length m)
@@ -120,15 +122,22 @@ module _ (m i : List ℕ) (q : Request) where
         let room = fits (q .size) (numberIn q) (entriesFor i q) (lent-size m (q .address) (q .size) (p .lent) .0) in
         written-length areaBefore (runFor i q) (omega (arith, room, size)) ∙ size
 
+    -- the area afterwards, and what it reads as
+    pub left-is : partAt (indicesMemory m i q) (q .address) (q .size) ≡ areaAfter
+    left-is = ap (λ (l : List ℕ). partAt l (q .address) (q .size)) (indices-memory p) ∙ part-stored m (q .address) (q .size) inside areaAfter after-length
+
+    pub reads-back : Bytes i → reading (partAt (indicesMemory m i q) (q .address) (q .size)) ≡ read (runFor i q)
+    reads-back bytes = ap reading left-is ∙ indices-written.reads-back areaBefore i (q .flag) (q .kind) (q .size) (numberIn q) bytes (p .formed)
+
   ways : (P : List ℕ → Type 0) → (Passed → P (withPart m (q .address) (q .size) areaAfter)) → P m → P (indicesMemory m i q)
   ways P f g = decide (isAnswer (indicesStatus m i q)) (λ e. let p = passed-is e in rw (indices-memory p) (f p)) (λ e. rw (indices-refused e) g)
 
   pub indices-length : length (indicesMemory m i q) ≡ length m
   indices-length = ways (λ (l : List ℕ). length l ≡ length m) (λ p. part-kept m (q .address) (q .size) (inside p) areaAfter (after-length p)) refl
 
-  pub indices-outside : (k : ℕ) → among (q .address) (q .size) k ≡ false → getD (indicesMemory m i q) k 0 ≡ getD m k 0
+  pub indices-outside : (k : ℕ) → Outside (q .address) (q .size) k → getD (indicesMemory m i q) k 0 ≡ getD m k 0
   indices-outside k e = ways (λ (l : List ℕ). getD l k 0 ≡ getD m k 0)
-      (λ p. outside (q .address) (q .size) k e (part-before m (q .address) (q .size) (inside p) areaAfter (after-length p) k) (part-behind m (q .address) (q .size) (inside p) areaAfter (after-length p) k)) refl
+      (λ p. ⊎-elim (part-before m (q .address) (q .size) (inside p) areaAfter (after-length p) k) (part-behind m (q .address) (q .size) (inside p) areaAfter (after-length p) k) e) refl
 
 -- ---- the second output
 

@@ -26,8 +26,10 @@ use Rattle.nodes.proofs.Claims.{area-claims}
 use Rattle.rtas.specs.Status.{isGiven}
 use Rattle.rtas.specs.UpdateNodes.{areaAt, reserved, goodState}
 use Rattle.rtas.specs.Buffer.{input, numberFor, asks, isNodes}
-use Rattle.rtas.specs.Session.{Call, isAnswered, address, areaBefore, areaThen, statusThen, Standing, start, after, standing, Continues, Session, WellMade, Driven, joined, readings, reported}
-use Rattle.rtas.specs.Demands.{Bounded, Accounted, Demand3}
+use Rattle.rtas.specs.Session.{Call, isAnswered, address, areaBefore, areaThen, statusThen, Standing, start, after, standing, Continues, Rule, Session, WellMade, joined, readings, reported}
+use Rattle.rtas.specs.Demands.{Bounded, Accounted, Ends, Demand3}
+use Rattle.rtas.proofs.Account.{kept, done-or-answered}
+use Rattle.rtas.proofs.Carried.{carrying, state-of, zeros-of, written-head}
 use Rattle.rtas.proofs.Memory.{part-length, part-stored, written-length}
 use Rattle.rtas.proofs.Calls.{decide, listed, Passed, Answered, answered-is, will-answer}
 
@@ -54,24 +56,6 @@ readings-more : (l : List (List ℕ)) (a : List ℕ) → readings (l ++ (a ∷ [
 unfolding readings
 readings-more [] a = joined-none (reading a) ∙ sym (none-joined (reading a))
 readings-more (x ∷ l) a = rw (readings-more l a) (sym (joined-assoc (reading x) (readings l) (reading a)))
-
--- ---- the sixteen bytes that carry a state
-
-abbrev carrying : ℕ → List ℕ
-carrying k = wordBytes (k ∷ 0 ∷ 0 ∷ 0 ∷ [])
-
-module _ (l : List ℕ) (k : ℕ) (e : take 16 l ≡ carrying k) where
-  state-of : k < 4294967296 → be32 l 0 ≡ k
-  unfolding wordBytes
-  state-of h = sym (be-take 4 16 l 0 (omega arith)) ∙ ap (λ (x : List ℕ). be 4 x 0) e ∙ be-bytes 4 k (wordBytes (0 ∷ 0 ∷ 0 ∷ [])) ∙ mod-eq-of-lt h
-
-  zeros-of : reserved l ≡ true
-  unfolding reserved zeros wordBytes beBytes
-  zeros-of = ap (λ (x : List ℕ). zeros (drop 4 x)) e
-
-written-head : (area : List ℕ) (os : List Operation) (k : ℕ) → take 16 (written area os k) ≡ carrying (nextState os k)
-unfolding written answer wordBytes beBytes
-written-head area os k = refl
 
 -- the words of a part of a list are no more than the list's
 words-part : (k : ℕ) (os : List Operation) → operandWords (take k os) ≤ operandWords os
@@ -194,7 +178,7 @@ module _ (j : List ℕ) (s : ℕ) (ls : Listed (listed s j)) where
       good-state : (eqb k 0 || ltb k (length os)) ≡ true
       good-state = ⊎-elim (λ e. rw (eq-eqb k 0 e)) (λ l. or-right (eqb k 0) _ (lt-ltb k (length os) l)) (o .place)
 
-      module _ (c : Call) (m : WellMade s (st .carried) c) where
+      module _ (c : Call) (m : WellMade s st c) where
         given-is : isGiven (numberFor (c .args)) ≡ true
         unfolding numberFor
         given-is = rw (le-ltb (length (c .args)) 12 (omega arith), m .two-inputs, m .one-output, le-ltb (length (c .args)) 24 (m .whole))
@@ -234,18 +218,14 @@ module _ (j : List ℕ) (s : ℕ) (ls : Listed (listed s j)) where
 
   -- ---- a call keeps what stands, and so does a list of calls
 
-  stands-after : (st : Standing) (c : Call) → Stands os st → (isAnswered j c ≡ true → Continues s st c) → Stands os (after j st c)
+  stands-after : (st : Standing) (c : Call) → Stands os st → Rule j s st c → Stands os (after j st c)
   unfolding after
   stands-after st c i h = choose (isAnswered j c) (Stands os)
       {x = record { carried = take 16 (areaThen j c); done = eqb (statusThen j c) 0; areas = st .areas ++ (areaThen j c ∷ []) }} {y = st}
       (λ e. ⊎-elim (λ o. stands-then st (o .0) (o .1) c (h e) e) (λ o. absurd (true≢false (sym (o .finished) ∙ h e .unfinished))) i)
       (λ e. i)
 
-  stands : (st : Standing) (cs : List Call) → Stands os st → Session j s st cs → Stands os (standing j st cs)
-  stands st [] i h = i
-  stands st (c ∷ cs) i h = stands (after j st c) cs (stands-after st c i (h .0)) (h .1)
-
-  -- ---- a session of well-made calls comes to done
+  -- ---- a session ends
 
   after-refused : (st : Standing) (c : Call) → isAnswered j c ≡ false → after j st c ≡ st
   unfolding after
@@ -255,30 +235,23 @@ module _ (j : List ℕ) (s : ℕ) (ls : Listed (listed s j)) where
   unfolding after
   after-answered st c e = rw e (length-append (st .areas) (areaThen j c ∷ []))
 
-  stays-done : (st : Standing) (cs : List Call) → st .done ≡ true → Session j s st cs → standing j st cs .done ≡ true
-  stays-done st [] d h = d
-  stays-done st (c ∷ cs) d h = stays-done (after j st c) cs
-      (decide (isAnswered j c) (λ e. absurd (true≢false (sym d ∙ h .0 e .unfinished))) (λ e. ap (λ (x : Standing). x .done) (after-refused st c e) ∙ d)) (h .1)
+  stays : (st : Standing) (c : Call) → Rule j s st c → st .done ≡ true → after j st c .done ≡ true
+  stays st c h d = decide (isAnswered j c) (λ e. absurd (true≢false (sym d ∙ h e .unfinished))) (λ e. ap (λ (x : Standing). x .done) (after-refused st c e) ∙ d)
+
+  grows : (st : Standing) (c : Call) → length (st .areas) ≤ length (after j st c .areas)
+  grows st c = decide (isAnswered j c) (λ e. omega (arith, after-answered st c e)) (λ e. omega (arith, ap (λ (x : Standing). length (x .areas)) (after-refused st c e)))
 
   module _ (w : wellFormed j ≡ true) (v : valid s ≡ true) where
-    -- each call is answered until one says done
-    each-answered : (st : Standing) (cs : List Call) → Stands os st → Session j s st cs → Driven j s st cs
-        → (standing j st cs .done ≡ true) ⊎ (length (standing j st cs .areas) ≡ length (st .areas) + length cs)
-    each-answered st [] i h g = inr (omega arith)
-    each-answered st (c ∷ cs) i h g = ⊎-elim
-        (λ o.
-        let e = answers st (o .0) (o .1) w v c (g .0 (o .1 .unfinished)) in
-        ⊎-elim (λ d. inl d) (λ n. inr (omega (arith, after-answered st c e)))
-        (each-answered (after j st c) cs (stands-after st c i (h .0)) (h .1) (g .1)))
-        (λ o. inl (stays-done st (c ∷ cs) (o .finished) h)) i
+    answered : (st : Standing) (c : Call) → Stands os st → st .done ≡ false → WellMade s st c → length (st .areas) + 1 ≤ length (after j st c .areas)
+    answered st c i d m = ⊎-elim (λ o. omega (arith, after-answered st c (answers st (o .0) (o .1) w v c m))) (λ o. absurd (true≢false (sym (o .finished) ∙ d))) i
 
-    ends-driven : (cs : List Call) → Session j s start cs → Driven j s start cs → operandWords os < 1015 * length cs → standing j start cs .done ≡ true
-    ends-driven cs h g l = ⊎-elim (λ d. d)
-        (λ n. ⊎-elim (λ o. absurd (omega (arith, o .1 .fills, words-part (o .0) os))) (λ o. o .finished) (stands start cs (starts os) h))
-        (each-answered start cs (starts os) h g)
+    session-ends : (cs : List Call) → Session j s start cs → Ends j s cs
+    session-ends cs h n a l = ⊎-elim (λ d. d)
+        (λ g. ⊎-elim (λ o. absurd (omega (arith, o .1 .fills, words-part (o .0) os))) (λ o. o .finished) (kept (after j) (Rule j s) (Stands os) stands-after start cs (starts os) h))
+        (done-or-answered (after j) (Rule j s) (Stands os) stands-after (WellMade s) (λ (x : Standing). x .done) (λ (x : Standing). length (x .areas)) stays grows answered start cs n (starts os) h a)
 
 pub demand3 : Demand3
 demand3 j s bytes w v cs h =
     let ls = area-claims .reportable-listed (rowOf s) j bytes w in
     let st = standing j start cs in
-    (⊎-elim (λ o. open-demand j s ls st (o .0) (o .1) w v) (closed-demand j s ls st) (stands j s ls start cs (starts (listed s j)) h), ends-driven j s ls w v cs h)
+    (⊎-elim (λ o. open-demand j s ls st (o .0) (o .1) w v) (closed-demand j s ls st) (kept (after j) (Rule j s) (Stands (listed s j)) (stands-after j s ls) start cs (starts (listed s j)) h), session-ends j s ls w v cs h)

@@ -4,8 +4,14 @@ pub mod UpdateNodes
 pub mod GetIndices
 pub mod ConfigureDump
 pub mod Buffer
+pub mod Terms
+pub mod ExactNodes
+pub mod ExactIndices
+pub mod ExactDump
+pub mod Account
 pub mod Session
 pub mod ListSession
 pub mod Demands
+pub mod WholeList
 pub mod Readings
-pub mod Cases
+pub mod Witnesses

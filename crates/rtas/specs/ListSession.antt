@@ -10,6 +10,7 @@ use Rattle.dump.specs.declared.registration.Registration.{Registration}
 use Rattle.inventory.specs.Listing.{Entry}
 use Rattle.indices.specs.Reading.{Reading, read, refused, reading}
 use Rattle.rtas.specs.Lent.{partAt}
+use Rattle.rtas.specs.Account.{over, Each}
 use Rattle.rtas.specs.Buffer.{token, inputs, outputs, input, statusAt, Result, callOf, answered}
 
 -- A call as it finds the buffers; memory, journal and registration may be any at each call.
@@ -50,8 +51,7 @@ unfoldable pub after : List ℕ → Standing → Call → Standing
 after i st c = cond (isAnswered i c) (record { next = numberThen i c; done = eqb (statusThen i c) 0; areas = st .areas ++ (areaThen i c ∷ []) }) st
 
 abbrev pub standing : List ℕ → Standing → List Call → Standing
-standing i st [] = st
-standing i st (c ∷ cs) = standing i (after i st c) cs
+standing i st cs = over (after i) st cs
 
 -- An answered call of the session: of the flag and type, with the next number, "up to status 0"
 pub record Continues (flag kind : ℕ) (st : Standing) (c : Call) : Type 0 where
@@ -62,27 +62,24 @@ pub record Continues (flag kind : ℕ) (st : Standing) (c : Call) : Type 0 where
   pub numbered : input (c .args) 4 ≡ st .next
 
 -- a list of calls, each of which is refused, for whatever reason, or continues the session
+abbrev pub Rule : List ℕ → ℕ → ℕ → Standing → Call → Type 0
+Rule i flag kind st c = isAnswered i c ≡ true → Continues flag kind st c
+
 abbrev pub Session : List ℕ → ℕ → ℕ → Standing → List Call → Type 0
-Session i flag kind st [] = Unit {0}
-Session i flag kind st (c ∷ cs) = (isAnswered i c ≡ true → Continues flag kind st c) × Session i flag kind (after i st c) cs
+Session i flag kind st cs = Each (after i) (Rule i flag kind) st cs
 
 -- token 2, five inputs and two outputs, whole in its argument buffer, with the flag, the type and the next number; 01: "Areas of 92 bytes or more always hold the entry due."
-pub record WellMade (flag kind number : ℕ) (c : Call) : Type 0 where
+pub record WellMade (flag kind : ℕ) (st : Standing) (c : Call) : Type 0 where
   pub indices : token (c .args) ≡ 2
   pub five-inputs : inputs (c .args) ≡ 5
   pub two-outputs : outputs (c .args) ≡ 2
   pub whole : 40 ≤ length (c .args)
   pub of-flag : input (c .args) 0 ≡ flag
   pub of-kind : input (c .args) 1 ≡ kind
-  pub numbered : input (c .args) 4 ≡ number
+  pub numbered : input (c .args) 4 ≡ st .next
   pub large : 92 ≤ input (c .args) 3
   pub below : input (c .args) 2 + input (c .args) 3 ≤ 4294967296
   pub inside : input (c .args) 2 + input (c .args) 3 ≤ length (c .memory)
-
--- every call that finds the session not done is well made
-abbrev pub Driven : List ℕ → ℕ → ℕ → Standing → List Call → Type 0
-Driven i flag kind st [] = Unit {0}
-Driven i flag kind st (c ∷ cs) = (st .done ≡ false → WellMade flag kind (st .next) c) × Driven i flag kind (after i st c) cs
 
 -- What the areas hold, in order, or the first refusal.
 unfoldable pub joined : Reading → Reading → Reading

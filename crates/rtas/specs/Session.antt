@@ -10,6 +10,7 @@ use Rattle.dump.specs.declared.registration.Registration.{Registration}
 use Rattle.journal.specs.declared.operation.Operation.{Operation}
 use Rattle.nodes.specs.Reading.{Reading, read, refused, reading}
 use Rattle.rtas.specs.UpdateNodes.{areaAt}
+use Rattle.rtas.specs.Account.{over, Each}
 use Rattle.rtas.specs.Buffer.{token, inputs, outputs, input, statusAt, Result, callOf, answered}
 
 -- A call as it finds the buffers; memory, inventory and registration may be any at each call.
@@ -56,8 +57,7 @@ after j st c =
     st
 
 abbrev pub standing : List ℕ → Standing → List Call → Standing
-standing j st [] = st
-standing j st (c ∷ cs) = standing j (after j st c) cs
+standing j st cs = over (after j) st cs
 
 -- An answered call of the session: of the scope, with the carried bytes; "none is answered after one says done"
 pub record Continues (scope : ℕ) (st : Standing) (c : Call) : Type 0 where
@@ -67,12 +67,14 @@ pub record Continues (scope : ℕ) (st : Standing) (c : Call) : Type 0 where
   pub carries : take 16 (areaBefore c) ≡ st .carried
 
 -- "any list of calls .. in which each is refused, for whatever reason, or is an answered update-nodes call of that scope"
+abbrev pub Rule : List ℕ → ℕ → Standing → Call → Type 0
+Rule j scope st c = isAnswered j c ≡ true → Continues scope st c
+
 abbrev pub Session : List ℕ → ℕ → Standing → List Call → Type 0
-Session j scope st [] = Unit {0}
-Session j scope st (c ∷ cs) = (isAnswered j c ≡ true → Continues scope st c) × Session j scope (after j st c) cs
+Session j scope st cs = Each (after j) (Rule j scope) st cs
 
 -- 01: "A well-made call has token 1, two inputs and one output, whole in its argument buffer, with the scope and an aligned area inside memory that begins with the carried bytes"
-pub record WellMade (scope : ℕ) (carried : List ℕ) (c : Call) : Type 0 where
+pub record WellMade (scope : ℕ) (st : Standing) (c : Call) : Type 0 where
   pub nodes : token (c .args) ≡ 1
   pub two-inputs : inputs (c .args) ≡ 2
   pub one-output : outputs (c .args) ≡ 1
@@ -80,12 +82,7 @@ pub record WellMade (scope : ℕ) (carried : List ℕ) (c : Call) : Type 0 where
   pub of-scope : input (c .args) 1 ≡ scope
   pub aligned : address c % 4096 ≡ 0
   pub inside : address c + 4096 ≤ length (c .memory)
-  pub carries : take 16 (areaBefore c) ≡ carried
-
--- every call that finds the session not done is well made
-abbrev pub Driven : List ℕ → ℕ → Standing → List Call → Type 0
-Driven j scope st [] = Unit {0}
-Driven j scope st (c ∷ cs) = (st .done ≡ false → WellMade scope (st .carried) c) × Driven j scope (after j st c) cs
+  pub carries : take 16 (areaBefore c) ≡ st .carried
 
 -- What the areas hold, in order, or the first refusal.
 unfoldable pub joined : Reading → Reading → Reading

@@ -9,8 +9,9 @@ ghost use Rattle.words.specs.Numbers.{wordBytes};
 ghost use Rattle.rtas.specs.Status.{isGiven, isAnswer};
 ghost use Rattle.rtas.specs.GetIndices.{indicesStatus, indicesMemory, nextNumber};
 ghost use Rattle.rtas.specs.Buffer.{statusAt, numberFor, asks, requestOf, outcome, callOf};
-ghost use Rattle.rtas.specs.Cases.{BothSides, AddressLimit};
-ghost use Rattle.rtas.specs.Demands.{Demand1, Demand2, Demand3, WholeList};
+ghost use Rattle.rtas.specs.Demands.{Demand1, Demand2, Demand3};
+ghost use Rattle.rtas.specs.WholeList.{WholeList};
+ghost use Rattle.rtas.specs.Witnesses.{NodesWitness, IndicesWitness};
 ghost use Rattle.rtas.specs.Readings.{Readings};
 use crate::dump_call::configure_kernel_dump;
 use crate::indices_call::Request;
@@ -146,7 +147,7 @@ pub fn call(
     ensures { λ r. ⌜ (r .number ≡ callOf (now (args .entry)) (now (memory .entry)) (now (journal .entry)) (now (inventory .entry)) registration .number) × (r .registration ≡ callOf (now (args .entry)) (now (memory .entry)) (now (journal .entry)) (now (inventory .entry)) registration .registration) ⌝ }
     ensures { λ _. ⌜ now (args .exit) ≡ callOf (now (args .entry)) (now (memory .entry)) (now (journal .entry)) (now (inventory .entry)) registration .args ⌝ }
     ensures { λ _. ⌜ now (memory .exit) ≡ callOf (now (args .entry)) (now (memory .entry)) (now (journal .entry)) (now (inventory .entry)) registration .memory ⌝ }
-    ensures demands { λ _. ⌜ Demand1 × Demand2 × Demand3 × WholeList × Readings × BothSides × AddressLimit ⌝ }
+    ensures demands { λ _. ⌜ Demand1 × Demand2 × Demand3 × WholeList × NodesWitness × IndicesWitness × Readings ⌝ }
 {
     let number = number_for(&*args);
     if !is_given(number) {
