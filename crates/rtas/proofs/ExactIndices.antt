@@ -20,14 +20,14 @@ use Rattle.indices.specs.Reading.{read, reading}
 use Rattle.indices.proofs.Longest.{longest-run, answer-length}
 use Rattle.indices.proofs.Written.{fitting-few, listed-few}
 use Rattle.rtas.specs.declared.indices_call.Request.{Request}
-use Rattle.rtas.specs.Status.{isAnswer, isMalformed, statusWord}
+use Rattle.rtas.specs.Status.{statusWord}
 use Rattle.rtas.specs.Lent.{partAt}
 use Rattle.rtas.specs.GetIndices.{askable, lendable, entriesFor, numberIn, runFor, goodNumber, dueFits, moreEntries, listStatus, indicesStatus, indicesMemory, nextNumber}
 use Rattle.rtas.specs.Terms.{minus, Exactly}
 use Rattle.rtas.specs.ExactIndices as exact
 use Rattle.rtas.specs.ExactIndices.{ExactIndices}
 use Rattle.rtas.proofs.Exactly.{equal, at-most, both, either, no, fails, same}
-use Rattle.rtas.proofs.Ladder.{ladder, ladder-malformed, ladder-otherwise}
+use Rattle.rtas.proofs.Ladder.{ladder, isMalformed, ladder-malformed, ladder-otherwise}
 use Rattle.rtas.proofs.Calls.{word-either}
 use Rattle.rtas.proofs.Requests.{Passed, passed-is, left-is, reads-back, indices-answers, indices-status, indices-memory, run-some, lent-size}
 

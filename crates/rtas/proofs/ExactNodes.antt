@@ -23,13 +23,13 @@ use Rattle.nodes.specs.Reading.{read, reading}
 use Rattle.nodes.proofs.Claims.{area-claims}
 use Rattle.nodes.proofs.Runs.{length-body}
 use Rattle.rtas.specs.declared.status.Status.{Status}
-use Rattle.rtas.specs.Status.{isAnswer, isMalformed, statusWord}
+use Rattle.rtas.specs.Status.{statusWord}
 use Rattle.rtas.specs.UpdateNodes.{areaAt, placed, reserved, goodState, areaStatus, nodesStatus, nodesMemory}
 use Rattle.rtas.specs.Terms.{minus, Exactly}
 use Rattle.rtas.specs.ExactNodes as exact
 use Rattle.rtas.specs.ExactNodes.{ExactNodes}
 use Rattle.rtas.proofs.Exactly.{equal, at-most, below, both, either, fails, same}
-use Rattle.rtas.proofs.Ladder.{ladder, ladder-malformed, ladder-otherwise}
+use Rattle.rtas.proofs.Ladder.{ladder, isMalformed, ladder-malformed, ladder-otherwise}
 use Rattle.rtas.proofs.Areas.{state-within}
 use Rattle.rtas.proofs.Calls.{Passed, passed-is, nodes-answers, nodes-status, nodes-memory, word-either}
 use Rattle.rtas.proofs.Memory.{part-length, part-stored, written-length}

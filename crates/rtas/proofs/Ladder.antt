@@ -1,15 +1,19 @@
 -- The checks of a call as a ladder of tests: two that give -3, one that gives -1, two more that give -3, and whether anything remains.
 use mathlib.Core.Path.{_≡_, refl}
 use mathlib.Core.Bool.{Bool, true, false, cond, _&&_, not, false≢true}
-use Prim.Native.Nat.{ℕ, _≤_}
+use Prim.Native.Nat.{_≤_}
+use lib.Dec.{eqb}
 use native.Mathlib.Omega.{arith}
 use Rattle.rtas.specs.declared.status.Status.{Status}
 use Rattle.rtas.specs.declared.status.Status.the-variants.{Done, Again, Malformed, Parameter}
-use Rattle.rtas.specs.Status.{isMalformed, statusWord}
+use Rattle.rtas.specs.Status.{statusWord}
 use Rattle.rtas.specs.Terms.{minus}
 
 abbrev pub ladder : Bool → Bool → Bool → Bool → Bool → Bool → Status
 ladder p v w r g m = cond p (cond v (cond w (cond r (cond g (cond m Again Done) Parameter) Parameter) Malformed) Parameter) Parameter
+
+abbrev pub isMalformed : Status → Bool
+isMalformed s = eqb (statusWord s) 4294967295
 
 pub ladder-malformed : (p v w r g m : Bool) → isMalformed (ladder p v w r g m) ≡ ((p && v) && not w)
 ladder-malformed false v w r g m = refl

@@ -1,7 +1,7 @@
 -- The numbers and statuses of a call (document 01, "The argument buffer").
 use Prim.Native.Nat.{ℕ}
 use mathlib.Core.Bool.{Bool, true, false}
-use lib.Dec.{leb, eqb}
+use lib.Dec.{leb}
 use Rattle.rtas.specs.declared.status.Number.{Number}
 use Rattle.rtas.specs.declared.status.Number.the-variants.{Given, Short, NoOutputs, TooMany}
 use Rattle.rtas.specs.declared.status.Status.{Status}
@@ -32,9 +32,3 @@ isGiven TooMany = false
 -- 01: "A call is answered when its number is 0 and its status 0 or 1; otherwise it is refused."
 abbrev pub isAnswer : Status → Bool
 isAnswer s = leb (statusWord s) 1
-
-abbrev pub isDone : Status → Bool
-isDone s = eqb (statusWord s) 0
-
-abbrev pub isMalformed : Status → Bool
-isMalformed s = eqb (statusWord s) 4294967295
