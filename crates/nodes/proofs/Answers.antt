@@ -14,7 +14,8 @@ use Rattle.journal.specs.Journal.{wellFormed, entries}
 use Rattle.journal.specs.Reportable.{chosen, reportable, countsOf}
 use Rattle.journal.proofs.Entries.{operations-few}
 use Rattle.journal.proofs.Walks.{within-limit}
-use Rattle.nodes.specs.Run.{partWords, cut, leftOf, total, run, nextState}
+use Rattle.nodes.specs.Run.{partWords, cut, total, run, nextState}
+use Rattle.nodes.specs.State.{passedOf, leftOf}
 use Rattle.nodes.specs.Area.{wordsOf, body, answer, written}
 use Rattle.nodes.specs.Writing.{partFrom, bodyFrom}
 use Rattle.nodes.proofs.Cut.{Parts}
@@ -64,11 +65,11 @@ module _ (row j : List ℕ) (c : Counts) (k : ℕ) (counted : c ≡ countsOf row
   length-additions = length-part 3 (wordsOf (take (r .additions) (drop (k - c .deletes - c .updates) (chosen row 3 (entries j))))) ∙ ap partWords (words-adds row j c k counted inside r fitting)
 
   -- the head, and behind it the parts and the terminator, are the whole answer
-  body-written : bodyFrom row j c k r ≡ body (run (reportable row j) k) ++ (0 ∷ [])
+  body-written : bodyFrom row j (passedOf c k) r ≡ body (run (reportable row j) k) ++ (0 ∷ [])
   unfolding bodyFrom
   body-written = sym (ap (λ (l : List ℕ). l ++ (0 ∷ [])) (body-is row j c k counted inside r fitting) ∙ simp append-assoc)
 
-  pub answer-stored : (l l₁ l₂ : List ℕ) → length l ≡ 4096 → l₁ ≡ sets l 0 (wordBytes (nextState (reportable row j) k ∷ 0 ∷ 0 ∷ 0 ∷ [])) → l₂ ≡ sets l₁ 16 (wordBytes (bodyFrom row j c k r))
+  pub answer-stored : (l l₁ l₂ : List ℕ) → length l ≡ 4096 → l₁ ≡ sets l 0 (wordBytes (nextState (reportable row j) k ∷ 0 ∷ 0 ∷ 0 ∷ [])) → l₂ ≡ sets l₁ 16 (wordBytes (bodyFrom row j (passedOf c k) r))
       → l₂ ≡ written l (reportable row j) k
   unfolding written answer
   answer-stored l l₁ l₂ n e f =

@@ -1,6 +1,6 @@
 -- What a reportable list is, opcode by opcode, and the run of a call from the three counts and the state.
 use mathlib.Core.Path.{_≡_, ap, _∙_, sym}
-use mathlib.Core.Bool.{true, cond}
+use mathlib.Core.Bool.{Bool, true, cond}
 use mathlib.Core.List.{List, [], _∷_, _++_}
 use Prim.Native.Nat.{ℕ, zero, suc, _+_, _*_, _-_, _≤_}
 use native.Mathlib.Omega.{arith}
@@ -14,8 +14,9 @@ use Rattle.journal.specs.declared.scanning.Counts.{Counts}
 use Rattle.journal.specs.Journal.{Entry, opcode, entries}
 use Rattle.journal.specs.Reportable.{reports, chosen, reportable, countsOf}
 use Rattle.words.proofs.Choice.{choose, and-left}
-use Rattle.nodes.specs.Run.{run, remains, nextState, partWords, cut, leftOf, total}
+use Rattle.nodes.specs.Run.{run, remains, nextState, partWords, cut, total}
 use Rattle.nodes.specs.Longest.{AllOf}
+use Rattle.nodes.specs.State.{leftOf}
 use Rattle.nodes.specs.Area.{wordsOf, part, body}
 use Rattle.nodes.proofs.Runs.{longest-one, longest-run, run-facts}
 use Rattle.nodes.proofs.Cut.{code-take, code-drop, words-one, words-two, body-split, Parts, parts-in, Cut, cut-is, cut-longest}
@@ -113,13 +114,14 @@ module _ (row j : List ℕ) (c : Counts) (k : ℕ) (counted : c ≡ countsOf row
   all : length (reportable row j) ≡ total c
   all = sym (total-is row j) ∙ ap total (sym counted)
 
-  pub remains-is : remains (reportable row j) k ≡ ltb (k + total r) (total c)
+  -- whether operations remain and the next state, from the number of operations reported by then
+  pub remains-is : (after : ℕ) → after ≡ k + total r → ltb after (total c) ≡ remains (reportable row j) k
   unfolding remains
-  remains-is = rw (run-length, all)
+  remains-is after e = rw (e, run-length, all)
 
-  pub next-is : nextState (reportable row j) k ≡ cond (ltb (k + total r) (total c)) (k + total r) 0
+  pub next-is : (after next : ℕ) (more : Bool) → after ≡ k + total r → more ≡ ltb after (total c) → next ≡ cond more after 0 → next ≡ nextState (reportable row j) k
   unfolding nextState
-  next-is = rw (remains-is, run-length)
+  next-is after next more e m f = f ∙ rw (m, remains-is after e, e, run-length)
 
   pub fits : partWords (r .deletes) + partWords (r .updates) + partWords (2 * r .additions) ≤ 1019
   fits = cut-here .fits

@@ -1,5 +1,6 @@
 pub mod Run
 pub mod Longest
+pub mod State
 pub mod Area
 pub mod Reading
 pub mod Cursor

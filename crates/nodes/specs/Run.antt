@@ -62,10 +62,5 @@ cut left =
     let room₃ = room₂ - partWords updates in
     record { deletes = deletes; updates = updates; additions = twosIn room₃ (left .additions) }
 
--- what is left of the counts of a list after its first `state` operations
-abbrev pub leftOf : Counts → ℕ → Counts
-leftOf all state =
-    record { deletes = all .deletes - state; updates = all .updates - (state - all .deletes); additions = all .additions - (state - all .deletes - all .updates) }
-
 abbrev pub total : Counts → ℕ
 total c = c .deletes + c .updates + c .additions

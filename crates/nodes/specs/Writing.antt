@@ -1,5 +1,5 @@
 -- Terms of the contracts of the writer's private functions; no public promise cites them.
-use Prim.Native.Nat.{ℕ, _-_, _≤_}
+use Prim.Native.Nat.{ℕ, _≤_}
 use mathlib.Core.Path.{_≡_}
 use mathlib.Core.Bool.{true, cond}
 use mathlib.Core.List.{List, [], _∷_, _++_}
@@ -30,8 +30,8 @@ dueWords row j code at n = wordsOf (take n (chosen row code (entries (drop at j)
 abbrev pub partFrom : List ℕ → List ℕ → ℕ → ℕ → ℕ → List ℕ
 partFrom row j code k n = part code (wordsOf (take n (drop k (chosen row code (entries j)))))
 
--- the three parts of a run, and the terminator
-unfoldable pub bodyFrom : List ℕ → List ℕ → Counts → ℕ → Counts → List ℕ
-bodyFrom row j all k run =
-    partFrom row j 1 k (run .deletes)
-    ++ (partFrom row j 2 (k - all .deletes) (run .updates) ++ (partFrom row j 3 (k - all .deletes - all .updates) (run .additions) ++ (0 ∷ [])))
+-- the three parts of a run, each from its opcode's place on, and the terminator
+unfoldable pub bodyFrom : List ℕ → List ℕ → Counts → Counts → List ℕ
+bodyFrom row j passed run =
+    partFrom row j 1 (passed .deletes) (run .deletes)
+    ++ (partFrom row j 2 (passed .updates) (run .updates) ++ (partFrom row j 3 (passed .additions) (run .additions) ++ (0 ∷ [])))

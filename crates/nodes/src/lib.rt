@@ -1,6 +1,7 @@
 // The node work area: the run that a call hands out, writing it, reading it.
 mod reading;
 mod run;
+mod state;
 mod writing;
 
 pub use reading::Check;
@@ -8,7 +9,6 @@ pub use reading::Cursor;
 pub use reading::Next;
 pub use reading::Refusal;
 pub use reading::check_area;
-pub use run::counts_left;
 pub use run::longest_run;
-pub use writing::StateVariable;
+pub use state::StateVariable;
 pub use writing::write_answer;

@@ -1,7 +1,7 @@
 // The longest run, by arithmetic from how many operations of each opcode are left.
 ghost use mathlib.Core.Path.{_≡_};
 ghost use Prim.Native.Nat.{_-_, min};
-ghost use Rattle.nodes.specs.Run.{partWords, cut, leftOf};
+ghost use Rattle.nodes.specs.Run.{partWords, cut};
 ghost use Rattle.nodes.specs.Longest.{CutIsLongest};
 use journal::Counts;
 
@@ -48,18 +48,5 @@ pub fn longest_run(left: Counts) -> Counts
         deletes,
         updates,
         additions,
-    }
-}
-
-// What is left of the counts of a list after its first `state` operations.
-pub fn counts_left(all: Counts, state: usize) -> Counts
-    ensures { λ r. ⌜ r ≡ leftOf all state ⌝ }
-{
-    let second = less(state, all.deletes);
-    let third = less(second, all.updates);
-    Counts {
-        deletes: less(all.deletes, state),
-        updates: less(all.updates, second),
-        additions: less(all.additions, third),
     }
 }

@@ -1,6 +1,5 @@
 // Writing the answer of a call into its work area.
 ghost use mathlib.Core.Path.{_≡_};
-ghost use mathlib.Core.Bool.{cond};
 ghost use mathlib.Core.List.{[], _∷_};
 ghost use Prim.Native.Nat.{_+_, _*_, _-_, _<_, _≤_};
 ghost use lib.ListN.{length};
@@ -9,18 +8,15 @@ ghost use Rattle.words.specs.Numbers.{wordBytes};
 ghost use Rattle.journal.specs.Journal.{entries};
 ghost use Rattle.journal.specs.Reportable.{chosen, reportable};
 ghost use Rattle.journal.specs.Marks.{operandsAt};
-ghost use Rattle.nodes.specs.Run.{partWords, cut, leftOf, total, remains};
+ghost use Rattle.nodes.specs.Run.{partWords, cut, total, remains};
+ghost use Rattle.nodes.specs.State.{passedOf, leftOf};
 ghost use Rattle.nodes.specs.Area.{written};
 ghost use Rattle.nodes.specs.Claims.{AreaClaims};
 ghost use Rattle.nodes.specs.Source.{Source};
 ghost use Rattle.nodes.specs.Writing.{width, Due, dueWords, partFrom, bodyFrom};
-use crate::run::counts_left;
-use crate::run::less;
 use crate::run::longest_run;
+use crate::state::StateVariable;
 use journal::Counts;
-
-// The State Variable: how many operations were reported before. It counts from 0.
-pub struct StateVariable(pub u32);
 
 // The operand words of one operation of an opcode.
 fn width_of(code: usize) -> usize
@@ -99,7 +95,7 @@ fn write_head(area: &mut [u8], state: StateVariable)
     requires { ⌜ 16 ≤ length (now area) ⌝ }
     ensures { λ _. ⌜ now (area .exit) ≡ sets (now (area .entry)) 0 (wordBytes (state .0 ∷ 0 ∷ 0 ∷ 0 ∷ [])) ⌝ }
 {
-    words::store_be32(area, 0, state.0);
+    state.store(area);
     words::store_be32(area, 4, 0);
     words::store_be32(area, 8, 0);
     words::store_be32(area, 12, 0);
@@ -113,15 +109,25 @@ fn write_body(
     counts: Counts,
     marks: &[u64; 128],
     noted: usize,
-    k: usize,
+    state: StateVariable,
     run: Counts,
 )
-    requires { ⌜ (length (now area) ≡ 4096) × Source (now row) (now j) counts (now marks) noted × (k ≤ total counts) × (run ≡ cut (leftOf counts k)) ⌝ }
-    ensures { λ _. ⌜ now (area .exit) ≡ sets (now (area .entry)) 16 (wordBytes (bodyFrom (now (row .entry)) (now (j .entry)) counts k run)) ⌝ }
+    requires { ⌜ (length (now area) ≡ 4096) × Source (now row) (now j) counts (now marks) noted × (state .0 ≤ total counts) × (run ≡ cut (leftOf counts (state .0))) ⌝ }
+    ensures { λ _. ⌜ now (area .exit) ≡ sets (now (area .entry)) 16 (wordBytes (bodyFrom (now (row .entry)) (now (j .entry)) (passedOf counts (state .0)) run)) ⌝ }
 {
-    let second = less(k, counts.deletes);
-    let third = less(second, counts.updates);
-    let a = write_part(area, j, row, counts, marks, noted, 1, k, run.deletes, 16);
+    let passed = state.passed(counts);
+    let a = write_part(
+        area,
+        j,
+        row,
+        counts,
+        marks,
+        noted,
+        1,
+        passed.deletes,
+        run.deletes,
+        16,
+    );
     let b = write_part(
         area,
         j,
@@ -130,7 +136,7 @@ fn write_body(
         marks,
         noted,
         2,
-        second,
+        passed.updates,
         run.updates,
         a,
     );
@@ -142,22 +148,11 @@ fn write_body(
         marks,
         noted,
         3,
-        third,
+        passed.additions,
         run.additions,
         b,
     );
     words::store_be32(area, c, 0);
-}
-
-// The new state: the operations reported by then, or 0 when nothing remains.
-fn state_after(after: usize, more: bool) -> StateVariable
-    requires { ⌜ after < 4294967296 ⌝ }
-    ensures { λ r. ⌜ r .0 ≡ cond more after 0 ⌝ }
-{
-    if more {
-        return StateVariable(after as u32);
-    }
-    StateVariable(0)
 }
 
 // The answer of a call, from a well-formed journal, what its scan told, and a state within it. Says whether operations remain.
@@ -175,11 +170,10 @@ pub fn write_answer(
     ensures { λ _. ⌜ now (area .exit) ≡ written (now (area .entry)) (reportable (now (row .entry)) (now (j .entry))) (state .0) ⌝ }
     ensures claims { λ _. ⌜ AreaClaims ⌝ }
 {
-    let k = state.0 as usize;
-    let run = longest_run(counts_left(counts, k));
-    let after = k + (run.deletes + run.updates + run.additions);
-    let more = after < counts.deletes + counts.updates + counts.additions;
-    write_head(area, state_after(after, more));
-    write_body(area, j, row, counts, marks, noted, k, run);
+    let run = longest_run(state.left_of(counts));
+    let after = state.after(run);
+    let more = after.has_more(counts);
+    write_head(area, after.carried(more));
+    write_body(area, j, row, counts, marks, noted, state, run);
     more
 }

@@ -1,8 +1,6 @@
 // update-nodes on partition memory.
 ghost use mathlib.Core.Path.{_≡_};
-ghost use mathlib.Core.Bool.{_||_};
 ghost use Prim.Native.Nat.{_<_};
-ghost use lib.Dec.{eqb, ltb};
 ghost use lib.ListN.{length};
 ghost use Rattle.nodes.specs.Source.{Source};
 ghost use Rattle.rtas.specs.UpdateNodes.{placed, areaStatus, areaAfter, nodesStatus, nodesMemory};
@@ -17,13 +15,6 @@ fn is_placed(memory: &[u8], address: usize) -> bool
     ensures { λ r. ⌜ r ≡ placed (now (memory .entry)) address ⌝ }
 {
     address % 4096 == 0 && address + 4096 <= memory.len()
-}
-
-// Whether a state is 0 or below the number of operations.
-fn is_state(state: usize, all: usize) -> bool
-    ensures { λ r. ⌜ r ≡ (eqb state 0 || ltb state all) ⌝ }
-{
-    state == 0 || state < all
 }
 
 // The answer of a call over a well-formed journal, in its work area.
@@ -42,14 +33,11 @@ fn answer_counted(
     if !words::is_zero(area, 4, 16) {
         return Status::Parameter;
     }
-    let state = words::read_be32(area, 0);
-    if !is_state(
-        state as usize,
-        counts.deletes + counts.updates + counts.additions,
-    ) {
+    let state = StateVariable::read(area);
+    if !state.is_within(counts) {
         return Status::Parameter;
     }
-    if nodes::write_answer(area, j, row, counts, marks, noted, StateVariable(state)) {
+    if nodes::write_answer(area, j, row, counts, marks, noted, state) {
         Status::Again
     } else {
         Status::Done

@@ -1,6 +1,6 @@
 -- `writing::write_body` meets its contract.
-use mathlib.Core.Path.{_≡_, ap, _∙_}
-use Prim.Native.Nat.{ℕ, _-_}
+use mathlib.Core.Path.{_∙_}
+use Prim.Native.Nat.{_-_}
 use native.Mathlib.Omega.{arith}
 use borrow.Author.Needs.{needs}
 use denote.Ref.{now}
@@ -9,50 +9,67 @@ use Rattle.nodes.specs.Writing.{partFrom, bodyFrom}
 use Rattle.nodes.proofs.writing.write_body.Statement.{statement}
 use Rattle.nodes.proofs.writing.write_body.Tie as tie
 
-less-requires : tie.Need-less-requires
-less-requires c κs = search needs
+passed-requires : tie.Need-passed-requires
+passed-requires c κs = search needs
 
-less-requires-2 : tie.Need-less-requires-2
-less-requires-2 c κs = search needs
-
-ask : (c : tie.After-less2) → Asked (now (c .before .before .before .before .args .row)) (now (c .before .before .before .before .args .j)) (c .before .before .before .before .args .counts) (c .before .before .before .before .args .k) (c .before .before .before .before .pre .1 .counted) (c .before .before .before .before .pre .2) (c .before .before .before .before .args .run) (c .before .before .before .before .pre .3)
-ask c = asked (now (c .before .before .before .before .args .row)) (now (c .before .before .before .before .args .j)) _ _ (c .before .before .before .before .pre .1 .counted) (c .before .before .before .before .pre .2) _ (c .before .before .before .before .pre .3)
+ask : (c : tie.Start) → Asked (now (c .args .row)) (now (c .args .j)) (c .args .counts) (c .args .state .0) (c .pre .1 .counted) (c .pre .2) (c .args .run) (c .pre .3)
+ask c = asked (now (c .args .row)) (now (c .args .j)) _ _ (c .pre .1 .counted) (c .pre .2) _ (c .pre .3)
 
 write-part-requires : tie.Need-write-part-requires
-write-part-requires c κs = (c .before .before .before .before .before .pre .1, omega arith, omega arith, ask (c .before) .deletes, omega (arith, ask (c .before) .room), omega (arith, ask (c .before) .room, c .before .before .before .before .before .pre .0))
+write-part-requires c κs =
+    let s = c .before .before .before .before in
+    (s .pre .1, omega arith, omega arith, rw (c .before .passed .ensures) (ask s .deletes), omega (arith, ask s .room), omega (arith, ask s .room, s .pre .0))
 
 write-part-requires-2 : tie.Need-write-part-requires-2
-write-part-requires-2 c κs = (c .before .before .before .before .before .before .before .before .before .pre .1, omega arith, omega arith, rw (c .before .before .before .before .before .before .less .ensures) (ask (c .before .before .before .before .before) .updates), omega (arith, ask (c .before .before .before .before .before) .room), omega (arith, ask (c .before .before .before .before .before) .room, c .before .before .before .before .before .before .before .before .before .pre .0, c .before .before .before .write-part .ensures .0, c .before .before .before .write-part .kept .0))
+write-part-requires-2 c κs =
+    let s = c .before .before .before .before .before .before .before .before in
+    let w = c .before .before .before .write-part in
+    (s .pre .1, omega arith, omega arith, rw (c .before .before .before .before .before .passed .ensures) (ask s .updates), omega (arith, ask s .room), omega (arith, ask s .room, s .pre .0, w .ensures .0, w .kept .0))
 
 write-part-requires-3 : tie.Need-write-part-requires-3
-write-part-requires-3 c κs = (c .before .before .before .before .before .before .before .before .before .before .before .before .before .pre .1, omega arith, omega arith, rw (c .before .before .before .before .before .before .before .before .before .less2 .ensures, c .before .before .before .before .before .before .before .before .before .before .less .ensures) (ask (c .before .before .before .before .before .before .before .before .before) .additions), omega (arith, ask (c .before .before .before .before .before .before .before .before .before) .room), omega (arith, ask (c .before .before .before .before .before .before .before .before .before) .room, c .before .before .before .before .before .before .before .before .before .before .before .before .before .pre .0, c .before .before .before .before .before .before .before .write-part .ensures .0, c .before .before .before .before .before .before .before .write-part .kept .0, c .before .before .before .write-part2 .ensures .0, c .before .before .before .write-part2 .kept .0))
+write-part-requires-3 c κs =
+    let s = c .before .before .before .before .before .before .before .before .before .before .before .before in
+    let w = c .before .before .before .before .before .before .before .write-part in
+    let v = c .before .before .before .write-part2 in
+    (s .pre .1, omega arith, omega arith, rw (c .before .before .before .before .before .before .before .before .before .passed .ensures) (ask s .additions), omega (arith, ask s .room), omega (arith, ask s .room, s .pre .0, w .ensures .0, w .kept .0, v .ensures .0, v .kept .0))
 
 store-be32-requires : tie.Need-store-be32-requires
-store-be32-requires c κs = omega (arith, ask (c .before .before .before .before .before .before .before .before .before .before .before .before .before) .room, c .before .before .before .before .before .before .before .before .before .before .before .before .before .before .before .before .before .pre .0, c .before .before .before .before .before .before .before .before .before .before .before .write-part .ensures .0, c .before .before .before .before .before .before .before .before .before .before .before .write-part .kept .0, c .before .before .before .before .before .before .before .write-part2 .ensures .0, c .before .before .before .before .before .before .before .write-part2 .kept .0, c .before .before .before .write-part3 .ensures .0, c .before .before .before .write-part3 .kept .0)
+store-be32-requires c κs =
+    let s = c .before .before .before .before .before .before .before .before .before .before .before .before .before .before .before .before in
+    let w = c .before .before .before .before .before .before .before .before .before .before .before .write-part in
+    let v = c .before .before .before .before .before .before .before .write-part2 in
+    let u = c .before .before .before .write-part3 in
+    omega (arith, ask s .room, s .pre .0, w .ensures .0, w .kept .0, v .ensures .0, v .kept .0, u .ensures .0, u .kept .0)
 
 same-length : tie.Need-same-length
 same-length c = search needs
 
 returns : tie.Need-returns
 unfolding bodyFrom
-returns c = let a = c .before .before .before .before .before .before .before .before .before .before .before .before .before .before .before .before .before .before .before .before .args in
-    let p = c .before .before .before .before .before .before .before .before .before .before .before .before .before .before .before .before .before .before .before .before .pre in
-    let second : c .before .before .before .before .before .before .before .before .before .before .before .before .before .before .before .before .before .less .result ≡ a .k - a .counts .deletes = c .before .before .before .before .before .before .before .before .before .before .before .before .before .before .before .before .before .less .ensures in
-    let third : c .before .before .before .before .before .before .before .before .before .before .before .before .before .before .before .before .less2 .result ≡ a .k - a .counts .deletes - a .counts .updates = c .before .before .before .before .before .before .before .before .before .before .before .before .before .before .before .before .less2 .ensures ∙ ap (λ (n : ℕ). n - a .counts .updates) second in
-    body-stored (now (a .area)) (c .before .before .before .before .before .before .before .before .before .before .before .before .before .before .write-part .last .0) (c .before .before .before .before .before .before .before .before .before .before .write-part2 .last .0) (c .before .before .before .before .before .before .write-part3 .last .0) (c .before .before .store-be32 .last .0)
-    (partFrom (now (a .row)) (now (a .j)) 1 (a .k) (a .run .deletes)) (partFrom (now (a .row)) (now (a .j)) 2 (a .k - a .counts .deletes) (a .run .updates)) (partFrom (now (a .row)) (now (a .j)) 3 (a .k - a .counts .deletes - a .counts .updates) (a .run .additions))
-    (c .before .before .before .before .before .before .before .before .before .before .before .before .before .before .write-part .result) (c .before .before .before .before .before .before .before .before .before .before .write-part2 .result) (c .before .before .before .before .before .before .write-part3 .result)
-    (c .before .before .before .before .before .before .before .before .before .before .before .before .before .before .write-part .ensures .1) (c .before .before .before .before .before .before .before .before .before .before .before .before .before .before .write-part .ensures .0 ∙ rw (length-deletes (now (a .row)) (now (a .j)) (a .counts) (a .k) (p .1 .counted) (p .2) (a .run) (p .3)))
-    (rw second at (c .before .before .before .before .before .before .before .before .before .before .write-part2 .ensures .1)) (c .before .before .before .before .before .before .before .before .before .before .write-part2 .ensures .0 ∙ rw (length-updates (now (a .row)) (now (a .j)) (a .counts) (a .k) (p .1 .counted) (p .2) (a .run) (p .3)))
-    (rw third at (c .before .before .before .before .before .before .write-part3 .ensures .1)) (c .before .before .before .before .before .before .write-part3 .ensures .0 ∙ rw (length-additions (now (a .row)) (now (a .j)) (a .counts) (a .k) (p .1 .counted) (p .2) (a .run) (p .3)))
+returns c =
+    let s = c .before .before .before .before .before .before .before .before .before .before .before .before .before .before .before .before .before .before .before in
+    let a = s .args in
+    let p = s .pre in
+    let e = c .before .before .before .before .before .before .before .before .before .before .before .before .before .before .before .before .passed .ensures in
+    let w = c .before .before .before .before .before .before .before .before .before .before .before .before .before .before .write-part in
+    let v = c .before .before .before .before .before .before .before .before .before .before .write-part2 in
+    let u = c .before .before .before .before .before .before .write-part3 in
+    let row = now (a .row) in
+    let j = now (a .j) in
+    let k = a .state .0 in
+    body-stored (now (a .area)) (w .last .0) (v .last .0) (u .last .0) (c .before .before .store-be32 .last .0)
+    (partFrom row j 1 k (a .run .deletes)) (partFrom row j 2 (k - a .counts .deletes) (a .run .updates)) (partFrom row j 3 (k - a .counts .deletes - a .counts .updates) (a .run .additions))
+    (w .result) (v .result) (u .result)
+    (rw e at (w .ensures .1)) (w .ensures .0 ∙ rw (length-deletes row j (a .counts) k (p .1 .counted) (p .2) (a .run) (p .3)))
+    (rw e at (v .ensures .1)) (v .ensures .0 ∙ rw (length-updates row j (a .counts) k (p .1 .counted) (p .2) (a .run) (p .3)))
+    (rw e at (u .ensures .1)) (u .ensures .0 ∙ rw (length-additions row j (a .counts) k (p .1 .counted) (p .2) (a .run) (p .3)))
     (c .before .before .store-be32 .ensures)
 
 pub write-body-spec : {M : Type 1} → statement M
 write-body-spec =
     tie.close
     (tie.spec
-    less-requires
-    less-requires-2
+    passed-requires
     write-part-requires
     write-part-requires-2
     write-part-requires-3

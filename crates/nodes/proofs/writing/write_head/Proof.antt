@@ -3,9 +3,12 @@ use mathlib.Core.List.{[], _∷_}
 use mathlib.Core.Path.{refl}
 use borrow.Author.Needs.{needs}
 use denote.Ref.{now}
-use Rattle.words.proofs.Stores.{store-first, store-next}
+use Rattle.words.proofs.Stores.{store-next}
 use Rattle.nodes.proofs.writing.write_head.Statement.{statement}
 use Rattle.nodes.proofs.writing.write_head.Tie as tie
+
+store-requires : tie.Need-store-requires
+store-requires c κs = search needs
 
 store-be32-requires : tie.Need-store-be32-requires
 store-be32-requires c κs = search needs
@@ -16,28 +19,24 @@ store-be32-requires-2 c κs = search needs
 store-be32-requires-3 : tie.Need-store-be32-requires-3
 store-be32-requires-3 c κs = search needs
 
-store-be32-requires-4 : tie.Need-store-be32-requires-4
-store-be32-requires-4 c κs = search needs
-
 same-length : tie.Need-same-length
 same-length c = search needs
 
 returns : tie.Need-returns
 returns c = let l = now (c .before .before .before .before .before .before .before .before .before .before .before .before .before .before .before .before .before .args .area) in
     let s = c .before .before .before .before .before .before .before .before .before .before .before .before .before .before .before .before .before .args .state .0 in
-    store-next l (c .before .before .before .before .before .before .store-be323 .last .0) 0 0 (c .before .before .store-be324 .last .0) 12 (s ∷ 0 ∷ 0 ∷ [])
-    (store-next l (c .before .before .before .before .before .before .before .before .before .before .store-be322 .last .0) 0 0 (c .before .before .before .before .before .before .store-be323 .last .0) 8 (s ∷ 0 ∷ [])
-    (store-next l (c .before .before .before .before .before .before .before .before .before .before .before .before .before .before .store-be32 .last .0) 0 0 (c .before .before .before .before .before .before .before .before .before .before .store-be322 .last .0) 4 (s ∷ [])
-    (store-first l (c .before .before .before .before .before .before .before .before .before .before .before .before .before .before .store-be32 .last .0) 0 s (c .before .before .before .before .before .before .before .before .before .before .before .before .before .before .store-be32 .ensures)) (c .before .before .before .before .before .before .before .before .before .before .store-be322 .ensures) refl)
-    (c .before .before .before .before .before .before .store-be323 .ensures) refl) (c .before .before .store-be324 .ensures) refl
+    store-next l (c .before .before .before .before .before .before .store-be322 .last .0) 0 0 (c .before .before .store-be323 .last .0) 12 (s ∷ 0 ∷ 0 ∷ [])
+    (store-next l (c .before .before .before .before .before .before .before .before .before .before .store-be32 .last .0) 0 0 (c .before .before .before .before .before .before .store-be322 .last .0) 8 (s ∷ 0 ∷ [])
+    (store-next l (c .before .before .before .before .before .before .before .before .before .before .before .before .before .before .store .last .1 .0) 0 0 (c .before .before .before .before .before .before .before .before .before .before .store-be32 .last .0) 4 (s ∷ []) (c .before .before .before .before .before .before .before .before .before .before .before .before .before .before .store .ensures) (c .before .before .before .before .before .before .before .before .before .before .store-be32 .ensures) refl)
+    (c .before .before .before .before .before .before .store-be322 .ensures) refl) (c .before .before .store-be323 .ensures) refl
 
 pub write-head-spec : {M : Type 1} → statement M
 write-head-spec =
     tie.close
     (tie.spec
+    store-requires
     store-be32-requires
     store-be32-requires-2
     store-be32-requires-3
-    store-be32-requires-4
     same-length
     returns)

@@ -28,64 +28,68 @@ unfolding reserved
 zero-is c = c .is-zero .ensures
 
 returns : tie.Need-returns
-returns c = left-reserved (now (c .before .before .before .before .before .args .row)) (now (c .before .before .before .before .before .args .j)) (now (c .before .before .before .before .before .args .area)) (c .before .before .before .before .before .pre .1 .good) (sym (zero-is (c .before)) ∙ not-true _ (c .if1 .taken))
+returns c =
+    let s = c .before .before .before .before .before in
+    left-reserved (now (s .args .row)) (now (s .args .j)) (now (s .args .area)) (s .pre .1 .good) (sym (zero-is (c .before)) ∙ not-true _ (c .if1 .taken))
 
-read-be32-requires : tie.Need-read-be32-requires
-read-be32-requires c κs = search needs
+read-requires : tie.Need-read-requires
+read-requires c κs = search needs
 
-cast-is-state : tie.Need-cast-is-state
-cast-is-state c = search needs
+is-within-requires : tie.Need-is-within-requires
+is-within-requires c κs = let s = c .before .before .before .before .before .before .before in omega (arith, counts-small (now (s .args .row)) (now (s .args .j)) (s .args .counts) (s .pre .1 .good) (s .pre .1 .counted))
 
-small : (c : tie.Start) → total (c .args .counts) ≤ 3145728
-small c = counts-small (now (c .args .row)) (now (c .args .j)) _ (c .pre .1 .good) (c .pre .1 .counted)
+good-is : (c : tie.After-is-within) → c .is-within .result ≡ goodState (now (c .before .before .before .before .before .before .before .before .args .row)) (now (c .before .before .before .before .before .before .before .before .args .j)) (now (c .before .before .before .before .before .before .before .before .args .area))
+good-is c = let s = c .before .before .before .before .before .before .before .before in c .is-within .ensures ∙ state-is (now (s .args .row)) (now (s .args .j)) (now (s .args .area)) _ _ (c .before .read .ensures) (s .pre .1 .counted)
 
-add-is-state : tie.Need-add-is-state
-add-is-state c = omega (arith, small (c .before .before .before .before .before .before .before .before))
+zero-yes : (c : tie.Else2) → reserved (now (c .before .before .before .before .before .before .before .before .before .args .area)) ≡ true
+zero-yes c = sym (zero-is (c .before .before .before .before .before)) ∙ not-false _ (c .before .before .before .before .if1 .left)
 
-add-is-state-2 : tie.Need-add-is-state-2
-add-is-state-2 c = omega (arith, small (c .before .before .before .before .before .before .before .before .before))
-
-is-state-requires : tie.Need-is-state-requires
-is-state-requires c κs = search needs
-
-good-is : (c : tie.After-is-state) → c .is-state .result ≡ goodState (now (c .before .before .before .before .before .before .before .before .before .before .args .row)) (now (c .before .before .before .before .before .before .before .before .before .before .args .j)) (now (c .before .before .before .before .before .before .before .before .before .before .args .area))
-good-is c = c .is-state .ensures ∙ state-is (now (c .before .before .before .before .before .before .before .before .before .before .args .row)) (now (c .before .before .before .before .before .before .before .before .before .before .args .j)) (now (c .before .before .before .before .before .before .before .before .before .before .args .area)) _ _ (c .before .before .before .read-be32 .ensures) (c .before .before .before .before .before .before .before .before .before .before .pre .1 .counted)
-
-zero-yes : (c : tie.Else2) → reserved (now (c .before .before .before .before .before .before .before .before .before .before .before .args .area)) ≡ true
-zero-yes c = sym (zero-is (c .before .before .before .before .before .before .before)) ∙ not-false _ (c .before .before .before .before .before .before .if1 .left)
-
-good-yes : (c : tie.Else2) → goodState (now (c .before .before .before .before .before .before .before .before .before .before .before .args .row)) (now (c .before .before .before .before .before .before .before .before .before .before .before .args .j)) (now (c .before .before .before .before .before .before .before .before .before .before .before .args .area)) ≡ true
+good-yes : (c : tie.Else2) → goodState (now (c .before .before .before .before .before .before .before .before .before .args .row)) (now (c .before .before .before .before .before .before .before .before .before .args .j)) (now (c .before .before .before .before .before .before .before .before .before .args .area)) ≡ true
 good-yes c = sym (good-is (c .before)) ∙ not-false _ (c .if2 .left)
 
-within : (c : tie.Else2) → c .before .before .before .before .read-be32 .result ≤ total (c .before .before .before .before .before .before .before .before .before .before .before .args .counts)
-within c = rw (c .before .before .before .before .read-be32 .ensures, c .before .before .before .before .before .before .before .before .before .before .before .pre .1 .counted) (rw (← total-is (now (c .before .before .before .before .before .before .before .before .before .before .before .args .row)) (now (c .before .before .before .before .before .before .before .before .before .before .before .args .j))) at (state-within (now (c .before .before .before .before .before .before .before .before .before .before .before .args .row)) (now (c .before .before .before .before .before .before .before .before .before .before .before .args .j)) (now (c .before .before .before .before .before .before .before .before .before .before .before .args .area)) (good-yes c)))
+within : (c : tie.Else2) → c .before .before .read .result .0 ≤ total (c .before .before .before .before .before .before .before .before .before .args .counts)
+within c =
+    let s = c .before .before .before .before .before .before .before .before .before in
+    rw (c .before .before .read .ensures, s .pre .1 .counted) (rw (← total-is (now (s .args .row)) (now (s .args .j))) at (state-within (now (s .args .row)) (now (s .args .j)) (now (s .args .area)) (good-yes c)))
 
 same-length-2 : tie.Need-same-length-2
 same-length-2 c = search needs
 
 returns-2 : tie.Need-returns-2
-returns-2 c = left-state (now (c .before .before .before .before .before .before .before .before .before .before .before .args .row)) (now (c .before .before .before .before .before .before .before .before .before .before .before .args .j)) (now (c .before .before .before .before .before .before .before .before .before .before .before .args .area)) (c .before .before .before .before .before .before .before .before .before .before .before .pre .1 .good) (sym (zero-is (c .before .before .before .before .before .before .before)) ∙ not-false _ (c .before .before .before .before .before .before .if1 .left)) (sym (good-is (c .before)) ∙ not-true _ (c .if2 .taken))
+returns-2 c =
+    let s = c .before .before .before .before .before .before .before .before .before in
+    left-state (now (s .args .row)) (now (s .args .j)) (now (s .args .area)) (s .pre .1 .good) (sym (zero-is (c .before .before .before .before .before)) ∙ not-false _ (c .before .before .before .before .if1 .left)) (sym (good-is (c .before)) ∙ not-true _ (c .if2 .taken))
 
 write-answer-requires : tie.Need-write-answer-requires
-write-answer-requires c κs = (c .before .before .before .before .before .before .before .before .before .before .before .before .pre .0, c .before .before .before .before .before .before .before .before .before .before .before .before .pre .1, within (c .before))
+write-answer-requires c κs = let p = c .before .before .before .before .before .before .before .before .before .before .pre in (p .0, p .1, within (c .before))
 
 same-length-3 : tie.Need-same-length-3
 same-length-3 c = search needs
 
 returns-3 : tie.Need-returns-3
 returns-3 c =
-    let e = c .before .before .before .before .before .before .before .before .before .read-be32 .ensures in
-    let l = left-again (now (c .before .before .before .before .before .before .before .before .before .before .before .before .before .before .before .before .args .row)) (now (c .before .before .before .before .before .before .before .before .before .before .before .before .before .before .before .before .args .j)) (now (c .before .before .before .before .before .before .before .before .before .before .before .before .before .before .before .before .args .area)) (c .before .before .before .before .before .before .before .before .before .before .before .before .before .before .before .before .pre .1 .good) (zero-yes (c .before .before .before .before .before)) (good-yes (c .before .before .before .before .before)) (rw e at (sym (c .before .before .before .write-answer .ensures .0) ∙ c .if3 .taken)) in
-    (l .0, c .before .before .before .write-answer .ensures .1 .0 ∙ ap (written (now (c .before .before .before .before .before .before .before .before .before .before .before .before .before .before .before .before .args .area)) (reportable (now (c .before .before .before .before .before .before .before .before .before .before .before .before .before .before .before .before .args .row)) (now (c .before .before .before .before .before .before .before .before .before .before .before .before .before .before .before .before .args .j)))) e ∙ l .1)
+    let s = c .before .before .before .before .before .before .before .before .before .before .before .before .before .before in
+    let row = now (s .args .row) in
+    let j = now (s .args .j) in
+    let area = now (s .args .area) in
+    let w = c .before .before .before .write-answer in
+    let e = c .before .before .before .before .before .before .before .read .ensures in
+    let l = left-again row j area (s .pre .1 .good) (zero-yes (c .before .before .before .before .before)) (good-yes (c .before .before .before .before .before)) (rw e at (sym (w .ensures .0) ∙ c .if3 .taken)) in
+    (l .0, w .ensures .1 .0 ∙ ap (written area (reportable row j)) e ∙ l .1)
 
 same-length-4 : tie.Need-same-length-4
 same-length-4 c = search needs
 
 returns-4 : tie.Need-returns-4
 returns-4 c =
-    let e = c .before .before .before .before .before .before .before .before .before .read-be32 .ensures in
-    let l = left-done (now (c .before .before .before .before .before .before .before .before .before .before .before .before .before .before .before .before .args .row)) (now (c .before .before .before .before .before .before .before .before .before .before .before .before .before .before .before .before .args .j)) (now (c .before .before .before .before .before .before .before .before .before .before .before .before .before .before .before .before .args .area)) (c .before .before .before .before .before .before .before .before .before .before .before .before .before .before .before .before .pre .1 .good) (zero-yes (c .before .before .before .before .before)) (good-yes (c .before .before .before .before .before)) (rw e at (sym (c .before .before .before .write-answer .ensures .0) ∙ c .if3 .left)) in
-    (l .0, c .before .before .before .write-answer .ensures .1 .0 ∙ ap (written (now (c .before .before .before .before .before .before .before .before .before .before .before .before .before .before .before .before .args .area)) (reportable (now (c .before .before .before .before .before .before .before .before .before .before .before .before .before .before .before .before .args .row)) (now (c .before .before .before .before .before .before .before .before .before .before .before .before .before .before .before .before .args .j)))) e ∙ l .1)
+    let s = c .before .before .before .before .before .before .before .before .before .before .before .before .before .before in
+    let row = now (s .args .row) in
+    let j = now (s .args .j) in
+    let area = now (s .args .area) in
+    let w = c .before .before .before .write-answer in
+    let e = c .before .before .before .before .before .before .before .read .ensures in
+    let l = left-done row j area (s .pre .1 .good) (zero-yes (c .before .before .before .before .before)) (good-yes (c .before .before .before .before .before)) (rw e at (sym (w .ensures .0) ∙ c .if3 .left)) in
+    (l .0, w .ensures .1 .0 ∙ ap (written area (reportable row j)) e ∙ l .1)
 
 pub answer-counted-spec : {M : Type 1} → statement M
 answer-counted-spec =
@@ -94,11 +98,8 @@ answer-counted-spec =
     is-zero-requires
     same-length
     returns
-    read-be32-requires
-    cast-is-state
-    add-is-state
-    add-is-state-2
-    is-state-requires
+    read-requires
+    is-within-requires
     same-length-2
     returns-2
     write-answer-requires

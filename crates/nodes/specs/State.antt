@@ -1,0 +1,13 @@
+-- What lies on both sides of a state, opcode by opcode.
+use Prim.Native.Nat.{ℕ, _-_}
+use Rattle.journal.specs.declared.scanning.Counts.{Counts}
+
+-- 01: "It counts operations already reported." Where each opcode's operations go on behind it: past their end where all were reported.
+abbrev pub passedOf : Counts → ℕ → Counts
+passedOf all state = record { deletes = state; updates = state - all .deletes; additions = state - all .deletes - all .updates }
+
+-- what is left of the counts of a list after its first `state` operations
+abbrev pub leftOf : Counts → ℕ → Counts
+leftOf all state =
+    let passed = passedOf all state in
+    record { deletes = all .deletes - passed .deletes; updates = all .updates - passed .updates; additions = all .additions - passed .additions }
