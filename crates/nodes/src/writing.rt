@@ -1,13 +1,14 @@
 // Writing the answer of a call into its work area.
 ghost use mathlib.Core.Path.{_≡_};
+ghost use mathlib.Core.Bool.{true};
 ghost use mathlib.Core.List.{[], _∷_};
 ghost use Prim.Native.Nat.{_+_, _*_, _-_, _<_, _≤_};
 ghost use lib.ListN.{length};
 ghost use lib.Seq.{sets};
 ghost use Rattle.words.specs.Numbers.{wordBytes};
-ghost use Rattle.journal.specs.Journal.{entries};
+ghost use Rattle.journal.specs.Journal.{wellFormed, entries};
 ghost use Rattle.journal.specs.Reportable.{chosen, reportable};
-ghost use Rattle.journal.specs.Marks.{operandsAt};
+ghost use Rattle.journal.specs.Marks.{operandsAt, Marked};
 ghost use Rattle.nodes.specs.Run.{partWords, cut, total, remains};
 ghost use Rattle.nodes.specs.State.{passedOf, leftOf};
 ghost use Rattle.nodes.specs.Area.{written};
@@ -68,7 +69,6 @@ fn write_part(
     area: &mut [u8],
     j: &[u8],
     row: &[u8; 15],
-    counts: Counts,
     marks: &[u64; 128],
     noted: usize,
     code: usize,
@@ -76,7 +76,7 @@ fn write_part(
     count: usize,
     to: usize,
 ) -> usize
-    requires { ⌜ Source (now row) (now j) counts (now marks) noted × (1 ≤ code) × (code ≤ 3) × (count ≤ length (chosen (now row) code (entries (now j))) - k) × (count ≤ 1019) × (to + 4 * partWords (width code * count) ≤ length (now area)) ⌝ }
+    requires { ⌜ (wellFormed (now j) ≡ true) × Marked (now row) (now j) (now marks) noted × (1 ≤ code) × (code ≤ 3) × (count ≤ length (chosen (now row) code (entries (now j))) - k) × (count ≤ 1019) × (to + 4 * partWords (width code * count) ≤ length (now area)) ⌝ }
     ensures { λ r. ⌜ r ≡ to + 4 * partWords (width code * count) ⌝ }
     ensures { λ _. ⌜ now (area .exit) ≡ sets (now (area .entry)) to (wordBytes (partFrom (now (row .entry)) (now (j .entry)) code k count)) ⌝ }
 {
@@ -115,40 +115,17 @@ fn write_body(
     requires { ⌜ (length (now area) ≡ 4096) × Source (now row) (now j) counts (now marks) noted × (state .0 ≤ total counts) × (run ≡ cut (leftOf counts (state .0))) ⌝ }
     ensures { λ _. ⌜ now (area .exit) ≡ sets (now (area .entry)) 16 (wordBytes (bodyFrom (now (row .entry)) (now (j .entry)) (passedOf counts (state .0)) run)) ⌝ }
 {
-    let passed = state.passed(counts);
-    let a = write_part(
-        area,
-        j,
-        row,
-        counts,
-        marks,
-        noted,
-        1,
-        passed.deletes,
-        run.deletes,
-        16,
-    );
-    let b = write_part(
-        area,
-        j,
-        row,
-        counts,
-        marks,
-        noted,
-        2,
-        passed.updates,
-        run.updates,
-        a,
-    );
+    let from = state.passed(counts);
+    let a = write_part(area, j, row, marks, noted, 1, from.deletes, run.deletes, 16);
+    let b = write_part(area, j, row, marks, noted, 2, from.updates, run.updates, a);
     let c = write_part(
         area,
         j,
         row,
-        counts,
         marks,
         noted,
         3,
-        passed.additions,
+        from.additions,
         run.additions,
         b,
     );

@@ -18,20 +18,20 @@ ask c = asked (now (c .args .row)) (now (c .args .j)) _ _ (c .pre .1 .counted) (
 write-part-requires : tie.Need-write-part-requires
 write-part-requires c κs =
     let s = c .before .before .before .before in
-    (s .pre .1, omega arith, omega arith, rw (c .before .passed .ensures) (ask s .deletes), omega (arith, ask s .room), omega (arith, ask s .room, s .pre .0))
+    (s .pre .1 .good, s .pre .1 .marked, omega arith, omega arith, rw (c .before .passed .ensures) (ask s .deletes), omega (arith, ask s .room), omega (arith, ask s .room, s .pre .0))
 
 write-part-requires-2 : tie.Need-write-part-requires-2
 write-part-requires-2 c κs =
     let s = c .before .before .before .before .before .before .before .before in
     let w = c .before .before .before .write-part in
-    (s .pre .1, omega arith, omega arith, rw (c .before .before .before .before .before .passed .ensures) (ask s .updates), omega (arith, ask s .room), omega (arith, ask s .room, s .pre .0, w .ensures .0, w .kept .0))
+    (s .pre .1 .good, s .pre .1 .marked, omega arith, omega arith, rw (c .before .before .before .before .before .passed .ensures) (ask s .updates), omega (arith, ask s .room), omega (arith, ask s .room, s .pre .0, w .ensures .0, w .kept .0))
 
 write-part-requires-3 : tie.Need-write-part-requires-3
 write-part-requires-3 c κs =
     let s = c .before .before .before .before .before .before .before .before .before .before .before .before in
     let w = c .before .before .before .before .before .before .before .write-part in
     let v = c .before .before .before .write-part2 in
-    (s .pre .1, omega arith, omega arith, rw (c .before .before .before .before .before .before .before .before .before .passed .ensures) (ask s .additions), omega (arith, ask s .room), omega (arith, ask s .room, s .pre .0, w .ensures .0, w .kept .0, v .ensures .0, v .kept .0))
+    (s .pre .1 .good, s .pre .1 .marked, omega arith, omega arith, rw (c .before .before .before .before .before .before .before .before .before .passed .ensures) (ask s .additions), omega (arith, ask s .room), omega (arith, ask s .room, s .pre .0, w .ensures .0, w .kept .0, v .ensures .0, v .kept .0))
 
 store-be32-requires : tie.Need-store-be32-requires
 store-be32-requires c κs =

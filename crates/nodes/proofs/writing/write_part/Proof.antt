@@ -19,19 +19,19 @@ returns : tie.Need-returns
 returns c = no-part (now (c .before .before .before .args .area)) (now (c .before .before .before .args .row)) (now (c .before .before .before .args .j)) (c .before .before .before .args .code) (c .before .before .before .args .k) (c .before .before .before .args .count) (c .before .before .before .args .to) (c .if1 .taken)
 
 find-requires : tie.Need-find-requires
-find-requires c κs = (c .before .before .before .pre .0 .good, c .before .before .before .pre .0 .marked, c .before .before .before .pre .1, c .before .before .before .pre .2, omega (arith, c .before .before .before .pre .3, c .if1 .left))
+find-requires c κs = (c .before .before .before .pre .0, c .before .before .before .pre .1, c .before .before .before .pre .2, c .before .before .before .pre .3, omega (arith, c .before .before .before .pre .4, c .if1 .left))
 
 width-of-requires : tie.Need-width-of-requires
 width-of-requires c κs = search needs
 
 sizes : (c : tie.After-width-of) → Sized (width (c .before .before .before .before .before .args .code)) (c .width-of .result) (c .before .before .before .before .before .args .count)
-sizes c = sized (c .before .before .before .before .before .args .code) _ _ (c .width-of .ensures) (omega (arith, c .before .before .if1 .left)) (c .before .before .before .before .before .pre .4)
+sizes c = sized (c .before .before .before .before .before .args .code) _ _ (c .width-of .ensures) (omega (arith, c .before .before .if1 .left)) (c .before .before .before .before .before .pre .5)
 
 room : (c : tie.After-width-of) → c .before .before .before .before .before .args .to + 4 * (1 + width (c .before .before .before .before .before .args .code) * c .before .before .before .before .before .args .count) ≤ length (now (c .before .before .before .before .before .args .area))
-room c = omega (arith, c .before .before .before .before .before .pre .5, operator-pos (width (c .before .before .before .before .before .args .code) * c .before .before .before .before .before .args .count) (omega (arith, sizes c)))
+room c = omega (arith, c .before .before .before .before .before .pre .6, operator-pos (width (c .before .before .before .before .before .args .code) * c .before .before .before .before .before .args .count) (omega (arith, sizes c)))
 
 due : (c : tie.After-width-of) → Due (now (c .before .before .before .before .before .args .row)) (now (c .before .before .before .before .before .args .j)) (c .before .before .before .before .before .args .code) (c .before .find .result) (c .before .before .before .before .before .args .count)
-due c = found-due (now (c .before .before .before .before .before .args .row)) (now (c .before .before .before .before .before .args .j)) _ _ _ _ (c .before .find .ensures) (c .before .before .before .before .before .pre .0 .good) (c .before .before .before .before .before .pre .1) (c .before .before .before .before .before .pre .2) (omega (arith, c .before .before .before .before .before .pre .3, c .before .before .if1 .left))
+due c = found-due (now (c .before .before .before .before .before .args .row)) (now (c .before .before .before .before .before .args .j)) _ _ _ _ (c .before .find .ensures) (c .before .before .before .before .before .pre .0) (c .before .before .before .before .before .pre .2) (c .before .before .before .before .before .pre .3) (omega (arith, c .before .before .before .before .before .pre .4, c .before .before .if1 .left))
 
 mul-operands : tie.Need-mul-operands
 mul-operands c = omega (arith, sizes c)
@@ -40,10 +40,10 @@ mul-store-be32 : tie.Need-mul-store-be32
 mul-store-be32 c = search needs
 
 add-store-be32 : tie.Need-add-store-be32
-add-store-be32 c = omega (arith, sizes (c .before), c .before .before .before .before .before .before .pre .2)
+add-store-be32 c = omega (arith, sizes (c .before), c .before .before .before .before .before .before .pre .3)
 
 cast-store-be32 : tie.Need-cast-store-be32
-cast-store-be32 c = omega (arith, sizes (c .before), c .before .before .before .before .before .before .pre .2)
+cast-store-be32 c = omega (arith, sizes (c .before), c .before .before .before .before .before .before .pre .3)
 
 store-be32-requires : tie.Need-store-be32-requires
 store-be32-requires c κs = omega (arith, room (c .before))
