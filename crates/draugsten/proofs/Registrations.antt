@@ -1,11 +1,27 @@
--- A registration over the C boundary and back.
+-- A registration over the C boundary and back, and from one call to the next.
 use mathlib.Core.Path.{_≡_, refl, ap}
+use mathlib.Core.Bool.{Bool, true, false, cond}
+use mathlib.Core.List.{List}
 use Prim.Native.Nat.{ℕ, zero, suc, _≤_}
 use native.Mathlib.Omega.{arith}
 use lib.Dec.{leb}
-use borrow.Author.Tests.{leb-true}
-use Rattle.words.proofs.Choice.{and-left}
-use Rattle.draugsten.specs.Registration.{phaseNumber, phaseOf, isRegistration, Faithful}
+use borrow.Author.Tests.{leb-true, le-leb}
+use Rattle.words.proofs.Choice.{and-left, and-right}
+use Rattle.dump.specs.declared.registration.Phase.{Phase}
+use Rattle.dump.specs.declared.registration.Phase.the-variants.{Unregistered, Registered, Active}
+use Rattle.dump.specs.declared.registration.Registration.{Registration}
+use Rattle.dump.specs.Registration.{noRegistration}
+use Rattle.rtas.specs.declared.status.Number.{Number}
+use Rattle.rtas.specs.declared.status.Number.the-variants.{Given, Short, NoOutputs, TooMany}
+use Rattle.rtas.specs.Status.{numberOf}
+use Rattle.rtas.proofs.Registrations.{handed-short}
+use Rattle.draugsten.specs.declared.calling.FlatRegistration.{FlatRegistration}
+use Rattle.draugsten.specs.Registration.{phaseNumber, phaseOf, flatOf, registrationOf, isRegistration, Faithful, called, numberAt, registrationThen, HandedOn, StartTaken}
+
+-- the phase and the length of a registration
+bounds : (f : FlatRegistration) → isRegistration f ≡ true → (f .phase ≤ 2) × (f .length ≤ 512)
+unfolding isRegistration
+bounds f e = (leb-true (f .phase) 2 (and-left _ _ e), omega (arith, leb-true (f .length) _ (and-right (leb (f .phase) 2) _ e)))
 
 -- the number of a phase that was read from a number is that number
 phase-back : (n : ℕ) → n ≤ 2 → phaseNumber (phaseOf n) ≡ n
@@ -14,9 +30,50 @@ phase-back (suc zero) h = refl
 phase-back (suc (suc zero)) h = refl
 phase-back (suc (suc (suc n))) h = omega arith
 
--- the claim that `draugsten_call` cites
+-- a claim that `draugsten_call` cites
 pub faithful : Faithful
+faithful f e = ap (λ (n : ℕ). record { phase = n; length = f .length; copy = f .copy }) (phase-back (f .phase) (bounds f e .0))
+
+-- ---- from one call to the next
+
+few-phases : (p : Phase) → phaseNumber p ≤ 2
+few-phases Unregistered = omega arith
+few-phases Registered = omega arith
+few-phases Active = omega arith
+
+-- a length within the copy makes a registration
+flat-is : (r : Registration) → r .len ≤ 512 → isRegistration (flatOf r) ≡ true
 unfolding isRegistration
-faithful f e =
-    let h = leb-true (f .phase) 2 (and-left (leb (f .phase) 2) (leb (f .length) 512) e) in
-    ap (λ (n : ℕ). record { phase = n; length = f .length; copy = f .copy }) (phase-back (f .phase) h)
+flat-is r h = rw (le-leb _ 2 (few-phases (r .phase))) (le-leb (r .len) _ (omega arith))
+
+no-thirteen : (n : Number) → numberOf n ≡ 13 → ⊥
+no-thirteen Given e = omega arith
+no-thirteen Short e = omega arith
+no-thirteen NoOutputs e = omega arith
+no-thirteen TooMany e = omega arith
+
+-- 13 is given for what is no registration, and for nothing else
+module _ (b m j i : List ℕ) (f : FlatRegistration) where
+  taken : isRegistration f ≡ true → numberAt b m j i f ≡ 13 → ⊥
+  unfolding numberAt
+  taken is e = no-thirteen (called b m j i f .number) (rw is at e)
+
+  not-refused : (numberAt b m j i f ≡ 13 → ⊥) → isRegistration f ≡ true
+  unfolding numberAt
+  not-refused n = go (isRegistration f) n
+    where
+      go : (t : Bool) → (cond t (numberOf (called b m j i f .number)) 13 ≡ 13 → ⊥) → t ≡ true
+      go true h = refl
+      go false h = absurd (h refl)
+
+  then-is : isRegistration f ≡ true → isRegistration (registrationThen b m j i f) ≡ true
+  unfolding registrationThen
+  then-is is = rw is (flat-is (called b m j i f .registration) (handed-short b m j i (registrationOf f) (bounds f is .1)))
+
+-- a claim that `draugsten_call` cites
+pub handed-on : HandedOn
+handed-on b m j i f n args memory journal inventory = taken args memory journal inventory (registrationThen b m j i f) (then-is b m j i f (not-refused b m j i f n))
+
+-- the claim that `draugsten_no_registration` cites
+pub start-taken : StartTaken
+start-taken args memory journal inventory = taken args memory journal inventory (flatOf noRegistration) (flat-is noRegistration (omega arith))

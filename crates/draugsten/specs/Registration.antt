@@ -7,6 +7,7 @@ use lib.Dec.{leb, eqb}
 use Rattle.dump.specs.declared.registration.Phase.{Phase}
 use Rattle.dump.specs.declared.registration.Phase.the-variants.{Unregistered, Registered, Active}
 use Rattle.dump.specs.declared.registration.Registration.{Registration}
+use Rattle.dump.specs.Registration.{noRegistration}
 use Rattle.rtas.specs.Status.{numberOf}
 use Rattle.rtas.specs.Buffer.{Result, callOf}
 use Rattle.draugsten.specs.declared.calling.FlatRegistration.{FlatRegistration}
@@ -50,3 +51,12 @@ argsThen b m j i f = cond (isRegistration f) (called b m j i f .args) b
 
 unfoldable pub memoryThen : List ℕ → List ℕ → List ℕ → List ℕ → FlatRegistration → List ℕ
 memoryThen b m j i f = cond (isRegistration f) (called b m j i f .memory) m
+
+-- A call that does not itself give 13 gives a registration that no later call refuses with 13.
+abbrev pub HandedOn : Type 0
+HandedOn = (b m j i : List ℕ) (f : FlatRegistration) → (numberAt b m j i f ≡ 13 → ⊥)
+    → (args memory journal inventory : List ℕ) → numberAt args memory journal inventory (registrationThen b m j i f) ≡ 13 → ⊥
+
+-- Nor does a call refuse with 13 the registration that a partition starts with.
+abbrev pub StartTaken : Type 0
+StartTaken = (args memory journal inventory : List ℕ) → numberAt args memory journal inventory (flatOf noRegistration) ≡ 13 → ⊥

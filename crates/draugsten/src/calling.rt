@@ -2,7 +2,7 @@
 ghost use mathlib.Core.Path.{_≡_};
 ghost use Rattle.dump.specs.Registration.{noRegistration};
 ghost use Rattle.rtas.specs.Status.{numberOf};
-ghost use Rattle.draugsten.specs.Registration.{phaseNumber, phaseOf, flatOf, registrationOf, isRegistration, Faithful, numberAt, registrationThen, argsThen, memoryThen};
+ghost use Rattle.draugsten.specs.Registration.{phaseNumber, phaseOf, flatOf, registrationOf, isRegistration, Faithful, HandedOn, StartTaken, numberAt, registrationThen, argsThen, memoryThen};
 use dump::Phase;
 use dump::Registration;
 use rtas::Number;
@@ -88,11 +88,12 @@ fn flat_of(registration: Registration) -> FlatRegistration
 #[no_mangle]
 pub extern "C" fn draugsten_no_registration() -> FlatRegistration
     ensures { λ r. ⌜ r ≡ flatOf noRegistration ⌝ }
+    ensures taken { λ _. ⌜ StartTaken ⌝ }
 {
     flat_of(dump::no_registration())
 }
 
-// One call through the argument buffer. What is no registration gives 13, and nothing changes.
+// One call through the argument buffer. What is no registration gives 13, and nothing changes; otherwise what is handed back is one.
 #[no_mangle]
 pub extern "C" fn draugsten_call(
     args: &mut [u8],
@@ -105,6 +106,7 @@ pub extern "C" fn draugsten_call(
     ensures { λ _. ⌜ now (args .exit) ≡ argsThen (now (args .entry)) (now (memory .entry)) (now (journal .entry)) (now (inventory .entry)) registration ⌝ }
     ensures { λ _. ⌜ now (memory .exit) ≡ memoryThen (now (args .entry)) (now (memory .entry)) (now (journal .entry)) (now (inventory .entry)) registration ⌝ }
     ensures faithful { λ _. ⌜ Faithful ⌝ }
+    ensures handed { λ _. ⌜ HandedOn ⌝ }
 {
     if !is_registration(registration) {
         return FlatAnswer {

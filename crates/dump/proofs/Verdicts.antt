@@ -1,20 +1,21 @@
 -- What each command makes of a registration, phase by phase.
 use mathlib.Core.Path.{_≡_, refl}
-use mathlib.Core.Bool.{true, false, _||_}
+use mathlib.Core.Bool.{Bool, true, false, cond, _||_, not, false≢true}
 use mathlib.Core.List.{List, []}
 use Prim.Native.Nat.{ℕ, zero, suc, _+_, _-_, _≤_}
 use native.Mathlib.Nat.{add-sub-cancel-left}
 use native.Mathlib.Omega.{arith}
-use lib.Dec.{leb, ltb}
+use lib.Dec.{leb, ltb, eqb}
 use lib.ListN.{length, take, drop, length-take, length-drop}
-use borrow.Author.Tests.{leb-true, lt-ltb, le-ltb}
-use Rattle.words.proofs.Choice.{and-left, and-right}
+use borrow.Author.Tests.{leb-true, lt-ltb, le-ltb, eqb-true}
+use Rattle.words.proofs.Choice.{choose, and-left, and-right}
+use Rattle.dump.specs.declared.registration.Phase.{Phase}
 use Rattle.dump.specs.declared.registration.Phase.the-variants.{Unregistered, Registered, Active}
 use Rattle.dump.specs.declared.registration.Registration.{Registration}
 use Rattle.dump.specs.declared.registration.Verdict.{Verdict}
 use Rattle.dump.specs.declared.registration.Verdict.the-variants.{Done, Parameter, AlreadyRegistered, DumpActive}
 use Rattle.dump.specs.declared.registration.Configured.{Configured}
-use Rattle.dump.specs.Registration.{padded, noRegistration, registered, structureAt, acceptable, verdictOf, registrationAfter, configured}
+use Rattle.dump.specs.Registration.{isDone, padded, noRegistration, registered, structureAt, acceptable, verdictOf, registrationAfter, configured}
 
 -- an acceptable structure fits into a copy, and stands inside memory
 module _ (m : List ℕ) (address len : ℕ) (good : acceptable m address len ≡ true) where
@@ -99,3 +100,27 @@ module _ (m : List ℕ) (address len : ℕ) (r : Registration) where
   pub other-refused : (command : ℕ) → (command ≡ 1 → ⊥) → (command ≡ 2 → ⊥) → (command ≡ 3 → ⊥) → configured m command address len r ≡ record { next = r; verdict = Parameter }
   unfolding verdictOf registrationAfter
   other-refused command one two three = rw (outside command one two three)
+
+-- ---- the length of a registration
+
+-- what command 1 copies is acceptable
+done-acceptable : (m : List ℕ) (address len : ℕ) (p : Phase) → isDone (verdictOf m 1 address len p) ≡ true → acceptable m address len ≡ true
+unfolding verdictOf
+done-acceptable m address len Active e = absurd (false≢true e)
+done-acceptable m address len Registered e = absurd (false≢true e)
+done-acceptable m address len Unregistered e = go (acceptable m address len) e
+  where
+    go : (a : Bool) → isDone (cond (not a) Parameter Done) ≡ true → a ≡ true
+    go true h = refl
+    go false h = h
+
+-- no command makes a length above the copy's
+pub registration-short : (m : List ℕ) (command address len : ℕ) (r : Registration) → r .len ≤ 512 → registrationAfter m command address len r .len ≤ 512
+unfolding registrationAfter
+registration-short m command address len r h =
+    choose (isDone (verdictOf m command address len (r .phase))) (λ (x : Registration). x .len ≤ 512)
+    (λ d. choose (eqb command 1) (λ (x : Registration). x .len ≤ 512) (λ e. copy-short (rw (eqb-true command 1 e) at d)) (λ _. omega arith))
+    (λ _. h)
+  where
+    copy-short : isDone (verdictOf m 1 address len (r .phase)) ≡ true → length (structureAt m address len) ≤ 512
+    copy-short d = let short = acceptable-short m address len (done-acceptable m address len (r .phase) d) in simp length-take (omega arith)

@@ -3,6 +3,7 @@ pub mod Ladder
 pub mod Memory
 pub mod Areas
 pub mod Heads
+pub mod Registrations
 pub mod Calls
 pub mod Requests
 pub mod Lists

@@ -2,6 +2,7 @@
 use mathlib.Core.Path.{ap, _∙_}
 use borrow.Author.Needs.{needs}
 use Rattle.draugsten.specs.Registration.{flatOf}
+use Rattle.draugsten.proofs.Registrations.{start-taken}
 use Rattle.draugsten.proofs.calling.draugsten_no_registration.Statement.{statement}
 use Rattle.draugsten.proofs.calling.draugsten_no_registration.Tie as tie
 
@@ -12,7 +13,7 @@ flat-of-requires : tie.Need-flat-of-requires
 flat-of-requires c κs = search needs
 
 returns : tie.Need-returns
-returns c = c .flat-of .ensures ∙ ap flatOf (c .before .no-registration .ensures)
+returns c = (c .flat-of .ensures ∙ ap flatOf (c .before .no-registration .ensures), start-taken)
 
 pub draugsten-no-registration-spec : {M : Type 1} → statement M
 draugsten-no-registration-spec =
