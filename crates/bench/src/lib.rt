@@ -1,6 +1,7 @@
 // The scans as a static library, for measuring alone: bench/ links it, and no product does.
 ghost use mathlib.Core.Path.{_≡_};
 ghost use Rattle.bench.specs.Bench.{reportedOf, listedOf};
+use inventory::StartingNumber;
 use journal::Judgement;
 
 // How many operations a scope reports of a journal; the highest number for a malformed journal.
@@ -28,7 +29,7 @@ pub extern "C" fn draugsten_bench_inventory(
 ) -> u64
     ensures { λ r. ⌜ r ≡ listedOf flag kind (now (inventory .entry)) ⌝ }
 {
-    let found = inventory::scan(inventory, flag, kind, number as usize);
+    let found = inventory::scan(inventory, flag, kind, StartingNumber(number));
     match found {
         inventory::Judgement::Malformed => 18446744073709551615,
         inventory::Judgement::Counted(count, due) => count as u64,

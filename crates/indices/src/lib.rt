@@ -8,5 +8,4 @@ pub use reading::Next;
 pub use reading::Refusal;
 pub use reading::Set;
 pub use reading::check_area;
-pub use writing::StartingNumber;
 pub use writing::write_run;

@@ -8,9 +8,7 @@ ghost use Rattle.inventory.specs.Scanning.{Onward};
 ghost use Rattle.indices.specs.Area.{filled, entrySize, entryBytes, entriesBytes, fitting, run, left};
 ghost use Rattle.indices.specs.Longest.{LongestRun};
 ghost use Rattle.indices.specs.Writing.{entryFrom, ahead, Due};
-
-// The Starting Number: the number of the entry due. It counts from 1.
-pub struct StartingNumber(pub u32);
+use inventory::StartingNumber;
 
 // The bytes of a code of c bytes with its NULs.
 fn filled_size(c: usize) -> usize

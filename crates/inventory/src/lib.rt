@@ -1,8 +1,10 @@
 // The inventory: its records, and the entries of a flag and type.
 mod judging;
+mod numbering;
 mod scanning;
 mod searching;
 
+pub use numbering::StartingNumber;
 pub use scanning::Judgement;
 pub use scanning::scan;
 pub use searching::next_entry;

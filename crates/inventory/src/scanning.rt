@@ -4,6 +4,7 @@ ghost use Rattle.inventory.specs.Scanning.{Tells};
 use crate::judging::has_type;
 use crate::judging::one_if;
 use crate::judging::record_at;
+use crate::numbering::StartingNumber;
 
 // What a scan finds: the number of entries, and the place of the entry due, which means nothing where there is none.
 pub enum Judgement {
@@ -12,8 +13,8 @@ pub enum Judgement {
 }
 
 // The inventory judged, and its entries of a flag and type counted. Entries are numbered from 1.
-pub fn scan(inventory: &[u8], flag: u32, kind: u32, number: usize) -> Judgement
-    ensures { λ r. ⌜ Tells flag kind number (now (inventory .entry)) r ⌝ }
+pub fn scan(inventory: &[u8], flag: u32, kind: u32, number: StartingNumber) -> Judgement
+    ensures { λ r. ⌜ Tells flag kind (number .0) (now (inventory .entry)) r ⌝ }
     ensures rules { λ _. ⌜ WellFormedCases × SizeLimit ⌝ }
 {
     if 1048576 < inventory.len() {
@@ -28,7 +29,7 @@ pub fn scan(inventory: &[u8], flag: u32, kind: u32, number: usize) -> Judgement
             return Judgement::Malformed;
         }
         // The next entry is the one due: the last place noted so is its own.
-        if count + 1 == number {
+        if number.is_next(count) {
             due = at;
         }
         count += one_if(has_type(inventory, at, flag, kind)) as usize;

@@ -1,13 +1,13 @@
 -- Laws of a list of indices: what its checks come to, way by way through the code, and what the whole call leaves.
 use mathlib.Core.Path.{_≡_, refl, sym, ap, _∙_}
-use mathlib.Core.Bool.{true, false, cond}
+use mathlib.Core.Bool.{true, false, cond, _&&_, and-false}
 use mathlib.Core.List.{List, [], _∷_, _++_}
 use Prim.Native.Nat.{ℕ, _+_, _-_, _<_, _≤_}
 use native.Mathlib.Omega.{arith}
 use lib.Dec.{leb, ltb}
 use lib.ListN.{length, take, drop, length-drop}
 use borrow.Author.Tests.{leb-true, le-leb, lt-ltb, le-ltb}
-use Rattle.words.proofs.Choice.{choose, and-left, and-right}
+use Rattle.words.proofs.Choice.{and-left, and-right}
 use Rattle.records.specs.Records.{wellFormedBy}
 use Rattle.inventory.specs.Inventory.{wellFormed}
 use Rattle.inventory.specs.Listing.{Entry, listed}
@@ -27,6 +27,10 @@ use Rattle.rtas.proofs.Calls.{decide}
 use Rattle.rtas.proofs.Requests.{lent-size, due-run}
 
 -- ---- what the scan gives is what the writer of the run asks for
+
+-- the test of the number
+pub among-is : (number count : ℕ) → (leb 1 number && leb number count) ≡ true → (1 ≤ number) × (number ≤ count)
+among-is number count e = (leb-true 1 number (and-left _ _ e), leb-true number count (and-right (leb 1 number) _ e))
 
 pub due-is : {flag kind count from : ℕ} {i : List ℕ} (number : ℕ) → wellFormed i ≡ true → count ≡ length (listed flag kind i) → From flag kind i (number - 1) from → Due flag kind number i from (count - (number - 1))
 unfolding wellFormed wellFormedBy
@@ -77,15 +81,9 @@ module _ (i : List ℕ) (q : Request) (area : List ℕ) where
     left-malformed w h = left-refused Malformed (rw w) refl h
 
     -- no entry has the number, as where there is none
-    pub left-misnumbered : wellFormed i ≡ true → (1 ≤ numberIn q → numberIn q ≤ length (entriesFor i q) → ⊥) → Refused q r Parameter → Left (r .status) (r .next .0) area
+    pub left-misnumbered : wellFormed i ≡ true → (leb 1 (numberIn q) && leb (numberIn q) (length (entriesFor i q))) ≡ false → Refused q r Parameter → Left (r .status) (r .next .0) area
     unfolding listStatus goodNumber
-    left-misnumbered w never h =
-        let n = length (entriesFor i q) in
-        let status : listStatus i q ≡ Parameter =
-        rw w (choose (goodNumber (numberIn q) (entriesFor i q)) (λ s. s ≡ Parameter)
-        (λ e. let both = and-right (leb 1 n) _ e in absurd (never (leb-true 1 (numberIn q) (and-left _ _ both)) (leb-true (numberIn q) n (and-right (leb 1 (numberIn q)) _ both))))
-        (λ e. refl)) in
-        left-refused Parameter status refl h
+    left-misnumbered w e h = left-refused Parameter (rw w (simp (e, and-false))) refl h
 
 -- What the writer of the run for a good number tells: how many entries it handed out, and the area afterwards.
 pub record Ran (i : List ℕ) (q : Request) (area : List ℕ) (handed : ℕ) (after : List ℕ) : Type 0 where

@@ -22,7 +22,7 @@ use crate::status::Status;
 use crate::status::Work;
 use crate::status::status_word;
 use dump::Registration;
-use indices::StartingNumber;
+use inventory::StartingNumber;
 
 // What a call answers: its number, and the registration afterwards.
 pub struct Answer {
@@ -75,7 +75,7 @@ fn request_of(args: &[u8]) -> Request
         kind: words::read_be32(args, 16),
         address: words::read_be32(args, 20),
         size: words::read_be32(args, 24),
-        number: StartingNumber(words::read_be32(args, 28)),
+        number: StartingNumber::read(args, 28),
     }
 }
 
@@ -90,7 +90,7 @@ fn list_indices(args: &mut [u8], memory: &mut [u8], inventory: &[u8]) -> Status
     let status = listed.status;
     let next = listed.next;
     if status_word(status) <= 1 {
-        words::store_be32(args, 36, next.0);
+        next.store(args, 36);
     }
     status
 }

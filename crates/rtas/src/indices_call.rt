@@ -7,8 +7,8 @@ ghost use Rattle.inventory.specs.Inventory.{wellFormed};
 ghost use Rattle.inventory.specs.Scanning.{From};
 ghost use Rattle.rtas.specs.GetIndices.{askable, lendable, entriesFor, numberIn, listStatus, listArea, indicesStatus, indicesMemory, numberGiven};
 use crate::status::Status;
-use indices::StartingNumber;
 use inventory::Judgement;
+use inventory::StartingNumber;
 
 // What a call asks for: a flag (0 indicator, 1 sensor), a type, a part of memory, and the number of the entry due.
 pub struct Request {
@@ -69,37 +69,23 @@ fn answer_counted(
     ensures { λ _. ⌜ now (area .exit) ≡ listArea (now (inventory .entry)) request (now (area .entry)) ⌝ }
 {
     let due = request.number;
-    let number = due.0 as usize;
-    if number < 1 {
+    if !due.is_among(count) {
         return refused(request, Status::Parameter);
     }
-    if count < number {
-        return refused(request, Status::Parameter);
-    }
-    let before = number - 1;
-    let handed = indices::write_run(
-        area,
-        inventory,
-        request.flag,
-        request.kind,
-        due,
-        from,
-        count - before,
-    );
+    let left = due.entries_from(count);
+    let handed = indices::write_run(area, inventory, request.flag, request.kind, due, from, left);
     if handed == 0 {
         return refused(request, Status::Parameter);
     }
-    let reached = before + handed;
-    if reached < count {
-        let next = (number + handed) as u32;
+    if handed < left {
         return Listed {
             status: Status::Again,
-            next: StartingNumber(next),
+            next: due.after(handed),
         };
     }
     Listed {
         status: Status::Done,
-        next: StartingNumber(1),
+        next: StartingNumber::first(),
     }
 }
 
@@ -117,9 +103,7 @@ fn answer_list(area: &mut [u8], inventory: &[u8], request: Request) -> Listed
     ensures { λ r. ⌜ (r .status ≡ listStatus (now (inventory .entry)) request) × (r .next .0 ≡ numberGiven (listStatus (now (inventory .entry)) request) (now (inventory .entry)) request) ⌝ }
     ensures { λ _. ⌜ now (area .exit) ≡ listArea (now (inventory .entry)) request (now (area .entry)) ⌝ }
 {
-    let due = request.number;
-    let number = due.0 as usize;
-    let judgement = inventory::scan(inventory, request.flag, request.kind, number);
+    let judgement = inventory::scan(inventory, request.flag, request.kind, request.number);
     match judgement {
         Judgement::Malformed => refused(request, Status::Malformed),
         Judgement::Counted(count, from) => answer_counted(area, inventory, request, count, from),

@@ -1,10 +1,11 @@
 -- `scanning::scan` meets its contract.
-use mathlib.Core.Path.{ap, _∙_}
+use mathlib.Core.Path.{sym, ap, _∙_}
 use mathlib.Core.Logic.{⊎-elim}
 use Prim.Native.Nat.{_-_, _≤_}
 use native.Mathlib.Omega.{arith}
 use lib.ListN.{length}
 use borrow.Author.Needs.{needs}
+use borrow.Author.Tests.{eqb-true, eqb-false}
 use denote.Ref.{now}
 use Rattle.inventory.specs.Claims.{WellFormedCases, SizeLimit}
 use Rattle.inventory.proofs.Claims.{well-formed-cases, size-limit}
@@ -18,7 +19,7 @@ rules : WellFormedCases × SizeLimit
 rules = (well-formed-cases, size-limit)
 
 abbrev Inv-loop : tie.InvT-loop
-Inv-loop inventory flag kind number at₀ count₀ due₀ at count due = Scanned flag kind number inventory at count due
+Inv-loop inventory flag kind number at₀ count₀ due₀ at count due = Scanned flag kind (number .0) inventory at count due
 
 abbrev μ-loop : tie.MeasureT-loop
 μ-loop inventory flag kind number at₀ count₀ due₀ at count due = length inventory - at
@@ -39,11 +40,11 @@ returns-2 c = (from-bad (c .before .before .before .loop .inv .passed) (c .befor
 standing : (c : tie.Else2 Inv-loop μ-loop) → Stands (now (c .before .before .before .before .before .before .args .inventory)) (c .before .before .before .loop .at) (c .before .record-at .result)
 standing c = stands (c .before .record-at .ensures) (c .if2 .left)
 
-add-if3 : tie.Need-add-if3 Inv-loop μ-loop
-add-if3 c = search needs
+is-next-requires : tie.Need-is-next-requires Inv-loop μ-loop
+is-next-requires c κs = search needs
 
 has-type-requires : tie.Need-has-type-requires Inv-loop μ-loop
-has-type-requires c κs = let g = standing (c .before) in (omega (arith, g .large, g .size-is), omega (arith, g .fits, g .size-is))
+has-type-requires c κs = let g = standing (c .before .before) in (omega (arith, g .large, g .size-is), omega (arith, g .fits, g .size-is))
 
 one-if-requires : tie.Need-one-if-requires Inv-loop μ-loop
 one-if-requires c κs = search needs
@@ -55,19 +56,20 @@ cast-count : tie.Need-cast-count Inv-loop μ-loop
 cast-count c = search needs
 
 add-count : tie.Need-add-count Inv-loop μ-loop
-add-count c = omega (arith, one c, c .before .before .before .before .before .before .loop .inv .few)
+add-count c = omega (arith, one c, c .before .before .before .before .before .before .before .loop .inv .few)
 
 add-at : tie.Need-add-at Inv-loop μ-loop
-add-at c = omega (arith, standing (c .before .before .before) .fits)
+add-at c = omega (arith, standing (c .before .before .before .before) .fits)
 
 loop-less : tie.Need-loop-less Inv-loop μ-loop
-loop-less c = omega (arith, standing (c .before .before .before) .fits, standing (c .before .before .before) .large)
+loop-less c = omega (arith, standing (c .before .before .before .before) .fits, standing (c .before .before .before .before) .large)
 
 loop-again : tie.Need-loop-again Inv-loop μ-loop
 loop-again c =
-    let scanned = c .before .before .before .before .before .before .loop .inv in
-    scanned-step scanned _ _ _ (c .before .before .before .before .before .loop-test .taken) (standing (c .before .before .before)) (c .one-if .ensures ∙ ap one-if (c .before .has-type .ensures))
-    (λ a b. ⊎-elim (λ w. rw (w .1) (found-here scanned (w .0 .taken))) (λ w. rw (w .1) (found-before scanned _ (one c) (w .0 .left) a b)) (c .before .before .if3 .came))
+    let scanned = c .before .before .before .before .before .before .before .loop .inv in
+    let next = sym (c .before .before .before .is-next .ensures) in
+    scanned-step scanned _ _ _ (c .before .before .before .before .before .before .loop-test .taken) (standing (c .before .before .before .before)) (c .one-if .ensures ∙ ap one-if (c .before .has-type .ensures))
+    (λ a b. ⊎-elim (λ w. rw (w .1) (found-here scanned (eqb-true _ _ (next ∙ w .0 .taken)))) (λ w. rw (w .1) (found-before scanned _ (one c) (eqb-false _ _ (next ∙ w .0 .left)) a b)) (c .before .before .if3 .came))
 
 returns-3 : tie.Need-returns-3 Inv-loop μ-loop
 returns-3 c = (scanned-end (c .before .loop .inv) (c .before .before .if1 .left) (c .loop-test .left), rules)
@@ -82,7 +84,7 @@ scan-spec =
     loop-holds
     record-at-requires
     returns-2
-    add-if3
+    is-next-requires
     has-type-requires
     one-if-requires
     cast-count

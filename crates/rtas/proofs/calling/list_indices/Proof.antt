@@ -22,8 +22,8 @@ get-indices-requires c κs = search needs
 status-word-requires : tie.Need-status-word-requires
 status-word-requires c κs = search needs
 
-store-be32-requires : tie.Need-store-be32-requires
-store-be32-requires c κs = search needs
+store-requires : tie.Need-store-requires
+store-requires c κs = search needs
 
 same-length : tie.Need-same-length
 same-length c = search needs
@@ -37,7 +37,7 @@ returns c =
     let told = rw asked at (c .before .before .before .before .before .before .before .before .before .get-indices .ensures) in
     let word = c .before .before .before .before .before .status-word .ensures in
     let answered : isAnswer (indicesStatus (now (c .before .before .before .before .before .before .before .before .before .before .before .before .before .before .before .before .args .memory)) (now (c .before .before .before .before .before .before .before .before .before .before .before .before .before .before .before .before .args .inventory)) (requestOf (now (c .before .before .before .before .before .before .before .before .before .before .before .before .before .before .before .before .args .args)))) ≡ true = ap isAnswer (sym (told .0 .0)) ∙ ap (λ (n : ℕ). leb n 1) (sym word) ∙ le-leb _ 1 (c .before .before .before .before .if1 .taken) in
-    (told .0 .0, (c .before .before .store-be32 .ensures ∙ number-stored (now (c .before .before .before .before .before .before .before .before .before .before .before .before .before .before .before .before .args .inventory)) (requestOf (now (c .before .before .before .before .before .before .before .before .before .before .before .before .before .before .before .before .args .args))) (indicesStatus (now (c .before .before .before .before .before .before .before .before .before .before .before .before .before .before .before .before .args .memory)) (now (c .before .before .before .before .before .before .before .before .before .before .before .before .before .before .before .before .args .inventory)) (requestOf (now (c .before .before .before .before .before .before .before .before .before .before .before .before .before .before .before .before .args .args)))) _ 36 _ (told .0 .1) answered, told .1))
+    (told .0 .0, (c .before .before .store .ensures ∙ number-stored (now (c .before .before .before .before .before .before .before .before .before .before .before .before .before .before .before .before .args .inventory)) (requestOf (now (c .before .before .before .before .before .before .before .before .before .before .before .before .before .before .before .before .args .args))) (indicesStatus (now (c .before .before .before .before .before .before .before .before .before .before .before .before .before .before .before .before .args .memory)) (now (c .before .before .before .before .before .before .before .before .before .before .before .before .before .before .before .before .args .inventory)) (requestOf (now (c .before .before .before .before .before .before .before .before .before .before .before .before .before .before .before .before .args .args)))) _ 36 _ (told .0 .1) answered, told .1))
 
 same-length-3 : tie.Need-same-length-3
 same-length-3 c = search needs
@@ -60,7 +60,7 @@ list-indices-spec =
     request-of-requires
     get-indices-requires
     status-word-requires
-    store-be32-requires
+    store-requires
     same-length
     same-length-2
     returns

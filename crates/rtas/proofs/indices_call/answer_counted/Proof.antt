@@ -1,90 +1,90 @@
 -- `indices_call::answer_counted` meets its contract.
+use mathlib.Core.Path.{sym, _∙_}
+use Prim.Native.Nat.{_≤_}
 use native.Mathlib.Omega.{arith}
 use borrow.Author.Needs.{needs}
+use borrow.Author.Tests.{not-true, not-false}
 use denote.Ref.{now}
-use Rattle.rtas.proofs.Lists.{due-is, left-misnumbered, Ran, ran-few, left-unfit, left-again, left-done}
+use Rattle.rtas.specs.GetIndices.{numberIn}
+use Rattle.rtas.proofs.Lists.{due-is, among-is, left-misnumbered, Ran, ran-few, left-unfit, left-again, left-done}
 use Rattle.rtas.proofs.indices_call.answer_counted.Statement.{statement}
 use Rattle.rtas.proofs.indices_call.answer_counted.Tie as tie
 
-cast-number : tie.Need-cast-number
-cast-number c = search needs
+is-among-requires : tie.Need-is-among-requires
+is-among-requires c κs = search needs
 
 refused-requires : tie.Need-refused-requires
 refused-requires c κs = search needs
 
 returns : tie.Need-returns
-returns c = left-misnumbered (now (c .before .before .before .before .before .before .args .inventory)) (c .before .before .before .before .before .before .args .request) (now (c .before .before .before .before .before .before .args .area)) (c .refused .result) (c .before .before .before .before .before .before .pre .2) (λ low high. omega arith) (c .refused .ensures)
+returns c = left-misnumbered (now (c .before .before .before .before .before .before .args .inventory)) (c .before .before .before .before .before .before .args .request) (now (c .before .before .before .before .before .before .args .area)) (c .refused .result) (c .before .before .before .before .before .before .pre .2) (rw (c .before .before .before .before .before .before .pre .3) at (sym (c .before .before .is-among .ensures) ∙ not-true _ (c .before .if1 .taken))) (c .refused .ensures)
+
+-- the number is that of an entry
+among : (c : tie.Else1) → (1 ≤ numberIn (c .before .before .before .before .before .args .request)) × (numberIn (c .before .before .before .before .before .args .request) ≤ c .before .before .before .before .before .args .count)
+among c = among-is _ _ (sym (c .before .is-among .ensures) ∙ not-false _ (c .if1 .left))
+
+entries-from-requires : tie.Need-entries-from-requires
+entries-from-requires c κs = among c
+
+write-run-requires : tie.Need-write-run-requires
+write-run-requires c κs =
+    let range = among (c .before .before) in
+    (c .before .before .before .before .before .before .before .pre .0, rw (c .before .entries-from .ensures) (due-is _ (c .before .before .before .before .before .before .before .pre .2) (c .before .before .before .before .before .before .before .pre .3) (c .before .before .before .before .before .before .before .pre .4 (range .0) (range .1))))
 
 refused-requires-2 : tie.Need-refused-requires-2
 refused-requires-2 c κs = search needs
-
-returns-2 : tie.Need-returns-2
-returns-2 c = left-misnumbered (now (c .before .before .before .before .before .before .before .args .inventory)) (c .before .before .before .before .before .before .before .args .request) (now (c .before .before .before .before .before .before .before .args .area)) (c .refused2 .result) (c .before .before .before .before .before .before .before .pre .2) (λ low high. omega arith) (c .refused2 .ensures)
-
-sub-write-run : tie.Need-sub-write-run
-sub-write-run c = search needs
-
-write-run-requires : tie.Need-write-run-requires
-write-run-requires c κs = (c .before .before .before .before .before .before .before .pre .0, due-is _ (c .before .before .before .before .before .before .before .pre .2) (c .before .before .before .before .before .before .before .pre .3) (c .before .before .before .before .before .before .before .pre .4 (omega arith) (omega arith)))
-
-refused-requires-3 : tie.Need-refused-requires-3
-refused-requires-3 c κs = search needs
 
 same-length : tie.Need-same-length
 same-length c = search needs
 
 -- what the call of the writer tells
 ran : (c : tie.After-write-run) → Ran (now (c .before .before .before .before .before .before .before .before .args .inventory)) (c .before .before .before .before .before .before .before .before .args .request) (now (c .before .before .before .before .before .before .before .before .args .area)) (c .write-run .result) (c .write-run .last .0)
-ran c = record {
-  formed = c .before .before .before .before .before .before .before .before .pre .2;
-  low = omega arith;
-  high = omega arith;
-  counted = rw (c .before .before .before .before .before .before .before .before .pre .1) (c .write-run .ensures .0);
-  stored = rw (c .before .before .before .before .before .before .before .before .pre .1) (c .write-run .ensures .1 .0);
-}
+ran c =
+    let range = among (c .before .before .before) in
+    record {
+      formed = c .before .before .before .before .before .before .before .before .pre .2;
+      low = range .0;
+      high = omega (arith, range .1);
+      counted = rw (c .before .before .before .before .before .before .before .before .pre .1) (c .write-run .ensures .0);
+      stored = rw (c .before .before .before .before .before .before .before .before .pre .1) (c .write-run .ensures .1 .0);
+    }
 
-returns-3 : tie.Need-returns-3
-returns-3 c = left-unfit (ran (c .before .before .before .before)) (c .refused3 .result) (c .before .if3 .taken) (c .refused3 .ensures)
+returns-2 : tie.Need-returns-2
+returns-2 c = left-unfit (ran (c .before .before .before .before)) (c .refused2 .result) (c .before .if2 .taken) (c .refused2 .ensures)
 
-add-reached : tie.Need-add-reached
-add-reached c = let few = ran-few (ran (c .before .before .before)) in omega arith
-
-add-next : tie.Need-add-next
-add-next c = search needs
-
-cast-next : tie.Need-cast-next
-cast-next c = let few = ran-few (ran (c .before .before .before .before)) in omega arith
+after-requires : tie.Need-after-requires
+after-requires c κs = let few = ran-few (ran (c .before .before .before .before)) in omega arith
 
 same-length-2 : tie.Need-same-length-2
 same-length-2 c = search needs
 
-returns-4 : tie.Need-returns-4
-returns-4 c = left-again (ran (c .before .before .before .before)) (omega arith) (omega arith)
+returns-3 : tie.Need-returns-3
+returns-3 c = let t = ran (c .before .before .before .before .before) in rw (c .after .ensures) (left-again t (omega arith) (omega arith))
+
+first-requires : tie.Need-first-requires
+first-requires c κs = search needs
 
 same-length-3 : tie.Need-same-length-3
 same-length-3 c = search needs
 
-returns-5 : tie.Need-returns-5
-returns-5 c = left-done (ran (c .before .before .before .before)) (omega arith) (omega arith)
+returns-4 : tie.Need-returns-4
+returns-4 c = let t = ran (c .before .before .before .before .before) in rw (c .first .ensures) (left-done t (omega arith) (omega arith))
 
 pub answer-counted-spec : {M : Type 1} → statement M
 answer-counted-spec =
     tie.close
     (tie.spec
-    cast-number
+    is-among-requires
     refused-requires
     returns
-    refused-requires-2
-    returns-2
-    sub-write-run
+    entries-from-requires
     write-run-requires
-    refused-requires-3
+    refused-requires-2
     same-length
-    returns-3
-    add-reached
-    add-next
-    cast-next
+    returns-2
+    after-requires
     same-length-2
-    returns-4
+    returns-3
+    first-requires
     same-length-3
-    returns-5)
+    returns-4)

@@ -5,9 +5,6 @@ use Rattle.rtas.proofs.Lists.{left-malformed}
 use Rattle.rtas.proofs.indices_call.answer_list.Statement.{statement}
 use Rattle.rtas.proofs.indices_call.answer_list.Tie as tie
 
-cast-number : tie.Need-cast-number
-cast-number c = search needs
-
 scan-requires : tie.Need-scan-requires
 scan-requires c κs = search needs
 
@@ -22,10 +19,10 @@ enum-known-judgement c = search needs
 
 answer-counted-requires : tie.Need-answer-counted-requires
 answer-counted-requires c κs = let told = rw (c .before .before .judgement .given .1) at (c .before .before .before .before .scan .ensures .0) in
-    (c .before .before .before .before .before .before .before .before .before .pre .0, c .before .before .before .before .before .before .before .before .before .pre .1, told .0, told .1, told .2)
+    (c .before .before .before .before .before .before .before .pre .0, c .before .before .before .before .before .before .before .pre .1, told .0, told .1, told .2)
 
 returns : tie.Need-returns
-returns c = left-malformed (now (c .before .before .before .before .before .before .before .before .args .inventory)) (c .before .before .before .before .before .before .before .before .args .request) (now (c .before .before .before .before .before .before .before .before .args .area)) (c .refused .result) (rw (c .before .enum-told .given .1) at (c .before .before .before .scan .ensures .0)) (c .refused .ensures)
+returns c = left-malformed (now (c .before .before .before .before .before .before .args .inventory)) (c .before .before .before .before .before .before .args .request) (now (c .before .before .before .before .before .before .args .area)) (c .refused .result) (rw (c .before .enum-told .given .1) at (c .before .before .before .scan .ensures .0)) (c .refused .ensures)
 
 same-length : tie.Need-same-length
 same-length c = search needs
@@ -37,7 +34,6 @@ pub answer-list-spec : {M : Type 1} → statement M
 answer-list-spec =
     tie.close
     (tie.spec
-    cast-number
     scan-requires
     enum-told
     refused-requires
