@@ -78,7 +78,7 @@ module _ {flag type passed at : ℕ} {inventory : List ℕ} (f : From flag type 
   end-count : length inventory ≤ at → passed ≡ length (listed flag type inventory)
   end-count h = omega (arith, f .number, ap (λ (x : List (List ℕ)). length (chosen flag type x)) (records-end inventory at h), ap length (chosen-none flag type))
 
--- A scan has come to a place: the entries before it are counted, and the entry due is found if it is among them.
+-- A scan has come to a place: the entries before it are counted, and if the entry due is among them, a place is noted from which on the list holds the entries from that one on.
 pub record Scanned (flag type number : ℕ) (inventory : List ℕ) (at count due : ℕ) : Type 0 where
   pub passed : From flag type inventory count at
   pub few : count ≤ at

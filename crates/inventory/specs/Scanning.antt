@@ -10,14 +10,14 @@ use Rattle.inventory.specs.declared.scanning.Judgement.the-variants.{Mal
 use Rattle.inventory.specs.Inventory.{goodRecord, wellFormed}
 use Rattle.inventory.specs.Listing.{entryOf, matches, chosen, listed}
 
--- From this place on, where a record begins, the list holds what it holds of the whole inventory from an entry on.
+-- Cut into records from this place on, the inventory is as good as the whole, and its list is that of the whole from an entry on.
 pub record From (flag type : ℕ) (inventory : List ℕ) (passed at : ℕ) : Type 0 where
   pub inside : at ≤ length inventory
   pub sound : allGood goodRecord (records inventory) ≡ allGood goodRecord (records (drop at inventory))
   pub number : length (listed flag type inventory) ≡ passed + length (chosen flag type (records (drop at inventory)))
   pub rest : drop passed (listed flag type inventory) ≡ chosen flag type (records (drop at inventory))
 
--- The inventory is malformed; or the number of entries of the flag and type, and where the entry due stands, if there is one.
+-- The inventory is malformed; or the number of entries of the flag and type, and, if there is an entry due, a place from which on the list holds the entries from that one on.
 abbrev pub Tells : ℕ → ℕ → ℕ → List ℕ → Judgement → Type 0
 Tells flag type number inventory Malformed = wellFormed inventory ≡ false
 Tells flag type number inventory (Counted count at) =

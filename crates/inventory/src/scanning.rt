@@ -1,4 +1,4 @@
-// The scan: the inventory judged, its entries of a flag and type counted, and the entry due found, in one pass.
+// The scan: the inventory judged, its entries of a flag and type counted, and a place noted to search for the entry due, in one pass.
 ghost use Rattle.inventory.specs.Claims.{WellFormedCases, SizeLimit};
 ghost use Rattle.inventory.specs.Scanning.{Tells};
 use crate::judging::has_type;
@@ -6,7 +6,8 @@ use crate::judging::one_if;
 use crate::judging::record_at;
 use crate::numbering::StartingNumber;
 
-// What a scan finds: the number of entries, and the place of the entry due, which means nothing where there is none.
+// What a scan finds: the number of entries, and a place from which on the list holds the entries from the one due on, which means
+// nothing where there is no entry due.
 pub enum Judgement {
     Malformed,
     Counted(usize, usize),
@@ -28,7 +29,7 @@ pub fn scan(inventory: &[u8], flag: u32, kind: u32, number: StartingNumber) -> J
         if size == 0 {
             return Judgement::Malformed;
         }
-        // The next entry is the one due: the last place noted so is its own.
+        // The next entry is the one due: from here on the list holds the entries from that one on.
         if number.is_next(count) {
             due = at;
         }
