@@ -11,10 +11,10 @@ use Rattle.dump.specs.declared.registration.Phase.{Phase}
 use Rattle.dump.specs.declared.registration.Phase.the-variants.{Unregistered, Registered, Active}
 use Rattle.dump.specs.declared.registration.Registration.{Registration}
 use Rattle.dump.specs.Registration.{noRegistration}
-use Rattle.rtas.specs.declared.status.Number.{Number}
-use Rattle.rtas.specs.declared.status.Number.the-variants.{Given, Short, NoOutputs, TooMany}
-use Rattle.rtas.specs.Status.{numberOf}
-use Rattle.rtas.proofs.Registrations.{handed-short}
+use Rattle.calls.specs.declared.status.Number.{Number}
+use Rattle.calls.specs.declared.status.Number.the-variants.{Given, Short, NoOutputs, TooMany}
+use Rattle.calls.specs.Status.{numberOf}
+use Rattle.calls.proofs.Registrations.{handed-short}
 use Rattle.draugsten.specs.declared.calling.FlatRegistration.{FlatRegistration}
 use Rattle.draugsten.specs.Registration.{phaseNumber, phaseOf, flatOf, registrationOf, isRegistration, Faithful, called, numberAt, registrationThen, HandedOn, StartTaken}
 

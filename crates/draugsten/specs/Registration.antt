@@ -8,8 +8,8 @@ use Rattle.dump.specs.declared.registration.Phase.{Phase}
 use Rattle.dump.specs.declared.registration.Phase.the-variants.{Unregistered, Registered, Active}
 use Rattle.dump.specs.declared.registration.Registration.{Registration}
 use Rattle.dump.specs.Registration.{noRegistration}
-use Rattle.rtas.specs.Status.{numberOf}
-use Rattle.rtas.specs.Buffer.{Result, callOf}
+use Rattle.calls.specs.Status.{numberOf}
+use Rattle.calls.specs.Buffer.{Result, callOf}
 use Rattle.draugsten.specs.declared.calling.FlatRegistration.{FlatRegistration}
 
 -- 01: "The registration is none, registered (with a copy of the structure) or active": the phases by their numbers

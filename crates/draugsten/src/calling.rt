@@ -1,11 +1,11 @@
 // The call and the registration over the C boundary.
 ghost use mathlib.Core.Path.{_≡_};
 ghost use Rattle.dump.specs.Registration.{noRegistration};
-ghost use Rattle.rtas.specs.Status.{numberOf};
+ghost use Rattle.calls.specs.Status.{numberOf};
 ghost use Rattle.draugsten.specs.Registration.{phaseNumber, phaseOf, flatOf, registrationOf, isRegistration, Faithful, HandedOn, StartTaken, numberAt, registrationThen, argsThen, memoryThen};
+use calls::Number;
 use dump::Phase;
 use dump::Registration;
-use rtas::Number;
 
 // A registration: its phase (0 none, 1 registered, 2 active), and the copied structure, which is the first `length` bytes of `copy`.
 #[repr(C)]

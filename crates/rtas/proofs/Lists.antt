@@ -16,15 +16,15 @@ use Rattle.indices.specs.Area.{run, written, left}
 use Rattle.indices.specs.Writing.{Due}
 use Rattle.indices.proofs.Written.{fitting-few, listed-few}
 use Rattle.rtas.specs.declared.indices_call.Listed.{Listed}
-use Rattle.rtas.specs.declared.indices_call.Request.{Request}
-use Rattle.rtas.specs.declared.status.Status.{Status}
-use Rattle.rtas.specs.declared.status.Status.the-variants.{Done, Again, Malformed, Parameter}
-use Rattle.rtas.specs.Status.{isAnswer}
-use Rattle.rtas.specs.Lent.{partAt, withPart}
-use Rattle.rtas.specs.GetIndices.{askable, lendable, entriesFor, numberIn, runFor, goodNumber, dueFits, moreEntries, listStatus, listArea, indicesStatus, indicesMemory, nextNumber, numberGiven}
-use Rattle.rtas.proofs.Memory.{part-length, part-lent, part-back, part-same}
-use Rattle.rtas.proofs.Calls.{decide}
-use Rattle.rtas.proofs.Requests.{lent-size, due-run}
+use Rattle.calls.specs.declared.request.Request.{Request}
+use Rattle.calls.specs.declared.status.Status.{Status}
+use Rattle.calls.specs.declared.status.Status.the-variants.{Done, Again, Malformed, Parameter}
+use Rattle.calls.specs.Status.{isAnswer}
+use Rattle.calls.specs.Lent.{partAt, withPart}
+use Rattle.calls.specs.GetIndices.{askable, lendable, entriesFor, numberIn, runFor, goodNumber, dueFits, moreEntries, listStatus, listArea, indicesStatus, indicesMemory, nextNumber, numberGiven}
+use Rattle.calls.proofs.Memory.{part-length, part-lent, part-back, part-same}
+use Rattle.calls.proofs.Calls.{decide}
+use Rattle.calls.proofs.Requests.{lent-size, due-run}
 
 -- ---- what the scan gives is what the writer of the run asks for
 

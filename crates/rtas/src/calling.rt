@@ -6,21 +6,22 @@ ghost use Prim.Native.Nat.{_+_, _≤_};
 ghost use lib.ListN.{length};
 ghost use lib.Seq.{sets};
 ghost use Rattle.words.specs.Numbers.{wordBytes};
-ghost use Rattle.rtas.specs.Status.{isGiven, isAnswer};
-ghost use Rattle.rtas.specs.GetIndices.{indicesStatus, indicesMemory, nextNumber};
-ghost use Rattle.rtas.specs.Buffer.{statusAt, numberFor, asks, requestOf, outcome, callOf};
-ghost use Rattle.rtas.specs.Demands.{Demand1, Demand2, Demand3};
-ghost use Rattle.rtas.specs.WholeList.{WholeList};
-ghost use Rattle.rtas.specs.Witnesses.{NodesWitness, IndicesWitness};
-ghost use Rattle.rtas.specs.Readings.{Readings};
+ghost use Rattle.calls.specs.Status.{isGiven, isAnswer};
+ghost use Rattle.calls.specs.GetIndices.{indicesStatus, indicesMemory, nextNumber};
+ghost use Rattle.calls.specs.Buffer.{statusAt, numberFor, asks, requestOf, outcome, callOf};
+ghost use Rattle.calls.specs.Demands.{Demand1, Demand2, Demand3};
+ghost use Rattle.calls.specs.WholeList.{WholeList};
+ghost use Rattle.calls.specs.Witnesses.{NodesWitness, IndicesWitness};
+ghost use Rattle.calls.specs.Readings.{Readings};
 use crate::dump_call::configure_kernel_dump;
-use crate::indices_call::Request;
 use crate::indices_call::get_indices;
 use crate::nodes_call::update_nodes;
-use crate::status::Number;
-use crate::status::Status;
-use crate::status::Work;
-use crate::status::status_word;
+use crate::work::Work;
+use calls::Number;
+use calls::Request;
+use calls::Status;
+use calls::is_given;
+use calls::status_word;
 use dump::Registration;
 use inventory::StartingNumber;
 
@@ -164,16 +165,5 @@ pub fn call(
     Answer {
         number,
         registration,
-    }
-}
-
-fn is_given(number: Number) -> bool
-    ensures { λ r. ⌜ r ≡ isGiven number ⌝ }
-{
-    match number {
-        Number::Given => true,
-        Number::Short => false,
-        Number::NoOutputs => false,
-        Number::TooMany => false,
     }
 }

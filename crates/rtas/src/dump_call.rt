@@ -1,9 +1,9 @@
 // configure-kernel-dump on partition memory, which is only read.
 ghost use mathlib.Core.Path.{_≡_};
 ghost use Rattle.dump.specs.Registration.{registrationAfter};
-ghost use Rattle.rtas.specs.ConfigureDump.{verdictStatus, dumpStatus};
-use crate::status::Status;
-use crate::status::Work;
+ghost use Rattle.calls.specs.ConfigureDump.{verdictStatus, dumpStatus};
+use crate::work::Work;
+use calls::Status;
 use dump::Registration;
 use dump::Verdict;
 

@@ -5,19 +5,11 @@ ghost use Prim.Native.Nat.{_-_, _≤_, _<_};
 ghost use lib.ListN.{length};
 ghost use Rattle.inventory.specs.Inventory.{wellFormed};
 ghost use Rattle.inventory.specs.Scanning.{From};
-ghost use Rattle.rtas.specs.GetIndices.{askable, lendable, entriesFor, numberIn, listStatus, listArea, indicesStatus, indicesMemory, numberGiven};
-use crate::status::Status;
+ghost use Rattle.calls.specs.GetIndices.{askable, lendable, entriesFor, numberIn, listStatus, listArea, indicesStatus, indicesMemory, numberGiven};
+use calls::Request;
+use calls::Status;
 use inventory::Judgement;
 use inventory::StartingNumber;
-
-// What a call asks for: a flag (0 indicator, 1 sensor), a type, a part of memory, and the number of the entry due.
-pub struct Request {
-    pub flag: u32,
-    pub kind: u32,
-    pub address: u32,
-    pub size: u32,
-    pub number: StartingNumber,
-}
 
 // What a call answers: its status, and the Next Starting Number, which a refused call leaves as it was asked for.
 pub struct Listed {

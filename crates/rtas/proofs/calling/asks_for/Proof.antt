@@ -1,7 +1,7 @@
 -- `calling::asks_for` meets its contract.
 use borrow.Author.Needs.{needs}
 use borrow.Author.Tests.{eq-eqb, ne-eqb}
-use Rattle.rtas.specs.Buffer.{asks}
+use Rattle.calls.specs.Buffer.{asks}
 use Rattle.rtas.proofs.calling.asks_for.Statement.{statement}
 use Rattle.rtas.proofs.calling.asks_for.Tie as tie
 

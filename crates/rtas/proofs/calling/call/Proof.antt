@@ -6,11 +6,11 @@ use native.Mathlib.Omega.{arith}
 use borrow.Author.Needs.{needs}
 use borrow.Author.Tests.{not-true, not-false}
 use denote.Ref.{now}
-use Rattle.rtas.proofs.Claims.{demands}
-use Rattle.rtas.proofs.Heads.{Whole, whole-buffer, given-number, unchanged, carried-out, outputs-stored}
-use Rattle.rtas.specs.Buffer.{Result, numberFor, statusAt}
-use Rattle.rtas.specs.declared.status.Number.the-variants.{Given}
-use Rattle.rtas.specs.Status.{isGiven, statusWord}
+use Rattle.calls.proofs.Claims.{demands}
+use Rattle.calls.proofs.Heads.{Whole, whole-buffer, given-number, unchanged, carried-out, outputs-stored}
+use Rattle.calls.specs.Buffer.{Result, numberFor, statusAt}
+use Rattle.calls.specs.declared.status.Number.the-variants.{Given}
+use Rattle.calls.specs.Status.{isGiven, statusWord}
 use Rattle.rtas.proofs.calling.call.Statement.{statement}
 use Rattle.rtas.proofs.calling.call.Tie as tie
 

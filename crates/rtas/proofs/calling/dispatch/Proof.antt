@@ -6,9 +6,9 @@ use native.Mathlib.Omega.{arith}
 use lib.ListN.{length}
 use borrow.Author.Needs.{needs}
 use denote.Ref.{now}
-use Rattle.rtas.proofs.Heads.{Whole, whole-buffer, asked, Worked, worked-nodes, worked-indices, worked-dump, worked-none}
-use Rattle.rtas.specs.Buffer.{isNodes, isIndices, isDump}
-use Rattle.rtas.specs.Status.{isGiven}
+use Rattle.calls.proofs.Heads.{Whole, whole-buffer, asked, Worked, worked-nodes, worked-indices, worked-dump, worked-none}
+use Rattle.calls.specs.Buffer.{isNodes, isIndices, isDump}
+use Rattle.calls.specs.Status.{isGiven}
 use Rattle.rtas.proofs.calling.dispatch.Statement.{statement}
 use Rattle.rtas.proofs.calling.dispatch.Tie as tie
 

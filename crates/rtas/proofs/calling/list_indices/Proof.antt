@@ -6,10 +6,10 @@ use lib.Dec.{leb}
 use borrow.Author.Needs.{needs}
 use borrow.Author.Tests.{le-leb, lt-leb}
 use denote.Ref.{now}
-use Rattle.rtas.specs.Status.{isAnswer}
-use Rattle.rtas.specs.Buffer.{requestOf}
-use Rattle.rtas.specs.GetIndices.{indicesStatus}
-use Rattle.rtas.proofs.Requests.{number-stored, number-kept}
+use Rattle.calls.specs.Status.{isAnswer}
+use Rattle.calls.specs.Buffer.{requestOf}
+use Rattle.calls.specs.GetIndices.{indicesStatus}
+use Rattle.calls.proofs.Requests.{number-stored, number-kept}
 use Rattle.rtas.proofs.calling.list_indices.Statement.{statement}
 use Rattle.rtas.proofs.calling.list_indices.Tie as tie
 

@@ -1,7 +1,7 @@
 -- `calling::number_for` meets its contract.
 use borrow.Author.Needs.{needs}
 use borrow.Author.Tests.{lt-ltb, le-ltb, eq-eqb, ne-eqb}
-use Rattle.rtas.specs.Buffer.{numberFor}
+use Rattle.calls.specs.Buffer.{numberFor}
 use Rattle.rtas.proofs.calling.number_for.Statement.{statement}
 use Rattle.rtas.proofs.calling.number_for.Tie as tie
 

@@ -2,7 +2,7 @@
 use mathlib.Core.Path.{ap, _∙_}
 use borrow.Author.Needs.{needs}
 use Rattle.dump.specs.declared.registration.Configured.{Configured}
-use Rattle.rtas.specs.ConfigureDump.{verdictStatus, dumpStatus}
+use Rattle.calls.specs.ConfigureDump.{verdictStatus, dumpStatus}
 use Rattle.rtas.proofs.dump_call.configure_kernel_dump.Statement.{statement}
 use Rattle.rtas.proofs.dump_call.configure_kernel_dump.Tie as tie
 

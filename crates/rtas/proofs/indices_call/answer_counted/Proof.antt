@@ -5,7 +5,7 @@ use native.Mathlib.Omega.{arith}
 use borrow.Author.Needs.{needs}
 use borrow.Author.Tests.{not-true, not-false}
 use denote.Ref.{now}
-use Rattle.rtas.specs.GetIndices.{numberIn}
+use Rattle.calls.specs.GetIndices.{numberIn}
 use Rattle.rtas.proofs.Lists.{due-is, among-is, left-misnumbered, Ran, ran-few, left-unfit, left-again, left-done}
 use Rattle.rtas.proofs.indices_call.answer_counted.Statement.{statement}
 use Rattle.rtas.proofs.indices_call.answer_counted.Tie as tie

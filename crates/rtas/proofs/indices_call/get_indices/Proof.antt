@@ -4,8 +4,8 @@ use mathlib.Core.Path.{_≡_, sym, _∙_}
 use borrow.Author.Needs.{needs}
 use borrow.Author.Tests.{not-true, not-false}
 use denote.Ref.{now}
-use Rattle.rtas.specs.GetIndices.{askable, lendable}
-use Rattle.rtas.proofs.Requests.{lent-size}
+use Rattle.calls.specs.GetIndices.{askable, lendable}
+use Rattle.calls.proofs.Requests.{lent-size}
 use Rattle.rtas.proofs.Lists.{lent-area, left-unasked, left-unlent, left-list}
 use Rattle.rtas.proofs.indices_call.get_indices.Statement.{statement}
 use Rattle.rtas.proofs.indices_call.get_indices.Tie as tie

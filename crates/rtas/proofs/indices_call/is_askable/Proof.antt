@@ -1,6 +1,6 @@
 -- `indices_call::is_askable` meets its contract.
 use borrow.Author.Tests.{le-leb, lt-leb, eq-eqb, ne-eqb}
-use Rattle.rtas.specs.GetIndices.{askable}
+use Rattle.calls.specs.GetIndices.{askable}
 use Rattle.rtas.proofs.indices_call.is_askable.Statement.{statement}
 use Rattle.rtas.proofs.indices_call.is_askable.Tie as tie
 

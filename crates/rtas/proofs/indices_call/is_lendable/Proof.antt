@@ -1,7 +1,7 @@
 -- `indices_call::is_lendable` meets its contract.
 use borrow.Author.Needs.{needs}
 use borrow.Author.Tests.{le-leb, lt-leb}
-use Rattle.rtas.specs.GetIndices.{lendable}
+use Rattle.calls.specs.GetIndices.{lendable}
 use Rattle.rtas.proofs.indices_call.is_lendable.Statement.{statement}
 use Rattle.rtas.proofs.indices_call.is_lendable.Tie as tie
 

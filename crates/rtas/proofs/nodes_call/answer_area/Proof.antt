@@ -1,7 +1,7 @@
 -- `nodes_call::answer_area` meets its contract.
 use borrow.Author.Needs.{needs}
 use denote.Ref.{now}
-use Rattle.rtas.proofs.Areas.{left-malformed, scanned-malformed, scanned-counted}
+use Rattle.calls.proofs.Areas.{left-malformed, scanned-malformed, scanned-counted}
 use Rattle.rtas.proofs.nodes_call.answer_area.Statement.{statement}
 use Rattle.rtas.proofs.nodes_call.answer_area.Tie as tie
 

@@ -11,8 +11,8 @@ use Rattle.nodes.proofs.Answers.{counts-small}
 use Rattle.nodes.proofs.Listed.{total-is}
 use Rattle.nodes.specs.Area.{written}
 use Rattle.nodes.specs.Run.{total}
-use Rattle.rtas.proofs.Areas.{left-reserved, left-state, left-again, left-done, state-is, state-within}
-use Rattle.rtas.specs.UpdateNodes.{reserved, goodState}
+use Rattle.calls.proofs.Areas.{left-reserved, left-state, left-again, left-done, state-is, state-within}
+use Rattle.calls.specs.UpdateNodes.{reserved, goodState}
 use Rattle.rtas.proofs.nodes_call.answer_counted.Statement.{statement}
 use Rattle.rtas.proofs.nodes_call.answer_counted.Tie as tie
 

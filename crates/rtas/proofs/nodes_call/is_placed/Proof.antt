@@ -1,7 +1,7 @@
 -- `nodes_call::is_placed` meets its contract.
 use borrow.Author.Needs.{needs}
 use borrow.Author.Tests.{eq-eqb, ne-eqb}
-use Rattle.rtas.specs.UpdateNodes.{placed}
+use Rattle.calls.specs.UpdateNodes.{placed}
 use Rattle.rtas.proofs.nodes_call.is_placed.Statement.{statement}
 use Rattle.rtas.proofs.nodes_call.is_placed.Tie as tie
 

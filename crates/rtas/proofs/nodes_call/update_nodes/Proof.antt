@@ -8,9 +8,9 @@ use borrow.Author.Needs.{needs}
 use borrow.Author.Tests.{not-true, not-false}
 use denote.Ref.{now}
 use Rattle.journal.specs.declared.scope.Row.{Row}
-use Rattle.rtas.proofs.Areas.{placed-inside, left-unplaced, left-invalid, left-area}
-use Rattle.rtas.proofs.Memory.{part-lent, part-length}
-use Rattle.rtas.specs.UpdateNodes.{placed}
+use Rattle.calls.proofs.Areas.{placed-inside, left-unplaced, left-invalid, left-area}
+use Rattle.calls.proofs.Memory.{part-lent, part-length}
+use Rattle.calls.specs.UpdateNodes.{placed}
 use Rattle.rtas.proofs.nodes_call.update_nodes.Statement.{statement}
 use Rattle.rtas.proofs.nodes_call.update_nodes.Tie as tie
 

@@ -1,0 +1,115 @@
+-- What the checks of a work area come to, way by way through the code.
+use mathlib.Core.Path.{_≡_, refl, sym, ap, _∙_}
+use mathlib.Core.Bool.{Bool, true, false, cond, _||_}
+use mathlib.Core.List.{List, _++_}
+use Prim.Native.Nat.{ℕ, _+_, _-_, _%_, _≤_}
+use native.Mathlib.Omega.{arith}
+use lib.Dec.{ltb, eqb}
+use lib.ListN.{length, take, drop}
+use borrow.Author.Tests.{leb-true, ltb-true, eqb-true}
+use Rattle.words.specs.Numbers.{be32}
+use Rattle.journal.specs.declared.scanning.Counts.{Counts}
+use Rattle.journal.specs.declared.scanning.Judgement.{Judgement}
+use Rattle.journal.specs.declared.scanning.Judgement.the-variants.{Malformed, Counted}
+use Rattle.journal.specs.Journal.{wellFormed}
+use Rattle.journal.specs.Scope.{valid, rowOf}
+use Rattle.journal.specs.Reportable.{reportable, countsOf, judgementOf}
+use Rattle.nodes.specs.Run.{remains, total}
+use Rattle.nodes.specs.Area.{written}
+use Rattle.nodes.proofs.Listed.{total-is}
+use Rattle.calls.specs.declared.status.Status.{Status}
+use Rattle.calls.specs.declared.status.Status.the-variants as status
+use Rattle.calls.specs.UpdateNodes.{areaAt, withArea, placed, reserved, goodState, areaStatus, areaAfter, nodesStatus, nodesMemory}
+use Rattle.words.proofs.Choice.{and-right}
+use Rattle.calls.proofs.Memory.{part-lent, part-back}
+
+-- what a status and an area afterwards are to be
+abbrev Left : List ℕ → List ℕ → List ℕ → Status → List ℕ → Type 0
+Left row j area s after = (s ≡ areaStatus row j area) × (after ≡ areaAfter row j area)
+
+module _ (row j area : List ℕ) where
+  pub left-malformed : wellFormed j ≡ false → Left row j area status.Malformed area
+  unfolding areaStatus areaAfter
+  left-malformed w = rw w (refl, refl)
+
+  module _ (w : wellFormed j ≡ true) where
+    pub left-reserved : reserved area ≡ false → Left row j area status.Parameter area
+    unfolding areaStatus areaAfter
+    left-reserved e = rw (w, e) (refl, refl)
+
+    module _ (z : reserved area ≡ true) where
+      pub left-state : goodState row j area ≡ false → Left row j area status.Parameter area
+      unfolding areaStatus areaAfter
+      left-state e = rw (w, z, e) (refl, refl)
+
+      pub left-again : goodState row j area ≡ true → remains (reportable row j) (be32 area 0) ≡ true → Left row j area status.Again (written area (reportable row j) (be32 area 0))
+      unfolding areaStatus areaAfter
+      left-again e f = rw (w, z, e, f) (refl, refl)
+
+      pub left-done : goodState row j area ≡ true → remains (reportable row j) (be32 area 0) ≡ false → Left row j area status.Done (written area (reportable row j) (be32 area 0))
+      unfolding areaStatus areaAfter
+      left-done e f = rw (w, z, e, f) (refl, refl)
+
+-- the code's test of the state
+pub state-is : (row j area : List ℕ) (state : ℕ) (c : Counts) → state ≡ be32 area 0 → c ≡ countsOf row j → (eqb state 0 || ltb state (total c)) ≡ goodState row j area
+unfolding goodState
+state-is row j area state c e f = rw (e, f, total-is row j)
+
+-- a good state is no further than the end of the list
+pub state-within : (row j area : List ℕ) → goodState row j area ≡ true → be32 area 0 ≤ length (reportable row j)
+unfolding goodState
+state-within row j area = go (eqb (be32 area 0) 0) (ltb (be32 area 0) (length (reportable row j))) refl refl
+  where
+    go : (t u : Bool) → eqb (be32 area 0) 0 ≡ t → ltb (be32 area 0) (length (reportable row j)) ≡ u → (t || u) ≡ true → be32 area 0 ≤ length (reportable row j)
+    go true u p q e = omega (arith, eqb-true (be32 area 0) 0 p)
+    go false u p q e = omega (arith, ltb-true (be32 area 0) (length (reportable row j)) (q ∙ e))
+
+pub scanned-malformed : (row j : List ℕ) (g : Judgement) → g ≡ Malformed → g ≡ judgementOf row j → wellFormed j ≡ false
+unfolding judgementOf
+scanned-malformed row j g e f = go (wellFormed j) (sym e ∙ f)
+  where
+    go : (t : Bool) → Malformed ≡ cond t (Counted (countsOf row j)) Malformed → t ≡ false
+    go true q = cc
+    go false q = refl
+
+pub scanned-counted : (row j : List ℕ) (g : Judgement) (c : Counts) → g ≡ Counted c → g ≡ judgementOf row j → (wellFormed j ≡ true) × (c ≡ countsOf row j)
+unfolding judgementOf
+scanned-counted row j g c e f = go (wellFormed j) (sym e ∙ f)
+  where
+    go : (t : Bool) → Counted c ≡ cond t (Counted (countsOf row j)) Malformed → (t ≡ true) × (c ≡ countsOf row j)
+    go true q = (refl, cc)
+    go false q = (cc, cc)
+
+-- ---- the whole call
+
+-- what a status and memory afterwards are to be
+abbrev LeftAll : List ℕ → ℕ → ℕ → List ℕ → Status → List ℕ → Type 0
+LeftAll m address scope j s after = (s ≡ nodesStatus m address scope j) × (after ≡ nodesMemory m address scope j)
+
+pub placed-inside : (m : List ℕ) (address : ℕ) → placed m address ≡ true → address + 4096 ≤ length m
+unfolding placed
+placed-inside m address e = leb-true (address + 4096) (length m) (and-right (eqb (address % 4096) 0) _ e)
+
+module _ (m : List ℕ) (address scope : ℕ) (j : List ℕ) where
+  pub left-unplaced : placed m address ≡ false → LeftAll m address scope j status.Parameter m
+  unfolding nodesStatus nodesMemory
+  left-unplaced e = rw e (refl, refl)
+
+  module _ (p : placed m address ≡ true) where
+    pub left-invalid : valid scope ≡ false → LeftAll m address scope j status.Parameter m
+    unfolding nodesStatus nodesMemory
+    left-invalid e = rw (p, e) (refl, refl)
+
+    -- past the checks of address and scope the area decides
+    pub nodes-checked : valid scope ≡ true → nodesStatus m address scope j ≡ areaStatus (rowOf scope) j (areaAt m address)
+    unfolding nodesStatus
+    nodes-checked v = rw (p, v)
+
+    -- the area is answered, and comes back as v into memory
+    pub left-area : valid scope ≡ true → (s : Status) (v : List ℕ) → length v ≡ 4096 → Left (rowOf scope) j (take (address + 4096 - address) (drop address m)) s v
+        → LeftAll m address scope j s (take address m ++ (v ++ drop (address + 4096 - address) (drop address m)))
+    unfolding nodesStatus nodesMemory
+    left-area e s v n l =
+        let inside = placed-inside m address p in
+        let back = part-back m address 4096 inside v n in
+        rw (p, e, back, ← part-lent m address 4096 inside) (l .0, ap (withArea m address) (l .1))

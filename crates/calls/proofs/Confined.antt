@@ -1,0 +1,208 @@
+-- Demand 1: what no call changes.
+use mathlib.Core.Path.{_≡_, refl, sym, ap, _∙_}
+use mathlib.Core.Bool.{Bool, true, false, cond, _&&_, false≢true}
+use mathlib.Core.List.{List, [], _∷_}
+use mathlib.Core.Logic.{⊎-elim}
+use Prim.Native.Nat.{ℕ, _+_, _*_, _<_, _≤_}
+use native.Mathlib.Omega.{arith}
+use lib.ListN.{length, getD}
+use lib.Seq.{sets, length-sets}
+use Rattle.words.specs.Numbers.{be32, wordBytes}
+use Rattle.words.proofs.Stores.{sets-before, sets-after, length-wordBytes}
+use Rattle.dump.specs.declared.registration.Registration.{Registration}
+use Rattle.journal.specs.Journal.{wellFormed}
+use Rattle.journal.specs.Reportable.{reportable}
+use Rattle.nodes.specs.Run.{remains}
+use Rattle.journal.specs.Scope.{valid, rowOf}
+use Rattle.calls.specs.declared.status.Number.the-variants.{Given}
+use Rattle.calls.specs.declared.status.Status.the-variants.{Done, Again, Malformed, Parameter}
+use Rattle.calls.specs.Status.{numberOf, isGiven, isAnswer, statusWord}
+use Rattle.calls.specs.UpdateNodes.{areaAt, withArea, placed, reserved, goodState, areaStatus, areaAfter, nodesStatus, nodesMemory}
+use Rattle.calls.specs.Buffer.{outputs, input, statusAt, numberFor, isNodes, isIndices, isDump, requestOf, Outcome, nodesOutcome, indicesOutcome, dumpOutcome, refusal, outcome, Result, callOf}
+use Rattle.calls.specs.Terms.{HasStatus, Refused, Asks, Outside}
+use Rattle.calls.specs.Demands.{Confined, Demand1}
+use Rattle.calls.proofs.Areas.{placed-inside, state-within, nodes-checked}
+use Rattle.calls.proofs.Calls.{decide, status-word}
+use Rattle.calls.proofs.Heads.{whole-buffer, asked, unchanged, carried-out, outcome-ways}
+use Rattle.calls.proofs.Memory.{part-length, part-kept, part-before, part-behind, part-same, written-length}
+use lib.Dec.{leb, eqb}
+use borrow.Author.Tests.{leb-true}
+use Rattle.dump.specs.declared.registration.Verdict.{Verdict}
+use Rattle.dump.specs.declared.registration.Verdict.the-variants as verdict
+use Rattle.dump.specs.Registration.{isDone, noRegistration, registered, structureAt, verdictOf, registrationAfter}
+use Rattle.calls.specs.ConfigureDump.{verdictStatus, dumpStatus}
+use Rattle.calls.specs.GetIndices.{indicesStatus, nextNumber}
+use Rattle.calls.proofs.Requests.{indices-refused, indices-outside, indices-length}
+
+-- ---- the memory that update-nodes leaves
+
+-- an area that is answered had a good state
+answers-state : (row j area : List ℕ) → isAnswer (areaStatus row j area) ≡ true → goodState row j area ≡ true
+unfolding areaStatus
+answers-state row j area = go (wellFormed j) (reserved area) (goodState row j area) (remains (reportable row j) (be32 area 0))
+  where
+    go : (w r g m : Bool) → isAnswer (cond w (cond r (cond g (cond m Again Done) Parameter) Parameter) Malformed) ≡ true → g ≡ true
+    go w r true m e = refl
+    go false r false m e = e
+    go true false false m e = e
+    go true true false m e = e
+
+after-length : (row j area : List ℕ) → length area ≡ 4096 → length (areaAfter row j area) ≡ 4096
+unfolding areaAfter
+after-length row j area size = decide (isAnswer (areaStatus row j area))
+    (λ e. rw e (written-length area (reportable row j) (be32 area 0) size (state-within row j area (answers-state row j area e))))
+    (λ e. rw e size)
+
+module _ (m : List ℕ) (address scope : ℕ) (j : List ℕ) where
+  abbrev area : List ℕ
+  area = areaAt m address
+
+  abbrev next : List ℕ
+  next = areaAfter (rowOf scope) j area
+
+  after-none : isAnswer (areaStatus (rowOf scope) j area) ≡ false → next ≡ area
+  unfolding areaAfter
+  after-none e = rw e
+
+  -- the ways through the checks of address and scope
+  ways : (P : List ℕ → Type 0) → (placed m address ≡ true → valid scope ≡ true → P (withArea m address next)) → P m → P (nodesMemory m address scope j)
+  unfolding nodesMemory
+  ways P f g = go (placed m address) (valid scope) refl refl
+    where
+      go : (p v : Bool) → placed m address ≡ p → valid scope ≡ v → P (cond (placed m address && valid scope) (withArea m address next) m)
+      go true true e h = rw (e, h) (f e h)
+      go true false e h = rw (e, h) g
+      go false v e h = rw e g
+
+  nodes-refused : isAnswer (nodesStatus m address scope j) ≡ false → nodesMemory m address scope j ≡ m
+  nodes-refused e = ways (λ (l : List ℕ). l ≡ m) (λ p v. ap (withArea m address) (after-none (sym (ap isAnswer (status-here p v)) ∙ e)) ∙ part-same m address 4096) refl
+    where
+      status-here : placed m address ≡ true → valid scope ≡ true → nodesStatus m address scope j ≡ areaStatus (rowOf scope) j area
+      status-here p v = nodes-checked m address scope j p v
+
+  module _ (p : placed m address ≡ true) where
+    inside : address + 4096 ≤ length m
+    inside = placed-inside m address p
+
+    size : length next ≡ 4096
+    size = after-length (rowOf scope) j area (part-length m address 4096 inside)
+
+  nodes-length : length (nodesMemory m address scope j) ≡ length m
+  nodes-length = ways (λ (l : List ℕ). length l ≡ length m) (λ p v. part-kept m address 4096 (inside p) next (size p)) refl
+
+  nodes-outside : (k : ℕ) → Outside address 4096 k → getD (nodesMemory m address scope j) k 0 ≡ getD m k 0
+  nodes-outside k e = ways (λ (l : List ℕ). getD l k 0 ≡ getD m k 0)
+      (λ p v. ⊎-elim (part-before m address 4096 (inside p) next (size p) k) (part-behind m address 4096 (inside p) next (size p) k) e) refl
+
+-- ---- a call's own work
+
+-- What a call's own work keeps: without an answer nothing else than the status changes, and no byte outside its outputs and its area does.
+record Proper (b m : List ℕ) (r : Registration) (o : Outcome) : Type 0 where
+  outputs-hold : length (o .more) < outputs b
+  refused-more : isAnswer (o .status) ≡ false → o .more ≡ []
+  refused-memory : isAnswer (o .status) ≡ false → o .memory ≡ m
+  refused-registration : isAnswer (o .status) ≡ false → o .registration ≡ r
+  beside : (k : ℕ) → (Asks 1 2 1 b → Outside (be32 b 12) 4096 k) → (Asks 2 5 2 b → Outside (be32 b 20) (be32 b 24) k) → getD (o .memory) k 0 ≡ getD m k 0
+  size : length (o .memory) ≡ length m
+
+module _ (b m j i : List ℕ) (r : Registration) where
+  nodes-proper : isNodes b ≡ true → Proper b m r (nodesOutcome b m j r)
+  unfolding nodesOutcome
+  nodes-proper e =
+      record {
+        outputs-hold = omega (arith, asked 1 2 1 b e);
+        refused-more = λ _. refl;
+        refused-memory = nodes-refused m (input b 0) (input b 1) j;
+        refused-registration = λ _. refl;
+        beside = λ k f g. nodes-outside m (input b 0) (input b 1) j k (f (asked 1 2 1 b e));
+        size = nodes-length m (input b 0) (input b 1) j;
+      }
+
+  one-more : (t : Bool) (n : ℕ) → length (cond t (n ∷ []) []) ≤ 1
+  one-more true n = omega arith
+  one-more false n = omega arith
+
+  indices-proper : isIndices b ≡ true → Proper b m r (indicesOutcome b m i r)
+  unfolding indicesOutcome
+  indices-proper e =
+      let q = requestOf b in
+      record {
+        outputs-hold = omega (arith, asked 2 5 2 b e, one-more (isAnswer (indicesStatus m i q)) (nextNumber i q));
+        refused-more = λ h. rw h;
+        refused-memory = indices-refused m i q;
+        refused-registration = λ _. refl;
+        beside = λ k f g. indices-outside m i q k (g (asked 2 5 2 b e));
+        size = indices-length m i q;
+      }
+
+  -- a command that is refused keeps the registration
+  dump-kept : (command address len : ℕ) → isAnswer (dumpStatus m command address len r) ≡ false → registrationAfter m command address len r ≡ r
+  unfolding dumpStatus registrationAfter
+  dump-kept command address len h = go (verdictOf m command address len (r .phase)) h
+    where
+      go : (v : Verdict) → isAnswer (verdictStatus v) ≡ false → cond (isDone v) (cond (eqb command 1) (registered (structureAt m address len)) noRegistration) r ≡ r
+      go verdict.Done e = absurd (false≢true (sym e))
+      go verdict.Parameter e = refl
+      go verdict.AlreadyRegistered e = refl
+      go verdict.DumpActive e = refl
+
+  dump-proper : isDump b ≡ true → Proper b m r (dumpOutcome b m r)
+  unfolding dumpOutcome
+  dump-proper e =
+      record {
+        outputs-hold = omega (arith, asked 3 3 1 b e);
+        refused-more = λ _. refl;
+        refused-memory = λ _. refl;
+        refused-registration = dump-kept (input b 0) (input b 1) (input b 2);
+        beside = λ _ _ _. refl;
+        size = refl;
+      }
+
+  refusal-proper : 0 < outputs b → Proper b m r (refusal m r)
+  refusal-proper h =
+      record { outputs-hold = h; refused-more = λ _. refl; refused-memory = λ _. refl; refused-registration = λ _. refl; beside = λ _ _ _. refl; size = refl }
+
+  abbrev o : Outcome
+  o = outcome b m j i r
+
+  proper : 0 < outputs b → Proper b m r o
+  proper h = outcome-ways b m j i r (Proper b m r) nodes-proper indices-proper dump-proper (refusal-proper h)
+
+  -- ---- the call
+
+  abbrev stored : List ℕ
+  stored = wordBytes (statusWord (o .status) ∷ o .more)
+
+  -- the ways of a call: nothing changes, or the outputs are stored and the rest is as the call's own work leaves it
+  call-ways : (P : Result → Type 0) → (isGiven (numberFor b) ≡ false → P (record { number = numberFor b; args = b; memory = m; registration = r }))
+      → (isGiven (numberFor b) ≡ true → Proper b m r o → P (record { number = Given; args = sets b (statusAt b) stored; memory = o .memory; registration = o .registration })) → P (callOf b m j i r)
+  call-ways P f g = decide (isGiven (numberFor b))
+      (λ e. rw (carried-out b m j i r e) (g e (proper (whole-buffer b e .some-output))))
+      (λ e. rw (unchanged b m j i r e) (f e))
+
+  -- a refused call's own work is refused
+  refused-own : Refused b (callOf b m j i r) → isGiven (numberFor b) ≡ true → isAnswer (o .status) ≡ false
+  refused-own h e = decide (isAnswer (o .status))
+      (λ a. absurd (h (ap (λ (x : Result). numberOf (x .number)) (carried-out b m j i r e)) (leb-true _ 1 (ap (λ (n : ℕ). leb n 1) (status-word b m j i r e) ∙ a)))) (λ a. a)
+
+  -- bytes outside of words that were stored
+  words-outside : (ws : List ℕ) (k n : ℕ) → length ws ≤ n → Outside (statusAt b) (4 * n) k → getD (sets b (statusAt b) (wordBytes ws)) k 0 ≡ getD b k 0
+  words-outside ws k n h = ⊎-elim (sets-before (wordBytes ws) b (statusAt b) k) (λ g. sets-after (wordBytes ws) b (statusAt b) k (omega (arith, length-wordBytes ws)))
+
+  confined : Confined b m r (callOf b m j i r)
+  confined =
+      record {
+        no-status = call-ways (λ (x : Result). (HasStatus x → ⊥) → x .args ≡ b) (λ _ _. refl) (λ _ _ h. absurd (h refl));
+        refused-args = λ h k n. call-ways (λ (x : Result). getD (x .args) k 0 ≡ getD b k 0) (λ _. refl)
+            (λ e p. rw (p .refused-more (refused-own h e)) (words-outside (statusWord (o .status) ∷ []) k 1 (omega arith) n));
+        refused-memory = λ h. call-ways (λ (x : Result). x .memory ≡ m) (λ _. refl) (λ e p. p .refused-memory (refused-own h e));
+        refused-registration = λ h. call-ways (λ (x : Result). x .registration ≡ r) (λ _. refl) (λ e p. p .refused-registration (refused-own h e));
+        outside-outputs = λ k n. call-ways (λ (x : Result). getD (x .args) k 0 ≡ getD b k 0) (λ _. refl)
+            (λ e p. words-outside (statusWord (o .status) ∷ o .more) k (outputs b) (omega (arith, p .outputs-hold)) n);
+        outside-area = λ k f g. call-ways (λ (x : Result). getD (x .memory) k 0 ≡ getD m k 0) (λ _. refl) (λ e p. p .beside k f g);
+        args-length = call-ways (λ (x : Result). length (x .args) ≡ length b) (λ _. refl) (λ _ _. length-sets b (statusAt b) stored);
+        memory-length = call-ways (λ (x : Result). length (x .memory) ≡ length m) (λ _. refl) (λ e p. p .size);
+      }
+
+pub demand1 : Demand1
+demand1 = confined

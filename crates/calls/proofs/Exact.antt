@@ -1,0 +1,163 @@
+-- Demand 2: the number of a call, and all that it leaves by its token and counts.
+use mathlib.Core.Path.{_≡_, refl, sym, ap, _∙_}
+use mathlib.Core.Bool.{Bool, true, false, _||_}
+use mathlib.Core.List.{List, []}
+use mathlib.Core.Logic.{⊎-elim}
+use Prim.Native.Nat.{ℕ, _+_, _*_, _≤_}
+use native.Mathlib.Omega.{arith}
+use borrow.Author.Tests.{lt-ltb, le-ltb, eq-eqb, ne-eqb}
+use lib.Dec.{ltb}
+use lib.ListN.{length}
+use Rattle.words.specs.Numbers.{be32}
+use Rattle.words.proofs.Stores.{wordBytes-one}
+use Rattle.dump.specs.declared.registration.Registration.{Registration}
+use Rattle.calls.specs.declared.status.Number.{Number}
+use Rattle.calls.specs.declared.status.Number.the-variants.{Given, Short, NoOutputs, TooMany}
+use Rattle.calls.specs.Status.{numberOf, isGiven, statusWord}
+use Rattle.calls.specs.Buffer.{inputs, outputs, requestOf, statusAt, numberFor, asks, Result, Outcome, nodesOutcome, indicesOutcome, dumpOutcome, refusal, outcome, callOf}
+use Rattle.calls.specs.GetIndices.{indicesStatus, nextNumber}
+use Rattle.calls.specs.Terms.{HasStatus, Asks, statusOf}
+use Rattle.calls.specs.ExactNodes.{ExactNodes}
+use Rattle.calls.specs.ExactIndices.{ExactIndices}
+use Rattle.calls.specs.ExactDump.{ExactDump}
+use Rattle.calls.specs.Demands.{Numbered, Unknown, ByToken, Demand2}
+use Rattle.calls.proofs.Heads.{asked, given-number, unchanged, carried-out, nodes-outcome, indices-outcome, dump-outcome}
+use Rattle.calls.proofs.Calls.{decide, status-word}
+use Rattle.calls.proofs.Requests.{passed-is}
+use Rattle.calls.proofs.IndicesCalls.{number-word}
+use Rattle.calls.proofs.Exactly.{at-most}
+use Rattle.calls.proofs.ExactNodes.{exact-nodes}
+use Rattle.calls.proofs.ExactIndices.{exact-indices}
+use Rattle.calls.proofs.ExactDump.{exact-dump}
+
+-- ---- the number
+
+or-right : (a b : Bool) → b ≡ true → (a || b) ≡ true
+or-right true b e = refl
+or-right false b e = e
+
+numbered : (b : List ℕ) → Numbered b (inputs b) (outputs b) (numberOf (numberFor b))
+unfolding numberFor
+numbered b =
+    let n = length b in
+    let i = inputs b in
+    let o = outputs b in
+    let size = 12 + 4 * (i + o) in
+    record {
+      no-head = λ h. rw (lt-ltb n 12 h);
+      too-many = λ h e. let many : (ltb 16 i || ltb 16 o) ≡ true = ⊎-elim (λ g. rw (lt-ltb 16 i g)) (λ g. or-right (ltb 16 i) _ (lt-ltb 16 o g)) e in rw (le-ltb n 12 h, many);
+      cut-off = λ h g f l. rw (le-ltb n 12 h, le-ltb 16 i g, le-ltb 16 o f, lt-ltb n size l);
+      no-outputs = λ g l e. rw (le-ltb n 12 (omega arith), le-ltb 16 i g, le-ltb 16 o (omega arith), le-ltb n size l, eq-eqb o 0 e);
+      given = λ g f l s. rw (le-ltb n 12 (omega arith), le-ltb 16 i g, le-ltb 16 o f, le-ltb n size l, ne-eqb o 0 (λ e. omega arith));
+    }
+
+zero-given : (n : Number) → numberOf n ≡ 0 → isGiven n ≡ true
+zero-given Given e = refl
+zero-given Short e = absurd (omega (arith, e))
+zero-given NoOutputs e = absurd (omega (arith, e))
+zero-given TooMany e = absurd (omega (arith, e))
+
+module _ (b m j i : List ℕ) (r : Registration) where
+  abbrev x : Result
+  x = callOf b m j i r
+
+  number-is : x .number ≡ numberFor b
+  number-is = decide (isGiven (numberFor b))
+      (λ e. ap (λ (y : Result). y .number) (carried-out b m j i r e) ∙ sym (given-number (numberFor b) e))
+      (λ e. ap (λ (y : Result). y .number) (unchanged b m j i r e))
+
+  numbers : Numbered b (be32 b 4) (be32 b 8) (numberOf (x .number))
+  numbers = rw number-is (numbered b)
+
+  -- ---- the status and the rest
+
+  module _ (zero-is : HasStatus x) where
+    given : isGiven (numberFor b) ≡ true
+    given = zero-given (numberFor b) (ap numberOf (sym number-is) ∙ zero-is)
+
+    -- what is left where a call's own work is known
+    module _ (o : Outcome) (e : outcome b m j i r ≡ o) where
+      status-is : statusOf b x ≡ statusWord (o .status)
+      status-is = status-word b m j i r given ∙ ap (λ (y : Outcome). statusWord (y .status)) e
+
+      memory-is : x .memory ≡ o .memory
+      memory-is = ap (λ (y : Result). y .memory) (carried-out b m j i r given) ∙ ap (λ (y : Outcome). y .memory) e
+
+      registration-is : x .registration ≡ o .registration
+      registration-is = ap (λ (y : Result). y .registration) (carried-out b m j i r given) ∙ ap (λ (y : Outcome). y .registration) e
+
+    asks-is : (t n k : ℕ) → Asks t n k b → asks t n k b ≡ true
+    unfolding asks
+    asks-is t n k h = rw (eq-eqb _ _ (h .0), eq-eqb _ _ (h .1), eq-eqb _ _ (h .2))
+
+    asks-not : (t n k : ℕ) → (Asks t n k b → ⊥) → asks t n k b ≡ false
+    asks-not t n k h = decide (asks t n k b) (λ e. absurd (h (asked t n k b e))) (λ e. e)
+
+    module _ (h : Asks 1 2 1 b) where
+      own-nodes : outcome b m j i r ≡ nodesOutcome b m j r
+      own-nodes = nodes-outcome b m j i r (asks-is 1 2 1 h)
+
+      nodes : ExactNodes m j (be32 b 12) (be32 b 16) (statusOf b x) (x .memory)
+      unfolding nodesOutcome
+      nodes = rw (status-is (nodesOutcome b m j r) own-nodes, memory-is (nodesOutcome b m j r) own-nodes) (exact-nodes m j (be32 b 12) (be32 b 16))
+
+      nodes-registration : x .registration ≡ r
+      unfolding nodesOutcome
+      nodes-registration = registration-is (nodesOutcome b m j r) own-nodes
+
+    module _ (h : Asks 2 5 2 b) where
+      own-indices : outcome b m j i r ≡ indicesOutcome b m i r
+      own-indices = indices-outcome b m j i r (asks-is 2 5 2 h)
+
+      -- the second output stands behind five inputs and the status
+      next-is : statusWord (indicesStatus m i (requestOf b)) ≤ 1 → be32 (x .args) 36 ≡ nextNumber i (requestOf b)
+      next-is l =
+          let place : 36 ≡ statusAt b + 4 = omega (arith, h .1) in
+          ap (be32 (x .args)) place ∙ number-word b m j i r given (asks-is 2 5 2 h) (passed-is m i (requestOf b) (at-most _ 1 .1 l))
+
+      indices : ExactIndices m i (be32 b 12) (be32 b 16) (be32 b 20) (be32 b 24) (be32 b 28) (statusOf b x) (be32 (x .args) 36) (x .memory)
+      unfolding indicesOutcome
+      indices = rw (status-is (indicesOutcome b m i r) own-indices, memory-is (indicesOutcome b m i r) own-indices) (exact-indices m i (requestOf b) (be32 (x .args) 36) next-is)
+
+      indices-registration : x .registration ≡ r
+      unfolding indicesOutcome
+      indices-registration = registration-is (indicesOutcome b m i r) own-indices
+
+    module _ (h : Asks 3 3 1 b) where
+      own-dump : outcome b m j i r ≡ dumpOutcome b m r
+      own-dump = dump-outcome b m j i r (asks-is 3 3 1 h)
+
+      dump : ExactDump m (be32 b 12) (be32 b 16) (be32 b 20) (statusOf b x) r (x .registration)
+      unfolding dumpOutcome
+      dump = rw (status-is (dumpOutcome b m r) own-dump, registration-is (dumpOutcome b m r) own-dump) (exact-dump m (be32 b 12) (be32 b 16) (be32 b 20) r)
+
+      dump-memory : x .memory ≡ m
+      unfolding dumpOutcome
+      dump-memory = memory-is (dumpOutcome b m r) own-dump
+
+    module _ (f : Asks 1 2 1 b → ⊥) (g : Asks 2 5 2 b → ⊥) (d : Asks 3 3 1 b → ⊥) where
+      own-none : outcome b m j i r ≡ refusal m r
+      unfolding outcome
+      own-none = rw (asks-not 1 2 1 f, asks-not 2 5 2 g, asks-not 3 3 1 d)
+
+      unknown : Unknown b m r x
+      unknown = record {
+        args = rw (carried-out b m j i r given, own-none, wordBytes-one (statusWord (refusal m r .status)));
+        memory = memory-is (refusal m r) own-none;
+        registration = registration-is (refusal m r) own-none;
+      }
+
+    by-token : ByToken b m j i r x
+    by-token =
+        record {
+          nodes = nodes;
+          nodes-registration = nodes-registration;
+          indices = indices;
+          indices-registration = indices-registration;
+          dump = dump;
+          dump-memory = dump-memory;
+          other = unknown;
+        }
+
+pub demand2 : Demand2
+demand2 = record { numbers = numbers; statuses = by-token }

@@ -1,0 +1,157 @@
+-- Demand 2 of update-nodes: the exact condition of each status, and what an answer leaves.
+use mathlib.Core.Path.{_≡_, refl, sym, ap, _∙_}
+use mathlib.Core.Bool.{Bool, true, false, cond, _&&_, not}
+use mathlib.Core.List.{List, _++_}
+use mathlib.Core.Logic.{_⊎_}
+use Prim.Native.Nat.{ℕ, _+_, _*_, _-_, _%_, _≤_, _<_}
+use native.Mathlib.Omega.{arith}
+use lib.Dec.{leb, ltb, eqb}
+use borrow.Author.Tests.{ltb-true}
+use lib.ListN.{length, drop, getD, length-append}
+use lib.Seq.{getD-append-add, getD-drop}
+use Rattle.words.specs.Numbers.{Bytes, be32, wordBytes}
+use Rattle.words.proofs.Choice.{choose}
+use Rattle.words.proofs.Stores.{length-wordBytes}
+use Rattle.journal.specs.declared.operation.Operation.{Operation}
+use Rattle.journal.specs.Journal.{wellFormed}
+use Rattle.journal.specs.Scope.{negative, valid, rowOf}
+use Rattle.journal.specs.Reportable.{reportable}
+use Rattle.nodes.specs.Run.{cost, run, remains, nextState}
+use Rattle.nodes.specs.Area.{answer, written}
+use Rattle.nodes.specs.Claims.{Listed}
+use Rattle.nodes.specs.Reading.{read, reading}
+use Rattle.nodes.proofs.Claims.{area-claims}
+use Rattle.nodes.proofs.Runs.{length-body}
+use Rattle.calls.specs.declared.status.Status.{Status}
+use Rattle.calls.specs.Status.{statusWord}
+use Rattle.calls.specs.UpdateNodes.{areaAt, placed, reserved, goodState, areaStatus, nodesStatus, nodesMemory}
+use Rattle.calls.specs.Terms.{minus, Exactly}
+use Rattle.calls.specs.ExactNodes as exact
+use Rattle.calls.specs.ExactNodes.{ExactNodes}
+use Rattle.calls.proofs.Exactly.{equal, at-most, below, both, either, fails, same}
+use Rattle.calls.proofs.Ladder.{ladder, isMalformed, ladder-malformed, ladder-otherwise}
+use Rattle.calls.proofs.Areas.{state-within}
+use Rattle.calls.proofs.Calls.{Passed, passed-is, nodes-answers, nodes-status, nodes-memory, word-either}
+use Rattle.calls.proofs.Memory.{part-length, part-stored, written-length}
+use Rattle.calls.proofs.Carried.{state-of, written-head}
+
+-- ---- the checks in the paper's numerals
+
+placed-exact : (m : List ℕ) (address : ℕ) → Exactly (placed m address ≡ true) ((address % 4096 ≡ 0) × (address + 4096 ≤ length m))
+unfolding placed
+placed-exact m address = both (eqb (address % 4096) 0) (leb (address + 4096) (length m)) (equal (address % 4096) 0) (at-most (address + 4096) (length m))
+
+valid-exact : (scope : ℕ) → Exactly (valid scope ≡ true) ((2147483648 ≤ scope) ⊎ ((scope ≡ 1) ⊎ (scope ≡ 2)))
+unfolding valid negative
+valid-exact scope = either (leb 2147483648 scope) _ (at-most 2147483648 scope) (either (eqb scope 1) (eqb scope 2) (equal scope 1) (equal scope 2))
+
+state-exact : (row j area : List ℕ) → Exactly (goodState row j area ≡ true) ((be32 area 0 ≡ 0) ⊎ (be32 area 0 < length (reportable row j)))
+unfolding goodState
+state-exact row j area = either (eqb (be32 area 0) 0) (ltb (be32 area 0) (length (reportable row j))) (equal (be32 area 0) 0) (below (be32 area 0) (length (reportable row j)))
+
+asked-exact : (m : List ℕ) (address scope : ℕ) → Exactly ((placed m address && valid scope) ≡ true) (exact.Asked m address scope)
+asked-exact m address scope =
+    let e = both (placed m address) (valid scope) (placed-exact m address) (valid-exact scope) in
+    (λ h. let a = e .0 h in record { aligned = a .0 .0; inside = a .0 .1; scoped = a .1 }, λ a. e .1 ((a .aligned, a .inside), a .scoped))
+
+-- ---- the area that an answer leaves
+
+-- bytes behind the terminator
+behind : (area : List ℕ) (os : List Operation) (state k : ℕ) → 16 + 4 * cost (run os state) + 4 ≤ k → getD (written area os state) k 0 ≡ getD area k 0
+unfolding written answer
+behind area os state k h =
+    let front = wordBytes (answer os state) in
+    let size : length front ≡ 20 + 4 * cost (run os state) = simp (length-wordBytes, length-append, length-body) (omega arith) in
+    let there : k ≡ length front + (k - length front) = omega arith in
+    ap (λ (n : ℕ). getD (front ++ drop (length front) area) n 0) there
+    ∙ getD-append-add front (drop (length front) area) (k - length front) 0 ∙ getD-drop (length front) area (k - length front) 0 ∙ ap (λ (n : ℕ). getD area n 0) (sym there)
+
+next-small : (os : List Operation) (state : ℕ) → length os < 4294967296 → nextState os state < 4294967296
+unfolding nextState remains
+next-small os state h = choose (ltb (state + length (run os state)) (length os)) (λ (n : ℕ). n < 4294967296) (λ e. omega (arith, ltb-true (state + length (run os state)) (length os) e)) (λ _. omega arith)
+
+module _ (m j : List ℕ) (address scope : ℕ) where
+  abbrev area : List ℕ
+  area = areaAt m address
+
+  abbrev os : List Operation
+  os = reportable (rowOf scope) j
+
+  abbrev state : ℕ
+  state = be32 area 0
+
+  abbrev status : ℕ
+  status = statusWord (nodesStatus m address scope j)
+
+  abbrev after : List ℕ
+  after = nodesMemory m address scope j
+
+  status-is : nodesStatus m address scope j ≡ ladder (placed m address) (valid scope) (wellFormed j) (reserved area) (goodState (rowOf scope) j area) (remains os state)
+  unfolding nodesStatus areaStatus
+  status-is = refl
+
+  passed : status ≤ 1 → Passed m address scope j
+  passed h = passed-is m address scope j (at-most status 1 .1 h)
+
+  answered : Exactly (status ≤ 1) (exact.Asked m address scope × exact.Passed j area os)
+  unfolding reserved
+  answered = (
+    (λ h. let p = passed h in (
+      record { aligned = p .aligned; inside = p .inside; scoped = valid-exact scope .0 (p .scoped) },
+      record { formed = p .formed; clear = p .clear; begun = state-exact (rowOf scope) j area .0 (p .begun) },
+    )),
+    (λ h. at-most status 1 .0 (nodes-answers m address scope j (record {
+      aligned = h .0 .aligned;
+      inside = h .0 .inside;
+      scoped = valid-exact scope .1 (h .0 .scoped);
+      formed = h .1 .formed;
+      clear = h .1 .clear;
+      begun = state-exact (rowOf scope) j area .1 (h .1 .begun);
+    }))),
+  )
+
+  malformed : Exactly (status ≡ minus 1) (exact.Asked m address scope × (wellFormed j ≡ false))
+  malformed =
+      let test = ap isMalformed status-is ∙ ladder-malformed (placed m address) (valid scope) (wellFormed j) (reserved area) (goodState (rowOf scope) j area) (remains os state) in
+      same (eqb status 4294967295) ((placed m address && valid scope) && not (wellFormed j)) test (equal status 4294967295)
+      (both (placed m address && valid scope) (not (wellFormed j)) (asked-exact m address scope) (fails (wellFormed j)))
+
+  module _ (h : status ≤ 1) where
+    p : Passed m address scope j
+    p = passed h
+
+    within : state ≤ length os
+    within = state-within (rowOf scope) j area (p .begun)
+
+    size : length area ≡ 4096
+    size = part-length m address 4096 (p .inside)
+
+    -- the area afterwards
+    left-is : areaAt after address ≡ written area os state
+    left-is =
+        ap (λ (l : List ℕ). areaAt l address) (nodes-memory m address scope j p)
+        ∙ part-stored m address 4096 (p .inside) (written area os state) (written-length area os state size within)
+
+    answers : Bytes j → exact.Answer area (areaAt after address) os (run os state) state status
+    unfolding remains nextState
+    answers bytes =
+        let listed : Listed os = area-claims .reportable-listed (rowOf scope) j bytes (p .formed) in
+        rw left-is
+        (record {
+          longest = area-claims .longest-run os state;
+          remaining = ap statusWord (nodes-status m address scope j p) ∙ word-either (remains os state);
+          new-state = state-of (written area os state) (nextState os state) (written-head area os state) (next-small os state (listed .few));
+          unchanged = behind area os state;
+          reads-back = area-claims .round-trip area os state size listed within;
+        })
+
+  pub exact-nodes : ExactNodes m j address scope status after
+  unfolding nodesStatus areaStatus
+  exact-nodes =
+      record {
+        answered = answered;
+        malformed = malformed;
+        otherwise = ladder-otherwise (placed m address) (valid scope) (wellFormed j) (reserved area) (goodState (rowOf scope) j area) (remains os state);
+        answers = λ bytes h. answers h bytes;
+        memory = λ h. nodes-memory m address scope j (passed h);
+      }

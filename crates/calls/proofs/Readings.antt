@@ -1,0 +1,29 @@
+-- The table of readings, by one computed test.
+use Rattle.words.specs.Numbers.{be, le, beBytes, wordBytes, words, zeros}
+use Rattle.records.specs.Records.{lengthOf, kindOf, recordsFrom, records, whole, allGood, wellFormedBy}
+use Rattle.journal.specs.Journal.{goodFrame, nodeType, goodRecord, wellFormed, operationOf, entries}
+use Rattle.journal.specs.Scope.{negative, valid, rowOf}
+use Rattle.journal.specs.Reportable.{reports, chosen, reportable, operandWords}
+use Rattle.nodes.specs.Run.{present, cost, longest, run, remains, nextState}
+use Rattle.nodes.specs.Area.{operandsOf, body, answer, written}
+use Rattle.nodes.specs.Reading.{faultOf, verdict, operationsAt, reading}
+use Rattle.calls.specs.Lent.{partAt, withPart}
+use Rattle.calls.specs.UpdateNodes.{placed, reserved, goodState, areaStatus, areaAfter, nodesStatus, nodesMemory}
+use Rattle.inventory.specs.Inventory.{flagOf, typeOf, indexOf, codeOf, nonZero, goodCode}
+use Rattle.inventory.specs.Inventory as inventory
+use Rattle.inventory.specs.Listing as listing
+use Rattle.indices.specs.Area.{codeField, entryBytes, entriesBytes, fitting}
+use Rattle.indices.specs.Area as index-area
+use Rattle.indices.specs.Reading.{lengthAt, fieldAt, goodLength, goodField, faultAt, readFrom}
+use Rattle.indices.specs.Reading as index-reading
+use Rattle.calls.specs.GetIndices.{askable, lendable, goodNumber, dueFits, moreEntries, listStatus, indicesStatus, indicesMemory, nextNumber}
+use Rattle.words.specs.Nul.{untilNul}
+use Rattle.dump.specs.Structure.{goodHeader, eachSection, goodType, goodSection, requested, withoutDisk, goodPath, goodStructure}
+use Rattle.dump.specs.Registration.{acceptable, verdictOf, registrationAfter, padded}
+use Rattle.calls.specs.ConfigureDump.{dumpStatus}
+use Rattle.calls.specs.Buffer.{numberFor, asks, nodesOutcome, indicesOutcome, dumpOutcome, outcome, callOf}
+use Rattle.calls.specs.Readings.{Readings}
+
+pub readings : Readings
+unfolding be le beBytes wordBytes words zeros lengthOf kindOf recordsFrom records whole allGood wellFormedBy goodFrame nodeType goodRecord wellFormed operationOf entries negative valid rowOf reports chosen reportable operandWords present cost longest run remains nextState operandsOf body answer written faultOf verdict operationsAt reading partAt withPart placed reserved goodState areaStatus areaAfter nodesStatus nodesMemory flagOf typeOf indexOf codeOf nonZero goodCode inventory.goodRecord inventory.wellFormed listing.matches listing.chosen listing.listed codeField entryBytes entriesBytes fitting index-area.run index-area.answer index-area.written lengthAt fieldAt goodLength goodField faultAt readFrom index-reading.reading askable lendable goodNumber dueFits moreEntries listStatus indicesStatus indicesMemory nextNumber untilNul goodHeader eachSection goodType goodSection requested withoutDisk goodPath goodStructure acceptable verdictOf registrationAfter padded dumpStatus numberFor asks nodesOutcome indicesOutcome dumpOutcome outcome callOf
+readings = tt

@@ -1,0 +1,88 @@
+-- The sessions of the witnesses, by computing them.
+use mathlib.Core.Path.{_≡_, refl}
+use mathlib.Core.Bool.{Bool, true, _&&_, false≢true}
+use mathlib.Core.List.{List, [], _∷_}
+use Prim.Native.Nat.{ℕ, zero, suc}
+use native.Mathlib.Omega.{arith}
+use lib.Dec.{ltb}
+use borrow.Author.Tests.{ltb-true, leb-true}
+use Rattle.words.specs.Numbers.{Bytes, be, le, beBytes, wordBytes, zeros}
+use Rattle.words.proofs.Choice.{and-left, and-right}
+use Rattle.records.specs.Records.{records, recordsFrom, whole, allGood, wellFormedBy, lengthOf, kindOf}
+use Rattle.journal.specs.Journal.{goodFrame, nodeType, goodRecord, wellFormed, operationOf, entries}
+use Rattle.journal.specs.Scope.{negative, valid, rowOf}
+use Rattle.journal.specs.Reportable.{reports, chosen, reportable, operandWords}
+use Rattle.nodes.specs.Run.{present, cost, longest, run, remains, nextState}
+use Rattle.nodes.specs.Area.{operandsOf, body, answer, written}
+use Rattle.inventory.specs.Inventory.{flagOf, typeOf, indexOf, codeOf, nonZero, goodCode}
+use Rattle.inventory.specs.Inventory as inventory
+use Rattle.inventory.specs.Listing as listing
+use Rattle.indices.specs.Area.{codeField, entryBytes, entriesBytes, fitting}
+use Rattle.indices.specs.Area as index-area
+use Rattle.calls.specs.Lent.{partAt, withPart}
+use Rattle.calls.specs.UpdateNodes.{placed, reserved, goodState, areaStatus, areaAfter, nodesStatus, nodesMemory}
+use Rattle.calls.specs.GetIndices.{askable, lendable, goodNumber, dueFits, moreEntries, listStatus, indicesStatus, indicesMemory, nextNumber}
+use Rattle.calls.specs.Buffer.{numberFor, asks, nodesOutcome, indicesOutcome, outcome, callOf, answered}
+use Rattle.calls.specs.Account.{none, counted, passed}
+use Rattle.calls.specs.Session as nodes
+use Rattle.calls.specs.ListSession as indices
+use Rattle.calls.specs.Witnesses.{additions, nodesCall, NodesWitness, sensors, indicesCall, IndicesWitness}
+
+-- a list of bytes, tested element by element
+abbrev allBelow : List ℕ → Bool
+allBelow [] = true
+allBelow (x ∷ xs) = ltb x 256 && allBelow xs
+
+bytes-by : (s : List ℕ) → allBelow s ≡ true → Bytes s
+bytes-by [] e i = omega arith
+bytes-by (x ∷ xs) e zero = ltb-true x 256 (and-left _ _ e)
+bytes-by (x ∷ xs) e (suc i) = bytes-by xs (and-right (ltb x 256) _ e) i
+
+pub nodes-witness : NodesWitness
+unfolding be le beBytes wordBytes zeros records recordsFrom whole allGood wellFormedBy lengthOf kindOf goodFrame nodeType goodRecord wellFormed operationOf entries negative valid rowOf reports chosen reportable operandWords present cost longest run remains nextState operandsOf body answer written partAt withPart placed reserved goodState areaStatus areaAfter nodesStatus nodesMemory numberFor asks nodesOutcome outcome callOf answered nodes.after
+nodes-witness =
+    record {
+      bytes = bytes-by additions refl;
+      formed = refl;
+      scoped = refl;
+      session = (
+        (λ e. record { unfinished = refl; nodes = refl; of-scope = refl; carries = refl }),
+        (
+          (λ e. absurd (false≢true e)),
+          ((λ e. record { unfinished = refl; nodes = refl; of-scope = refl; carries = refl }), tt),
+        ),
+      );
+      refused = refl;
+      well-made =
+          counted {c = nodesCall 0 0} (record { nodes = refl; two-inputs = refl; one-output = refl; whole = omega arith; of-scope = refl; aligned = refl; inside = leb-true 4096 4096 refl; carries = refl })
+          (passed
+          (counted {c = nodesCall 0 509} (record { nodes = refl; two-inputs = refl; one-output = refl; whole = omega arith; of-scope = refl; aligned = refl; inside = leb-true 4096 4096 refl; carries = refl })
+          none));
+      enough = ltb-true 1020 2030 refl;
+      ended = refl;
+    }
+
+pub indices-witness : IndicesWitness
+unfolding be le beBytes wordBytes zeros records recordsFrom whole allGood wellFormedBy lengthOf kindOf flagOf typeOf indexOf codeOf nonZero goodCode inventory.goodRecord inventory.wellFormed listing.matches listing.chosen listing.listed codeField entryBytes entriesBytes fitting index-area.run index-area.answer index-area.written partAt withPart askable lendable goodNumber dueFits moreEntries listStatus indicesStatus indicesMemory nextNumber numberFor asks indicesOutcome outcome callOf answered indices.after
+indices-witness =
+    record {
+      bytes = bytes-by sensors refl;
+      formed = refl;
+      may = refl;
+      some = leb-true 1 2 refl;
+      session = (
+        (λ e. record { unfinished = refl; indices = refl; of-flag = refl; of-kind = refl; numbered = refl }),
+        (
+          (λ e. absurd (false≢true e)),
+          ((λ e. record { unfinished = refl; indices = refl; of-flag = refl; of-kind = refl; numbered = refl }), tt),
+        ),
+      );
+      refused = refl;
+      well-made =
+          counted {c = indicesCall 0 1} (record { indices = refl; five-inputs = refl; two-outputs = refl; whole = omega arith; of-flag = refl; of-kind = refl; numbered = refl; large = omega arith; below = omega arith; inside = omega arith })
+          (passed
+          (counted {c = indicesCall 8 2} (record { indices = refl; five-inputs = refl; two-outputs = refl; whole = omega arith; of-flag = refl; of-kind = refl; numbered = refl; large = omega arith; below = omega arith; inside = omega arith })
+          none));
+      enough = leb-true 2 2 refl;
+      ended = refl;
+    }

@@ -1,0 +1,95 @@
+-- What is claimed of every call and of every session of update-nodes, cited by the contract of `call`.
+use Prim.Native.Nat.{ℕ, _+_, _*_, _-_, _≤_, _<_}
+use mathlib.Core.Path.{_≡_}
+use mathlib.Core.Bool.{true, false}
+use mathlib.Core.List.{List}
+use mathlib.Core.Logic.{_⊎_}
+use lib.ListN.{length, take, getD}
+use lib.Seq.{sets}
+use Rattle.words.specs.Numbers.{Bytes, be32, beBytes}
+use Rattle.dump.specs.declared.registration.Registration.{Registration}
+use Rattle.journal.specs.Journal.{wellFormed}
+use Rattle.journal.specs.Scope.{valid, rowOf}
+use Rattle.journal.specs.Reportable.{reportable, operandWords}
+use Rattle.nodes.specs.Reading.{read}
+use Rattle.calls.specs.Status.{numberOf}
+use Rattle.calls.specs.Buffer.{Result, callOf}
+use Rattle.calls.specs.Terms.{minus, HasStatus, Refused, Asks, statusOf, Outside}
+use Rattle.calls.specs.ExactNodes.{ExactNodes}
+use Rattle.calls.specs.ExactIndices.{ExactIndices}
+use Rattle.calls.specs.ExactDump.{ExactDump}
+use Rattle.calls.specs.Account.{Among}
+use Rattle.calls.specs.Session.{Call, isAnswered, Standing, start, after, standing, Session, WellMade, readings, reported}
+
+-- A call finds an argument buffer b, memory m, a journal j, an inventory i and a registration r, and leaves x.
+
+-- ---- demand 1: "A refused call gives the status or refusal number .. a status is written in its word, and nothing else changes.
+-- No byte outside the output words and the named work area is written."
+
+pub record Confined (b m : List ℕ) (r : Registration) (x : Result) : Type 0 where
+  pub no-status : (HasStatus x → ⊥) → x .args ≡ b
+  pub refused-args : Refused b x → (k : ℕ) → Outside (12 + 4 * be32 b 4) 4 k → getD (x .args) k 0 ≡ getD b k 0
+  pub refused-memory : Refused b x → x .memory ≡ m
+  pub refused-registration : Refused b x → x .registration ≡ r
+  pub outside-outputs : (k : ℕ) → Outside (12 + 4 * be32 b 4) (4 * be32 b 8) k → getD (x .args) k 0 ≡ getD b k 0
+  pub outside-area : (k : ℕ) → (Asks 1 2 1 b → Outside (be32 b 12) 4096 k) → (Asks 2 5 2 b → Outside (be32 b 20) (be32 b 24) k)
+      → getD (x .memory) k 0 ≡ getD m k 0
+  pub args-length : length (x .args) ≡ length b
+  pub memory-length : length (x .memory) ≡ length m
+
+abbrev pub Demand1 : Type 0
+Demand1 = (b m j i : List ℕ) (r : Registration) → Confined b m r (callOf b m j i r)
+
+-- ---- demand 2: "each status is given exactly when document 01 says so. Reading what was written gives back the same entries."
+
+-- 01: "The 12-byte test comes first, then 12, then the declared size, then 11."
+pub record Numbered (b : List ℕ) (inputs outputs number : ℕ) : Type 0 where
+  pub no-head : length b < 12 → number ≡ 10
+  pub too-many : 12 ≤ length b → (16 < inputs) ⊎ (16 < outputs) → number ≡ 12
+  pub cut-off : 12 ≤ length b → inputs ≤ 16 → outputs ≤ 16 → length b < 12 + 4 * (inputs + outputs) → number ≡ 10
+  pub no-outputs : inputs ≤ 16 → 12 + 4 * (inputs + outputs) ≤ length b → outputs ≡ 0 → number ≡ 11
+  pub given : inputs ≤ 16 → outputs ≤ 16 → 12 + 4 * (inputs + outputs) ≤ length b → 1 ≤ outputs → number ≡ 0
+
+-- 01: "an unknown token or counts unlike the call's own give status -3", and nothing else changes
+pub record Unknown (b m : List ℕ) (r : Registration) (x : Result) : Type 0 where
+  pub args : x .args ≡ sets b (12 + 4 * be32 b 4) (beBytes 4 (minus 3))
+  pub memory : x .memory ≡ m
+  pub registration : x .registration ≡ r
+
+-- Where a status is in the buffer, it and all that the call leaves are those of the call's own rules at its inputs, by its token and counts.
+pub record ByToken (b m j i : List ℕ) (r : Registration) (x : Result) : Type 0 where
+  -- "Inputs: address, scope. One output."
+  pub nodes : Asks 1 2 1 b → ExactNodes m j (be32 b 12) (be32 b 16) (statusOf b x) (x .memory)
+  pub nodes-registration : Asks 1 2 1 b → x .registration ≡ r
+  -- "Inputs: indicator (0) or sensor (1), type, address, size, Starting Number. Outputs: status, Next Starting Number."
+  pub indices : Asks 2 5 2 b → ExactIndices m i (be32 b 12) (be32 b 16) (be32 b 20) (be32 b 24) (be32 b 28) (statusOf b x) (be32 (x .args) 36) (x .memory)
+  pub indices-registration : Asks 2 5 2 b → x .registration ≡ r
+  -- "Inputs: command, address, length."
+  pub dump : Asks 3 3 1 b → ExactDump m (be32 b 12) (be32 b 16) (be32 b 20) (statusOf b x) r (x .registration)
+  pub dump-memory : Asks 3 3 1 b → x .memory ≡ m
+  pub other : (Asks 1 2 1 b → ⊥) → (Asks 2 5 2 b → ⊥) → (Asks 3 3 1 b → ⊥) → Unknown b m r x
+
+pub record Demand2 : Type 0 where
+  pub numbers : (b m j i : List ℕ) (r : Registration) → Numbered b (be32 b 4) (be32 b 8) (numberOf (callOf b m j i r .number))
+  pub statuses : (b m j i : List ℕ) (r : Registration) → HasStatus (callOf b m j i r) → ByToken b m j i r (callOf b m j i r)
+
+-- ---- demand 3: "After every such list the answered calls' areas, read by document 01's rules, hold, in order, exactly the first k of that
+-- document's reportable list for the journal and scope, deletions first, each once."
+
+-- "If the operands of all reportable operations fill W words and n calls were answered, 1015 x (n - 1) < W, or n is at most 1 when W is zero."
+abbrev pub Bounded : ℕ → ℕ → Type 0
+Bounded W n = (0 < W → 1015 * (n - 1) < W) × (W ≡ 0 → n ≤ 1)
+
+pub record Accounted (j : List ℕ) (scope : ℕ) (st : Standing) : Type 0 where
+  pub handed : readings (st .areas) ≡ read (take (reported (reportable (rowOf scope) j) st) (reportable (rowOf scope) j))
+  pub bounded : Bounded (operandWords (reportable (rowOf scope) j)) (length (st .areas))
+  -- "Until one says done, no well-made call that carries those sixteen bytes is refused"
+  pub answers : st .done ≡ false → (c : Call) → WellMade scope st c → isAnswered j c ≡ true
+
+-- "so the session ends": it is done once 1015 times the calls that were well made when they came are more than W
+abbrev pub Ends : List ℕ → ℕ → List Call → Type 0
+Ends j scope cs = (n : ℕ) → Among (after j) (WellMade scope) start cs n → operandWords (reportable (rowOf scope) j) < 1015 * n → standing j start cs .done ≡ true
+
+abbrev pub Demand3 : Type 0
+Demand3 = (j : List ℕ) (scope : ℕ) → Bytes j → wellFormed j ≡ true → valid scope ≡ true → (cs : List Call) → Session j scope start cs
+    → Accounted j scope (standing j start cs) × Ends j scope cs

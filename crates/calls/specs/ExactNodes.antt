@@ -1,0 +1,60 @@
+-- Demand 2 of update-nodes: each status exactly when, and what an answer leaves (document 01, "update-nodes").
+use Prim.Native.Nat.{ℕ, _+_, _*_, _%_, _≤_, _<_}
+use mathlib.Core.Path.{_≡_}
+use mathlib.Core.Bool.{true, false, cond}
+use mathlib.Core.List.{List}
+use mathlib.Core.Logic.{_⊎_}
+use lib.Dec.{ltb}
+use lib.ListN.{length, drop, getD}
+use lib.Seq.{slice}
+use Rattle.words.specs.Numbers.{Bytes, be32, zeros}
+use Rattle.journal.specs.declared.operation.Operation.{Operation}
+use Rattle.journal.specs.Journal.{wellFormed}
+use Rattle.journal.specs.Scope.{rowOf}
+use Rattle.journal.specs.Reportable.{reportable}
+use Rattle.nodes.specs.Run.{cost, run}
+use Rattle.nodes.specs.Longest.{LongestOf}
+use Rattle.nodes.specs.Area.{written}
+use Rattle.nodes.specs.Reading.{read, reading}
+use Rattle.calls.specs.Lent.{partAt, withPart}
+use Rattle.calls.specs.Terms.{minus, Exactly}
+
+-- 01: "Checks in order: address a multiple of 4,096 and the area inside memory (-3); scope (-3);"
+pub record Asked (m : List ℕ) (address scope : ℕ) : Type 0 where
+  pub aligned : address % 4096 ≡ 0
+  pub inside : address + 4096 ≤ length m
+  pub scoped : (2147483648 ≤ scope) ⊎ ((scope ≡ 1) ⊎ (scope ≡ 2))
+
+-- "journal (-1); bytes 4 to 15 of the area zero (-3); state (-3). The state is 0, or above 0 and below the length of the reportable list."
+pub record Passed (j area : List ℕ) (os : List Operation) : Type 0 where
+  pub formed : wellFormed j ≡ true
+  pub clear : zeros (slice 4 16 area) ≡ true
+  pub begun : (be32 area 0 ≡ 0) ⊎ (be32 area 0 < length os)
+
+-- what an answer that hands out a run of operations from a state on leaves where an area stood
+pub record Answer (area left : List ℕ) (os handed : List Operation) (state status : ℕ) : Type 0 where
+  -- "The call hands out the longest run of operations, from the state on, that fits 1,019 words."
+  pub longest : LongestOf (drop state os) handed
+  -- "Status 1 when operations remain, otherwise 0."
+  pub remaining : status ≡ cond (ltb (state + length handed) (length os)) 1 0
+  -- "new state (0 when nothing remains)"
+  pub new-state : be32 left 0 ≡ cond (ltb (state + length handed) (length os)) (state + length handed) 0
+  -- "Bytes after the terminator stay unchanged."
+  pub unchanged : (k : ℕ) → 16 + 4 * cost handed + 4 ≤ k → getD left k 0 ≡ getD area k 0
+  -- "Reading what was written gives back the same entries."
+  pub reads-back : reading left ≡ read handed
+
+-- the call at its inputs: the status that it gives, and memory before and after
+pub record ExactNodes (m j : List ℕ) (address scope status : ℕ) (after : List ℕ) : Type 0 where
+  pub answered :
+      let area = partAt m address 4096 in
+      Exactly (status ≤ 1) (Asked m address scope × Passed j area (reportable (rowOf scope) j))
+  pub malformed : Exactly (status ≡ minus 1) (Asked m address scope × (wellFormed j ≡ false))
+  pub otherwise : (status ≤ 1 → ⊥) → (status ≡ minus 1 → ⊥) → status ≡ minus 3
+  pub answers : Bytes j → status ≤ 1 →
+      let area = partAt m address 4096 in
+      let os = reportable (rowOf scope) j in
+      Answer area (partAt after address 4096) os (run os (be32 area 0)) (be32 area 0) status
+  pub memory : status ≤ 1 →
+      let area = partAt m address 4096 in
+      after ≡ withPart m address 4096 (written area (reportable (rowOf scope) j) (be32 area 0))

@@ -1,0 +1,78 @@
+-- Sessions of which the claims speak, so that none of these is empty; cited by the contract of `call`. In each, two calls are well made when they
+-- come, one between them is refused, and the second says done.
+use Prim.Native.Nat.{ℕ, _*_, _≤_, _<_}
+use mathlib.Core.Path.{_≡_}
+use mathlib.Core.Bool.{true, false}
+use mathlib.Core.List.{List, [], _∷_, _++_}
+use lib.ListN.{length, replicate}
+use Rattle.words.specs.Numbers.{Bytes, wordBytes}
+use Rattle.dump.specs.Registration.{noRegistration}
+use Rattle.dump.specs.Claims.{times}
+use Rattle.journal.specs.Journal.{wellFormed}
+use Rattle.journal.specs.Scope.{valid, rowOf}
+use Rattle.journal.specs.Reportable.{reportable, operandWords}
+use Rattle.journal.specs.Claims.{long}
+use Rattle.inventory.specs.Inventory as inventory
+use Rattle.inventory.specs.Listing.{listed}
+use Rattle.calls.specs.GetIndices.{askable}
+use Rattle.calls.specs.Account.{Among}
+use Rattle.calls.specs.Session as nodes
+use Rattle.calls.specs.ListSession as indices
+use Rattle.calls.specs.Readings.{inventoryOf}
+
+-- ---- demand 3: 510 additions, of which an area holds 509
+
+abbrev pub additions : List ℕ
+additions = times 510 (long 12 3 10)
+
+-- a call of scope 1 with a work area at an address, over 4,096 bytes of memory that begin with a state
+abbrev pub nodesCall : ℕ → ℕ → nodes.Call
+nodesCall address state = record {
+  args = wordBytes (1 ∷ 2 ∷ 1 ∷ address ∷ 1 ∷ 99 ∷ []);
+  memory = wordBytes (state ∷ 0 ∷ 0 ∷ 0 ∷ []) ++ replicate 4080 9;
+  inventory = [];
+  registration = noRegistration;
+}
+
+-- the area of the second is past memory's end
+abbrev pub nodesCalls : List nodes.Call
+nodesCalls = nodesCall 0 0 ∷ nodesCall 4096 0 ∷ nodesCall 0 509 ∷ []
+
+pub record NodesWitness : Type 0 where
+  pub bytes : Bytes additions
+  pub formed : wellFormed additions ≡ true
+  pub scoped : valid 1 ≡ true
+  pub session : nodes.Session additions 1 nodes.start nodesCalls
+  pub refused : nodes.isAnswered additions (nodesCall 4096 0) ≡ false
+  pub well-made : Among (nodes.after additions) (nodes.WellMade 1) nodes.start nodesCalls 2
+  pub enough : operandWords (reportable (rowOf 1) additions) < 1015 * 2
+  pub ended : nodes.standing additions nodes.start nodesCalls .done ≡ true
+
+-- ---- the whole list: two sensors of type 9 with codes of 79 bytes, of which an area of 92 bytes holds one
+
+abbrev pub sensors : List ℕ
+sensors = inventoryOf (79 ∷ 79 ∷ [])
+
+-- a call for them with such an area at an address, over 100 bytes of memory, and a Starting Number
+abbrev pub indicesCall : ℕ → ℕ → indices.Call
+indicesCall address number = record {
+  args = wordBytes (2 ∷ 5 ∷ 2 ∷ 1 ∷ 9 ∷ address ∷ 92 ∷ number ∷ 99 ∷ 99 ∷ []);
+  memory = replicate 100 7;
+  journal = [];
+  registration = noRegistration;
+}
+
+-- the area of the second ends past memory's end
+abbrev pub indicesCalls : List indices.Call
+indicesCalls = indicesCall 0 1 ∷ indicesCall 9 2 ∷ indicesCall 8 2 ∷ []
+
+pub record IndicesWitness : Type 0 where
+  pub bytes : Bytes sensors
+  pub formed : inventory.wellFormed sensors ≡ true
+  pub may : askable 1 9 ≡ true
+  pub some : 1 ≤ length (listed 1 9 sensors)
+  pub session : indices.Session sensors 1 9 indices.start indicesCalls
+  pub refused : indices.isAnswered sensors (indicesCall 9 2) ≡ false
+  pub well-made : Among (indices.after sensors) (indices.WellMade 1 9) indices.start indicesCalls 2
+  pub enough : length (listed 1 9 sensors) ≤ 2
+  pub ended : indices.standing sensors indices.start indicesCalls .done ≡ true
