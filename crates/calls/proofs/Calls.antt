@@ -11,7 +11,6 @@ use lib.Seq.{sets, length-sets}
 use Rattle.words.specs.Numbers.{be, be32, beBytes, wordBytes}
 use Rattle.words.proofs.Numbers.{be-same, length-beBytes}
 use Rattle.words.proofs.Stores.{sets-before, sets-append, be-stored}
-use Rattle.dump.specs.declared.registration.Registration.{Registration}
 use Rattle.journal.specs.declared.operation.Operation.{Operation}
 use Rattle.journal.specs.Journal.{wellFormed}
 use Rattle.journal.specs.Scope.{valid, rowOf}
@@ -23,7 +22,7 @@ use Rattle.calls.specs.declared.status.Status.{Status}
 use Rattle.calls.specs.declared.status.Status.the-variants.{Done, Again, Malformed, Parameter, AlreadyRegistered, DumpActive}
 use Rattle.calls.specs.Status.{isGiven, isAnswer, statusWord}
 use Rattle.calls.specs.UpdateNodes.{areaAt, withArea, placed, reserved, goodState, areaStatus, areaAfter, nodesStatus, nodesMemory}
-use Rattle.calls.specs.Buffer.{token, input, statusAt, numberFor, isNodes, Outcome, nodesOutcome, outcome, Result, callOf, answered}
+use Rattle.calls.specs.Buffer.{token, input, statusAt, numberFor, isNodes, Outcome, nodesOutcome, outcome, Found, Left, callOf, answered}
 use Rattle.calls.proofs.Heads.{whole-buffer, asked, unchanged, carried-out, outcome-ways, nodes-outcome}
 use Rattle.calls.proofs.Areas.{placed-inside}
 
@@ -133,21 +132,27 @@ second-stored l at w v ws h =
 pub status-inside : (b : List ℕ) → isGiven (numberFor b) ≡ true → statusAt b + 4 ≤ length b
 status-inside b e = let w = whole-buffer b e in omega arith
 
-module _ (b m j i : List ℕ) (r : Registration) where
-  abbrev called : Result
-  called = callOf b m j i r
+module _ (c : Found) where
+  abbrev b : List ℕ
+  b = c .args
+
+  abbrev m : List ℕ
+  m = c .memory
+
+  abbrev j : List ℕ
+  j = c .journal
 
   -- the status word that a call leaves
-  pub status-word : isGiven (numberFor b) ≡ true → be32 (called .args) (statusAt b) ≡ statusWord (outcome b m j i r .status)
-  status-word e = let x = outcome b m j i r in
-      rw (carried-out b m j i r e) (first-stored b (statusAt b) (statusWord (x .status)) (x .more) (status-inside b e) ∙ word-fits (x .status))
+  pub status-word : isGiven (numberFor b) ≡ true → be32 (callOf c .args) (statusAt b) ≡ statusWord (outcome c .status)
+  status-word e = let x = outcome c in
+      rw (carried-out c e) (first-stored b (statusAt b) (statusWord (x .status)) (x .more) (status-inside b e) ∙ word-fits (x .status))
 
   -- a call is answered where a status is given and is 0 or 1
-  pub answered-by : answered b called ≡ (isGiven (numberFor b) && isAnswer (outcome b m j i r .status))
+  pub answered-by : answered b (callOf c) ≡ (isGiven (numberFor b) && isAnswer (outcome c .status))
   unfolding answered
   answered-by = decide (isGiven (numberFor b))
-      (λ e. rw (ap (λ (x : Result). x .number) (carried-out b m j i r e), e) (ap (λ (n : ℕ). leb n 1) (status-word e)))
-      (λ e. rw (unchanged b m j i r e, e))
+      (λ e. rw (ap (λ (x : Left). x .number) (carried-out c e), e) (ap (λ (n : ℕ). leb n 1) (status-word e)))
+      (λ e. rw (unchanged c e, e))
 
   abbrev at : ℕ
   at = input b 0
@@ -158,28 +163,28 @@ module _ (b m j i : List ℕ) (r : Registration) where
   -- what an answered update-nodes call leaves
   pub record Answered : Type 0 where
     pub passed : Passed m at scope j
-    pub memory : called .memory ≡ withArea m at (written (areaAt m at) (listed scope j) (state m at))
-    pub status : be32 (called .args) (statusAt b) ≡ cond (remains (listed scope j) (state m at)) 1 0
+    pub memory : (callOf c) .memory ≡ withArea m at (written (areaAt m at) (listed scope j) (state m at))
+    pub status : be32 (callOf c .args) (statusAt b) ≡ cond (remains (listed scope j) (state m at)) 1 0
 
   -- an answered call with its token has its counts
-  nodes-only : token b ≡ 1 → isAnswer (outcome b m j i r .status) ≡ true → isNodes b ≡ true
-  nodes-only n = outcome-ways b m j i r (λ (o : Outcome). isAnswer (o .status) ≡ true → isNodes b ≡ true)
+  nodes-only : token b ≡ 1 → isAnswer (outcome c .status) ≡ true → isNodes b ≡ true
+  nodes-only n = outcome-ways c (λ (o : Outcome). isAnswer (o .status) ≡ true → isNodes b ≡ true)
       (λ e _. e) (λ e _. absurd (omega (arith, n, asked 2 5 2 b e))) (λ e _. absurd (omega (arith, n, asked 3 3 1 b e))) (λ h. absurd (false≢true h))
 
-  pub answered-is : token b ≡ 1 → answered b called ≡ true → Answered
+  pub answered-is : token b ≡ 1 → answered b (callOf c) ≡ true → Answered
   unfolding nodesOutcome
   answered-is n h =
       let both = sym answered-by ∙ h in
       let given = and-left _ _ both in
       let good = and-right (isGiven (numberFor b)) _ both in
-      let work = nodes-outcome b m j i r (nodes-only n good) in
+      let work = nodes-outcome c (nodes-only n good) in
       let passed : Passed m at scope j = passed-is m at scope j (rw work at good) in
       record {
         passed = passed;
-        memory = rw (carried-out b m j i r given, work) (nodes-memory m at scope j passed);
+        memory = rw (carried-out c given, work) (nodes-memory m at scope j passed);
         status = status-word given ∙ rw (work, nodes-status m at scope j passed) (word-either (remains (listed scope j) (state m at)));
       }
 
-  pub will-answer : isGiven (numberFor b) ≡ true → isNodes b ≡ true → Passed m at scope j → answered b called ≡ true
+  pub will-answer : isGiven (numberFor b) ≡ true → isNodes b ≡ true → Passed m at scope j → answered b (callOf c) ≡ true
   unfolding nodesOutcome
-  will-answer g n p = answered-by ∙ rw (g, nodes-outcome b m j i r n) (nodes-answers m at scope j p)
+  will-answer g n p = answered-by ∙ rw (g, nodes-outcome c n) (nodes-answers m at scope j p)

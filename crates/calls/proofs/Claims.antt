@@ -5,8 +5,8 @@ use Rattle.calls.specs.Witnesses.{NodesWitness, IndicesWitness}
 use Rattle.calls.specs.Readings.{Readings}
 use Rattle.calls.proofs.Confined.{demand1}
 use Rattle.calls.proofs.Exact.{demand2}
-use Rattle.calls.proofs.Sessions.{demand3}
-use Rattle.calls.proofs.ListSessions.{whole-list}
+use Rattle.calls.proofs.NodeSessions.{demand3}
+use Rattle.calls.proofs.IndexSessions.{whole-list}
 use Rattle.calls.proofs.Witnesses.{nodes-witness, indices-witness}
 use Rattle.calls.proofs.Readings.{readings}
 

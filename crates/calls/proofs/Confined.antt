@@ -18,7 +18,7 @@ use Rattle.calls.specs.declared.status.Number.the-variants.{Given}
 use Rattle.calls.specs.declared.status.Status.the-variants.{Done, Again, Malformed, Parameter}
 use Rattle.calls.specs.Status.{numberOf, isGiven, isAnswer, statusWord}
 use Rattle.calls.specs.UpdateNodes.{areaAt, withArea, placed, reserved, goodState, areaStatus, areaAfter, nodesStatus, nodesMemory}
-use Rattle.calls.specs.Buffer.{outputs, input, statusAt, numberFor, isNodes, isIndices, isDump, requestOf, Outcome, nodesOutcome, indicesOutcome, dumpOutcome, refusal, outcome, Result, callOf}
+use Rattle.calls.specs.Buffer.{outputs, input, statusAt, numberFor, isNodes, isIndices, isDump, requestOf, Outcome, nodesOutcome, indicesOutcome, dumpOutcome, refusal, outcome, Found, leaves, Left, callOf}
 use Rattle.calls.specs.Terms.{HasStatus, Refused, Asks, Outside}
 use Rattle.calls.specs.Demands.{Confined, Demand1}
 use Rattle.calls.proofs.Areas.{placed-inside, state-within, nodes-checked}
@@ -97,16 +97,31 @@ module _ (m : List ℕ) (address scope : ℕ) (j : List ℕ) where
 -- ---- a call's own work
 
 -- What a call's own work keeps: without an answer nothing else than the status changes, and no byte outside its outputs and its area does.
-record Proper (b m : List ℕ) (r : Registration) (o : Outcome) : Type 0 where
-  outputs-hold : length (o .more) < outputs b
+record Proper (c : Found) (o : Outcome) : Type 0 where
+  outputs-hold : length (o .more) < outputs (c .args)
   refused-more : isAnswer (o .status) ≡ false → o .more ≡ []
-  refused-memory : isAnswer (o .status) ≡ false → o .memory ≡ m
-  refused-registration : isAnswer (o .status) ≡ false → o .registration ≡ r
-  beside : (k : ℕ) → (Asks 1 2 1 b → Outside (be32 b 12) 4096 k) → (Asks 2 5 2 b → Outside (be32 b 20) (be32 b 24) k) → getD (o .memory) k 0 ≡ getD m k 0
-  size : length (o .memory) ≡ length m
+  refused-memory : isAnswer (o .status) ≡ false → o .memory ≡ c .memory
+  refused-registration : isAnswer (o .status) ≡ false → o .registration ≡ c .registration
+  beside : (k : ℕ) → (Asks 1 2 1 (c .args) → Outside (be32 (c .args) 12) 4096 k) → (Asks 2 5 2 (c .args) → Outside (be32 (c .args) 20) (be32 (c .args) 24) k) → getD (o .memory) k 0 ≡ getD (c .memory) k 0
+  size : length (o .memory) ≡ length (c .memory)
 
-module _ (b m j i : List ℕ) (r : Registration) where
-  nodes-proper : isNodes b ≡ true → Proper b m r (nodesOutcome b m j r)
+module _ (c : Found) where
+  abbrev b : List ℕ
+  b = c .args
+
+  abbrev m : List ℕ
+  m = c .memory
+
+  abbrev j : List ℕ
+  j = c .journal
+
+  abbrev i : List ℕ
+  i = c .inventory
+
+  abbrev r : Registration
+  r = c .registration
+
+  nodes-proper : isNodes b ≡ true → Proper c (nodesOutcome c)
   unfolding nodesOutcome
   nodes-proper e =
       record {
@@ -122,7 +137,7 @@ module _ (b m j i : List ℕ) (r : Registration) where
   one-more true n = omega arith
   one-more false n = omega arith
 
-  indices-proper : isIndices b ≡ true → Proper b m r (indicesOutcome b m i r)
+  indices-proper : isIndices b ≡ true → Proper c (indicesOutcome c)
   unfolding indicesOutcome
   indices-proper e =
       let q = requestOf b in
@@ -146,7 +161,7 @@ module _ (b m j i : List ℕ) (r : Registration) where
       go verdict.AlreadyRegistered e = refl
       go verdict.DumpActive e = refl
 
-  dump-proper : isDump b ≡ true → Proper b m r (dumpOutcome b m r)
+  dump-proper : isDump b ≡ true → Proper c (dumpOutcome c)
   unfolding dumpOutcome
   dump-proper e =
       record {
@@ -158,15 +173,15 @@ module _ (b m j i : List ℕ) (r : Registration) where
         size = refl;
       }
 
-  refusal-proper : 0 < outputs b → Proper b m r (refusal m r)
+  refusal-proper : 0 < outputs b → Proper c (refusal c)
   refusal-proper h =
       record { outputs-hold = h; refused-more = λ _. refl; refused-memory = λ _. refl; refused-registration = λ _. refl; beside = λ _ _ _. refl; size = refl }
 
   abbrev o : Outcome
-  o = outcome b m j i r
+  o = outcome c
 
-  proper : 0 < outputs b → Proper b m r o
-  proper h = outcome-ways b m j i r (Proper b m r) nodes-proper indices-proper dump-proper (refusal-proper h)
+  proper : 0 < outputs b → Proper c o
+  proper h = outcome-ways c (Proper c) nodes-proper indices-proper dump-proper (refusal-proper h)
 
   -- ---- the call
 
@@ -174,34 +189,34 @@ module _ (b m j i : List ℕ) (r : Registration) where
   stored = wordBytes (statusWord (o .status) ∷ o .more)
 
   -- the ways of a call: nothing changes, or the outputs are stored and the rest is as the call's own work leaves it
-  call-ways : (P : Result → Type 0) → (isGiven (numberFor b) ≡ false → P (record { number = numberFor b; args = b; memory = m; registration = r }))
-      → (isGiven (numberFor b) ≡ true → Proper b m r o → P (record { number = Given; args = sets b (statusAt b) stored; memory = o .memory; registration = o .registration })) → P (callOf b m j i r)
+  call-ways : (P : Left → Type 0) → (isGiven (numberFor b) ≡ false → P (leaves (numberFor b) b m r))
+      → (isGiven (numberFor b) ≡ true → Proper c o → P (leaves Given (sets b (statusAt b) stored) (o .memory) (o .registration))) → P (callOf c)
   call-ways P f g = decide (isGiven (numberFor b))
-      (λ e. rw (carried-out b m j i r e) (g e (proper (whole-buffer b e .some-output))))
-      (λ e. rw (unchanged b m j i r e) (f e))
+      (λ e. rw (carried-out c e) (g e (proper (whole-buffer b e .some-output))))
+      (λ e. rw (unchanged c e) (f e))
 
   -- a refused call's own work is refused
-  refused-own : Refused b (callOf b m j i r) → isGiven (numberFor b) ≡ true → isAnswer (o .status) ≡ false
+  refused-own : Refused b (callOf c) → isGiven (numberFor b) ≡ true → isAnswer (o .status) ≡ false
   refused-own h e = decide (isAnswer (o .status))
-      (λ a. absurd (h (ap (λ (x : Result). numberOf (x .number)) (carried-out b m j i r e)) (leb-true _ 1 (ap (λ (n : ℕ). leb n 1) (status-word b m j i r e) ∙ a)))) (λ a. a)
+      (λ a. absurd (h (ap (λ (x : Left). numberOf (x .number)) (carried-out c e)) (leb-true _ 1 (ap (λ (n : ℕ). leb n 1) (status-word c e) ∙ a)))) (λ a. a)
 
   -- bytes outside of words that were stored
   words-outside : (ws : List ℕ) (k n : ℕ) → length ws ≤ n → Outside (statusAt b) (4 * n) k → getD (sets b (statusAt b) (wordBytes ws)) k 0 ≡ getD b k 0
   words-outside ws k n h = ⊎-elim (sets-before (wordBytes ws) b (statusAt b) k) (λ g. sets-after (wordBytes ws) b (statusAt b) k (omega (arith, length-wordBytes ws)))
 
-  confined : Confined b m r (callOf b m j i r)
+  confined : Confined c (callOf c)
   confined =
       record {
-        no-status = call-ways (λ (x : Result). (HasStatus x → ⊥) → x .args ≡ b) (λ _ _. refl) (λ _ _ h. absurd (h refl));
-        refused-args = λ h k n. call-ways (λ (x : Result). getD (x .args) k 0 ≡ getD b k 0) (λ _. refl)
+        no-status = call-ways (λ (x : Left). (HasStatus x → ⊥) → x .args ≡ b) (λ _ _. refl) (λ _ _ h. absurd (h refl));
+        refused-args = λ h k n. call-ways (λ (x : Left). getD (x .args) k 0 ≡ getD b k 0) (λ _. refl)
             (λ e p. rw (p .refused-more (refused-own h e)) (words-outside (statusWord (o .status) ∷ []) k 1 (omega arith) n));
-        refused-memory = λ h. call-ways (λ (x : Result). x .memory ≡ m) (λ _. refl) (λ e p. p .refused-memory (refused-own h e));
-        refused-registration = λ h. call-ways (λ (x : Result). x .registration ≡ r) (λ _. refl) (λ e p. p .refused-registration (refused-own h e));
-        outside-outputs = λ k n. call-ways (λ (x : Result). getD (x .args) k 0 ≡ getD b k 0) (λ _. refl)
+        refused-memory = λ h. call-ways (λ (x : Left). x .memory ≡ m) (λ _. refl) (λ e p. p .refused-memory (refused-own h e));
+        refused-registration = λ h. call-ways (λ (x : Left). x .registration ≡ r) (λ _. refl) (λ e p. p .refused-registration (refused-own h e));
+        outside-outputs = λ k n. call-ways (λ (x : Left). getD (x .args) k 0 ≡ getD b k 0) (λ _. refl)
             (λ e p. words-outside (statusWord (o .status) ∷ o .more) k (outputs b) (omega (arith, p .outputs-hold)) n);
-        outside-area = λ k f g. call-ways (λ (x : Result). getD (x .memory) k 0 ≡ getD m k 0) (λ _. refl) (λ e p. p .beside k f g);
-        args-length = call-ways (λ (x : Result). length (x .args) ≡ length b) (λ _. refl) (λ _ _. length-sets b (statusAt b) stored);
-        memory-length = call-ways (λ (x : Result). length (x .memory) ≡ length m) (λ _. refl) (λ e p. p .size);
+        outside-area = λ k f g. call-ways (λ (x : Left). getD (x .memory) k 0 ≡ getD m k 0) (λ _. refl) (λ e p. p .beside k f g);
+        args-length = call-ways (λ (x : Left). length (x .args) ≡ length b) (λ _. refl) (λ _ _. length-sets b (statusAt b) stored);
+        memory-length = call-ways (λ (x : Left). length (x .memory) ≡ length m) (λ _. refl) (λ e p. p .size);
       }
 
 pub demand1 : Demand1

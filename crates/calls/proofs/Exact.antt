@@ -10,11 +10,10 @@ use lib.Dec.{ltb}
 use lib.ListN.{length}
 use Rattle.words.specs.Numbers.{be32}
 use Rattle.words.proofs.Stores.{wordBytes-one}
-use Rattle.dump.specs.declared.registration.Registration.{Registration}
 use Rattle.calls.specs.declared.status.Number.{Number}
 use Rattle.calls.specs.declared.status.Number.the-variants.{Given, Short, NoOutputs, TooMany}
 use Rattle.calls.specs.Status.{numberOf, isGiven, statusWord}
-use Rattle.calls.specs.Buffer.{inputs, outputs, requestOf, statusAt, numberFor, asks, Result, Outcome, nodesOutcome, indicesOutcome, dumpOutcome, refusal, outcome, callOf}
+use Rattle.calls.specs.Buffer.{inputs, outputs, requestOf, statusAt, numberFor, asks, Found, Left, Outcome, nodesOutcome, indicesOutcome, dumpOutcome, refusal, outcome, callOf}
 use Rattle.calls.specs.GetIndices.{indicesStatus, nextNumber}
 use Rattle.calls.specs.Terms.{HasStatus, Asks, statusOf}
 use Rattle.calls.specs.ExactNodes.{ExactNodes}
@@ -57,14 +56,23 @@ zero-given Short e = absurd (omega (arith, e))
 zero-given NoOutputs e = absurd (omega (arith, e))
 zero-given TooMany e = absurd (omega (arith, e))
 
-module _ (b m j i : List ℕ) (r : Registration) where
-  abbrev x : Result
-  x = callOf b m j i r
+module _ (c : Found) where
+  abbrev b : List ℕ
+  b = c .args
+
+  abbrev m : List ℕ
+  m = c .memory
+
+  abbrev i : List ℕ
+  i = c .inventory
+
+  abbrev x : Left
+  x = callOf c
 
   number-is : x .number ≡ numberFor b
   number-is = decide (isGiven (numberFor b))
-      (λ e. ap (λ (y : Result). y .number) (carried-out b m j i r e) ∙ sym (given-number (numberFor b) e))
-      (λ e. ap (λ (y : Result). y .number) (unchanged b m j i r e))
+      (λ e. ap (λ (y : Left). y .number) (carried-out c e) ∙ sym (given-number (numberFor b) e))
+      (λ e. ap (λ (y : Left). y .number) (unchanged c e))
 
   numbers : Numbered b (be32 b 4) (be32 b 8) (numberOf (x .number))
   numbers = rw number-is (numbered b)
@@ -76,15 +84,15 @@ module _ (b m j i : List ℕ) (r : Registration) where
     given = zero-given (numberFor b) (ap numberOf (sym number-is) ∙ zero-is)
 
     -- what is left where a call's own work is known
-    module _ (o : Outcome) (e : outcome b m j i r ≡ o) where
+    module _ (o : Outcome) (e : outcome c ≡ o) where
       status-is : statusOf b x ≡ statusWord (o .status)
-      status-is = status-word b m j i r given ∙ ap (λ (y : Outcome). statusWord (y .status)) e
+      status-is = status-word c given ∙ ap (λ (y : Outcome). statusWord (y .status)) e
 
       memory-is : x .memory ≡ o .memory
-      memory-is = ap (λ (y : Result). y .memory) (carried-out b m j i r given) ∙ ap (λ (y : Outcome). y .memory) e
+      memory-is = ap (λ (y : Left). y .memory) (carried-out c given) ∙ ap (λ (y : Outcome). y .memory) e
 
       registration-is : x .registration ≡ o .registration
-      registration-is = ap (λ (y : Result). y .registration) (carried-out b m j i r given) ∙ ap (λ (y : Outcome). y .registration) e
+      registration-is = ap (λ (y : Left). y .registration) (carried-out c given) ∙ ap (λ (y : Outcome). y .registration) e
 
     asks-is : (t n k : ℕ) → Asks t n k b → asks t n k b ≡ true
     unfolding asks
@@ -94,70 +102,49 @@ module _ (b m j i : List ℕ) (r : Registration) where
     asks-not t n k h = decide (asks t n k b) (λ e. absurd (h (asked t n k b e))) (λ e. e)
 
     module _ (h : Asks 1 2 1 b) where
-      own-nodes : outcome b m j i r ≡ nodesOutcome b m j r
-      own-nodes = nodes-outcome b m j i r (asks-is 1 2 1 h)
+      own-nodes : outcome c ≡ nodesOutcome c
+      own-nodes = nodes-outcome c (asks-is 1 2 1 h)
 
-      nodes : ExactNodes m j (be32 b 12) (be32 b 16) (statusOf b x) (x .memory)
+      nodes : ExactNodes m (c .journal) (be32 b 12) (be32 b 16) (statusOf b x) (x .memory) × (x .registration ≡ c .registration)
       unfolding nodesOutcome
-      nodes = rw (status-is (nodesOutcome b m j r) own-nodes, memory-is (nodesOutcome b m j r) own-nodes) (exact-nodes m j (be32 b 12) (be32 b 16))
-
-      nodes-registration : x .registration ≡ r
-      unfolding nodesOutcome
-      nodes-registration = registration-is (nodesOutcome b m j r) own-nodes
+      nodes = (rw (status-is (nodesOutcome c) own-nodes, memory-is (nodesOutcome c) own-nodes) (exact-nodes m (c .journal) (be32 b 12) (be32 b 16)), registration-is (nodesOutcome c) own-nodes)
 
     module _ (h : Asks 2 5 2 b) where
-      own-indices : outcome b m j i r ≡ indicesOutcome b m i r
-      own-indices = indices-outcome b m j i r (asks-is 2 5 2 h)
+      own-indices : outcome c ≡ indicesOutcome c
+      own-indices = indices-outcome c (asks-is 2 5 2 h)
 
       -- the second output stands behind five inputs and the status
       next-is : statusWord (indicesStatus m i (requestOf b)) ≤ 1 → be32 (x .args) 36 ≡ nextNumber i (requestOf b)
       next-is l =
           let place : 36 ≡ statusAt b + 4 = omega (arith, h .1) in
-          ap (be32 (x .args)) place ∙ number-word b m j i r given (asks-is 2 5 2 h) (passed-is m i (requestOf b) (at-most _ 1 .1 l))
+          ap (be32 (x .args)) place ∙ number-word c given (asks-is 2 5 2 h) (passed-is m i (requestOf b) (at-most _ 1 .1 l))
 
-      indices : ExactIndices m i (be32 b 12) (be32 b 16) (be32 b 20) (be32 b 24) (be32 b 28) (statusOf b x) (be32 (x .args) 36) (x .memory)
+      indices : ExactIndices m i (be32 b 12) (be32 b 16) (be32 b 20) (be32 b 24) (be32 b 28) (statusOf b x) (be32 (x .args) 36) (x .memory) × (x .registration ≡ c .registration)
       unfolding indicesOutcome
-      indices = rw (status-is (indicesOutcome b m i r) own-indices, memory-is (indicesOutcome b m i r) own-indices) (exact-indices m i (requestOf b) (be32 (x .args) 36) next-is)
-
-      indices-registration : x .registration ≡ r
-      unfolding indicesOutcome
-      indices-registration = registration-is (indicesOutcome b m i r) own-indices
+      indices = (rw (status-is (indicesOutcome c) own-indices, memory-is (indicesOutcome c) own-indices) (exact-indices m i (requestOf b) (be32 (x .args) 36) next-is), registration-is (indicesOutcome c) own-indices)
 
     module _ (h : Asks 3 3 1 b) where
-      own-dump : outcome b m j i r ≡ dumpOutcome b m r
-      own-dump = dump-outcome b m j i r (asks-is 3 3 1 h)
+      own-dump : outcome c ≡ dumpOutcome c
+      own-dump = dump-outcome c (asks-is 3 3 1 h)
 
-      dump : ExactDump m (be32 b 12) (be32 b 16) (be32 b 20) (statusOf b x) r (x .registration)
+      dump : ExactDump m (be32 b 12) (be32 b 16) (be32 b 20) (statusOf b x) (c .registration) (x .registration) × (x .memory ≡ m)
       unfolding dumpOutcome
-      dump = rw (status-is (dumpOutcome b m r) own-dump, registration-is (dumpOutcome b m r) own-dump) (exact-dump m (be32 b 12) (be32 b 16) (be32 b 20) r)
-
-      dump-memory : x .memory ≡ m
-      unfolding dumpOutcome
-      dump-memory = memory-is (dumpOutcome b m r) own-dump
+      dump = (rw (status-is (dumpOutcome c) own-dump, registration-is (dumpOutcome c) own-dump) (exact-dump m (be32 b 12) (be32 b 16) (be32 b 20) (c .registration)), memory-is (dumpOutcome c) own-dump)
 
     module _ (f : Asks 1 2 1 b → ⊥) (g : Asks 2 5 2 b → ⊥) (d : Asks 3 3 1 b → ⊥) where
-      own-none : outcome b m j i r ≡ refusal m r
+      own-none : outcome c ≡ refusal c
       unfolding outcome
       own-none = rw (asks-not 1 2 1 f, asks-not 2 5 2 g, asks-not 3 3 1 d)
 
-      unknown : Unknown b m r x
+      unknown : Unknown c x
       unknown = record {
-        args = rw (carried-out b m j i r given, own-none, wordBytes-one (statusWord (refusal m r .status)));
-        memory = memory-is (refusal m r) own-none;
-        registration = registration-is (refusal m r) own-none;
+        args = rw (carried-out c given, own-none, wordBytes-one (statusWord (refusal c .status)));
+        memory = memory-is (refusal c) own-none;
+        registration = registration-is (refusal c) own-none;
       }
 
-    by-token : ByToken b m j i r x
-    by-token =
-        record {
-          nodes = nodes;
-          nodes-registration = nodes-registration;
-          indices = indices;
-          indices-registration = indices-registration;
-          dump = dump;
-          dump-memory = dump-memory;
-          other = unknown;
-        }
+    by-token : ByToken c x
+    by-token = record { nodes = nodes; indices = indices; dump = dump; other = unknown }
 
 pub demand2 : Demand2
 demand2 = record { numbers = numbers; statuses = by-token }

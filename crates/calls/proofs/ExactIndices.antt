@@ -16,7 +16,8 @@ use Rattle.inventory.specs.Inventory.{wellFormed}
 use Rattle.inventory.specs.Listing.{Entry, listed}
 use Rattle.indices.specs.Area.{entriesBytes, run, answer, written}
 use Rattle.indices.specs.Longest.{taken}
-use Rattle.indices.specs.Reading.{read, reading}
+use Rattle.words.specs.Reading.{read}
+use Rattle.indices.specs.Reading.{reading}
 use Rattle.indices.proofs.Longest.{longest-run, answer-length}
 use Rattle.indices.proofs.Written.{fitting-few, listed-few}
 use Rattle.calls.specs.declared.request.Request.{Request}

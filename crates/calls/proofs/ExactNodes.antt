@@ -19,7 +19,8 @@ use Rattle.journal.specs.Reportable.{reportable}
 use Rattle.nodes.specs.Run.{cost, run, remains, nextState}
 use Rattle.nodes.specs.Area.{answer, written}
 use Rattle.nodes.specs.Claims.{Listed}
-use Rattle.nodes.specs.Reading.{read, reading}
+use Rattle.words.specs.Reading.{read}
+use Rattle.nodes.specs.Reading.{reading}
 use Rattle.nodes.proofs.Claims.{area-claims}
 use Rattle.nodes.proofs.Runs.{length-body}
 use Rattle.calls.specs.declared.status.Status.{Status}

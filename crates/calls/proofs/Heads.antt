@@ -1,7 +1,7 @@
 -- What the number of a call tells of its argument buffer, and what a call gives by its number.
 use mathlib.Core.Path.{_≡_, refl, _∙_}
 use mathlib.Core.Bool.{Bool, true, false, cond, _&&_, _||_, false≢true}
-use mathlib.Core.List.{List, [], _∷_}
+use mathlib.Core.List.{List, _∷_}
 use Prim.Native.Nat.{ℕ, _+_, _*_, _≤_, _<_}
 use native.Mathlib.Omega.{arith}
 use lib.Dec.{ltb, eqb}
@@ -9,20 +9,11 @@ use lib.ListN.{length}
 use lib.Seq.{sets}
 use borrow.Author.Tests.{ltb-false, eqb-false, eqb-true}
 use Rattle.words.proofs.Choice.{choose, and-left, and-right}
-use Rattle.words.specs.Numbers.{beBytes, wordBytes}
-use Rattle.words.proofs.Numbers.{length-beBytes}
-use Rattle.words.proofs.Stores.{sets-swap, sets-behind}
-use Rattle.dump.specs.declared.registration.Registration.{Registration}
+use Rattle.words.specs.Numbers.{wordBytes}
 use Rattle.calls.specs.declared.status.Number.{Number}
 use Rattle.calls.specs.declared.status.Number.the-variants.{Given, Short, NoOutputs, TooMany}
-use Rattle.calls.specs.declared.status.Status.{Status}
-use Rattle.calls.specs.declared.status.Status.the-variants.{Parameter}
-use Rattle.calls.specs.Status.{isGiven, isAnswer, statusWord}
-use Rattle.calls.specs.UpdateNodes.{nodesStatus, nodesMemory}
-use Rattle.dump.specs.Registration.{registrationAfter}
-use Rattle.calls.specs.ConfigureDump.{dumpStatus}
-use Rattle.calls.specs.GetIndices.{indicesStatus, indicesMemory, nextNumber}
-use Rattle.calls.specs.Buffer.{token, inputs, outputs, input, requestOf, isNodes, isIndices, isDump, Outcome, nodesOutcome, indicesOutcome, dumpOutcome, refusal, statusAt, numberFor, asks, outcome, callOf}
+use Rattle.calls.specs.Status.{isGiven, statusWord}
+use Rattle.calls.specs.Buffer.{token, inputs, outputs, isNodes, isIndices, isDump, Outcome, nodesOutcome, indicesOutcome, dumpOutcome, refusal, Found, leaves, statusAt, numberFor, asks, outcome, callOf}
 
 pub record Whole (b : List ℕ) : Type 0 where
   pub few-inputs : inputs b ≤ 16
@@ -69,76 +60,37 @@ asks-else t u i o b e f = rw (e, f)
 
 -- ---- what a call leaves
 
-module _ (b m j i : List ℕ) (r : Registration) where
+module _ (c : Found) where
   -- without a status everything stays
-  pub unchanged : isGiven (numberFor b) ≡ false → callOf b m j i r ≡ record { number = numberFor b; args = b; memory = m; registration = r }
+  pub unchanged : isGiven (numberFor (c .args)) ≡ false → callOf c ≡ leaves (numberFor (c .args)) (c .args) (c .memory) (c .registration)
   unfolding callOf
   unchanged e = rw e
 
   -- with one, the status word is stored, and memory is as the call's own work leaves it
-  pub carried-out : isGiven (numberFor b) ≡ true
-      → callOf b m j i r ≡ record { number = Given; args = sets b (statusAt b) (wordBytes (statusWord (outcome b m j i r .status) ∷ outcome b m j i r .more)); memory = outcome b m j i r .memory; registration = outcome b m j i r .registration }
+  pub carried-out : isGiven (numberFor (c .args)) ≡ true
+      → callOf c ≡ leaves Given (sets (c .args) (statusAt (c .args)) (wordBytes (statusWord (outcome c .status) ∷ outcome c .more))) (outcome c .memory) (outcome c .registration)
   unfolding callOf
   carried-out e = rw e
 
-  -- the status word, stored before the outputs behind it
-  pub outputs-stored : (l args : List ℕ) (at s : ℕ) → isGiven (numberFor b) ≡ true → at ≡ statusAt b → l ≡ sets b (statusAt b + 4) (wordBytes (outcome b m j i r .more))
-      → s ≡ statusWord (outcome b m j i r .status) → args ≡ sets l at (beBytes 4 s) → args ≡ callOf b m j i r .args
-  unfolding wordBytes
-  outputs-stored l args at s g e f h k =
-      let w = beBytes 4 (statusWord (outcome b m j i r .status)) in
-      let ws = wordBytes (outcome b m j i r .more) in
-      let size = length-beBytes 4 (statusWord (outcome b m j i r .status)) in
-      rw (carried-out g, k, f, h, e) (sets-swap w ws b (statusAt b) (statusAt b + 4) (omega arith) ∙ sets-behind b (statusAt b) (statusAt b + 4) w ws (omega arith))
-
   -- ---- a call's own work, by its token
 
-  pub outcome-ways : (P : Outcome → Type 0) → (isNodes b ≡ true → P (nodesOutcome b m j r)) → (isIndices b ≡ true → P (indicesOutcome b m i r))
-      → (isDump b ≡ true → P (dumpOutcome b m r)) → P (refusal m r) → P (outcome b m j i r)
+  pub outcome-ways : (P : Outcome → Type 0) → (isNodes (c .args) ≡ true → P (nodesOutcome c)) → (isIndices (c .args) ≡ true → P (indicesOutcome c))
+      → (isDump (c .args) ≡ true → P (dumpOutcome c)) → P (refusal c) → P (outcome c)
   unfolding outcome
-  outcome-ways P f g d h = choose (isNodes b) P f (λ _. choose (isIndices b) P g (λ _. choose (isDump b) P d (λ _. h)))
+  outcome-ways P f g d h = choose (isNodes (c .args)) P f (λ _. choose (isIndices (c .args)) P g (λ _. choose (isDump (c .args)) P d (λ _. h)))
 
-  pub nodes-outcome : isNodes b ≡ true → outcome b m j i r ≡ nodesOutcome b m j r
+  pub nodes-outcome : isNodes (c .args) ≡ true → outcome c ≡ nodesOutcome c
   unfolding outcome
   nodes-outcome e = rw e
 
-  pub indices-outcome : isIndices b ≡ true → outcome b m j i r ≡ indicesOutcome b m i r
+  pub indices-outcome : isIndices (c .args) ≡ true → outcome c ≡ indicesOutcome c
   unfolding outcome
-  indices-outcome e = let other = asks-else 2 1 2 1 b (asked 2 5 2 b e .0) refl in rw (other, e)
+  indices-outcome e = let other = asks-else 2 1 2 1 (c .args) (asked 2 5 2 (c .args) e .0) refl in rw (other, e)
 
-  pub dump-outcome : isDump b ≡ true → outcome b m j i r ≡ dumpOutcome b m r
+  pub dump-outcome : isDump (c .args) ≡ true → outcome c ≡ dumpOutcome c
   unfolding outcome
   dump-outcome e =
-      let token-is = asked 3 3 1 b e .0 in
-      let nodes-not = asks-else 3 1 2 1 b token-is refl in
-      let indices-not = asks-else 3 2 5 2 b token-is refl in
+      let token-is = asked 3 3 1 (c .args) e .0 in
+      let nodes-not = asks-else 3 1 2 1 (c .args) token-is refl in
+      let indices-not = asks-else 3 2 5 2 (c .args) token-is refl in
       rw (nodes-not, indices-not, e)
-
-  -- ---- what a call's own work leaves, way by way through the code
-
-  pub record Worked (s : Status) (next : Registration) (args memory : List ℕ) : Type 0 where
-    pub status-is : s ≡ outcome b m j i r .status
-    pub registration-is : next ≡ outcome b m j i r .registration
-    pub args-are : args ≡ sets b (statusAt b + 4) (wordBytes (outcome b m j i r .more))
-    pub memory-is : memory ≡ outcome b m j i r .memory
-
-  pub worked-nodes : (s : Status) (memory : List ℕ) → isNodes b ≡ true → s ≡ nodesStatus m (input b 0) (input b 1) j → memory ≡ nodesMemory m (input b 0) (input b 1) j → Worked s r b memory
-  unfolding nodesOutcome wordBytes
-  worked-nodes s memory e f g = let o = nodes-outcome e in record { status-is = rw o f; registration-is = rw o; args-are = rw o; memory-is = rw o g }
-
-  pub worked-indices : (s : Status) (args memory : List ℕ) → isIndices b ≡ true → s ≡ indicesStatus m i (requestOf b)
-      → args ≡ sets b 36 (wordBytes (cond (isAnswer (indicesStatus m i (requestOf b))) (nextNumber i (requestOf b) ∷ []) [])) → memory ≡ indicesMemory m i (requestOf b) → Worked s r args memory
-  unfolding indicesOutcome
-  worked-indices s args memory e f g h =
-      let o = indices-outcome e in
-      let place : statusAt b + 4 ≡ 36 = omega (arith, asked 2 5 2 b e) in
-      record { status-is = rw o f; registration-is = rw o; args-are = rw (o, place) g; memory-is = rw o h }
-
-  pub worked-dump : (s : Status) (next : Registration) → isDump b ≡ true → s ≡ dumpStatus m (input b 0) (input b 1) (input b 2) r
-      → next ≡ registrationAfter m (input b 0) (input b 1) (input b 2) r → Worked s next b m
-  unfolding dumpOutcome wordBytes
-  worked-dump s next e f g = let o = dump-outcome e in record { status-is = rw o f; registration-is = rw o g; args-are = rw o; memory-is = rw o }
-
-  pub worked-none : isNodes b ≡ false → isIndices b ≡ false → isDump b ≡ false → Worked Parameter r b m
-  unfolding outcome wordBytes
-  worked-none e f g = record { status-is = rw (e, f, g); registration-is = rw (e, f, g); args-are = rw (e, f, g); memory-is = rw (e, f, g) }

@@ -12,9 +12,9 @@ pub mod ExactNodes
 pub mod ExactIndices
 pub mod ExactDump
 pub mod Exact
-pub mod Account
-pub mod Sessions
-pub mod ListSessions
+pub mod Session
+pub mod NodeSessions
+pub mod IndexSessions
 pub mod Confined
 pub mod Readings
 pub mod Witnesses

@@ -15,7 +15,8 @@ use Rattle.words.proofs.Choice.{choose, and-left, and-right}
 use Rattle.inventory.specs.Inventory.{wellFormed}
 use Rattle.inventory.specs.Listing.{Entry}
 use Rattle.indices.specs.Area.{entrySize, fitting, run, answer, written}
-use Rattle.indices.specs.Reading.{read, reading}
+use Rattle.words.specs.Reading.{read}
+use Rattle.indices.specs.Reading.{reading}
 use Rattle.indices.proofs.Longest.{fits}
 use Rattle.indices.proofs.Written as indices-written
 use Rattle.calls.specs.declared.request.Request.{Request}

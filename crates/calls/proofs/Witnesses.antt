@@ -23,9 +23,7 @@ use Rattle.calls.specs.Lent.{partAt, withPart}
 use Rattle.calls.specs.UpdateNodes.{placed, reserved, goodState, areaStatus, areaAfter, nodesStatus, nodesMemory}
 use Rattle.calls.specs.GetIndices.{askable, lendable, goodNumber, dueFits, moreEntries, listStatus, indicesStatus, indicesMemory, nextNumber}
 use Rattle.calls.specs.Buffer.{numberFor, asks, nodesOutcome, indicesOutcome, outcome, callOf, answered}
-use Rattle.calls.specs.Account.{none, counted, passed}
-use Rattle.calls.specs.Session as nodes
-use Rattle.calls.specs.ListSession as indices
+use Rattle.calls.specs.Session.{afterCall, none, counted, passed}
 use Rattle.calls.specs.Witnesses.{additions, nodesCall, NodesWitness, sensors, indicesCall, IndicesWitness}
 
 -- a list of bytes, tested element by element
@@ -39,31 +37,31 @@ bytes-by (x ∷ xs) e zero = ltb-true x 256 (and-left _ _ e)
 bytes-by (x ∷ xs) e (suc i) = bytes-by xs (and-right (ltb x 256) _ e) i
 
 pub nodes-witness : NodesWitness
-unfolding be le beBytes wordBytes zeros records recordsFrom whole allGood wellFormedBy lengthOf kindOf goodFrame nodeType goodRecord wellFormed operationOf entries negative valid rowOf reports chosen reportable operandWords present cost longest run remains nextState operandsOf body answer written partAt withPart placed reserved goodState areaStatus areaAfter nodesStatus nodesMemory numberFor asks nodesOutcome outcome callOf answered nodes.after
+unfolding be le beBytes wordBytes zeros records recordsFrom whole allGood wellFormedBy lengthOf kindOf goodFrame nodeType goodRecord wellFormed operationOf entries negative valid rowOf reports chosen reportable operandWords present cost longest run remains nextState operandsOf body answer written partAt withPart placed reserved goodState areaStatus areaAfter nodesStatus nodesMemory numberFor asks nodesOutcome outcome callOf answered afterCall
 nodes-witness =
     record {
       bytes = bytes-by additions refl;
       formed = refl;
       scoped = refl;
       session = (
-        (λ e. record { unfinished = refl; nodes = refl; of-scope = refl; carries = refl }),
+        (λ e. record { unfinished = refl; unchanged = refl; nodes = refl; of-scope = refl; carries = refl }),
         (
           (λ e. absurd (false≢true e)),
-          ((λ e. record { unfinished = refl; nodes = refl; of-scope = refl; carries = refl }), tt),
+          ((λ e. record { unfinished = refl; unchanged = refl; nodes = refl; of-scope = refl; carries = refl }), tt),
         ),
       );
       refused = refl;
       well-made =
-          counted {c = nodesCall 0 0} (record { nodes = refl; two-inputs = refl; one-output = refl; whole = omega arith; of-scope = refl; aligned = refl; inside = leb-true 4096 4096 refl; carries = refl })
+          counted {c = nodesCall 0 0} (record { unchanged = refl; nodes = refl; two-inputs = refl; one-output = refl; whole = omega arith; of-scope = refl; aligned = refl; inside = leb-true 4096 4096 refl; carries = refl })
           (passed
-          (counted {c = nodesCall 0 509} (record { nodes = refl; two-inputs = refl; one-output = refl; whole = omega arith; of-scope = refl; aligned = refl; inside = leb-true 4096 4096 refl; carries = refl })
+          (counted {c = nodesCall 0 509} (record { unchanged = refl; nodes = refl; two-inputs = refl; one-output = refl; whole = omega arith; of-scope = refl; aligned = refl; inside = leb-true 4096 4096 refl; carries = refl })
           none));
       enough = ltb-true 1020 2030 refl;
       ended = refl;
     }
 
 pub indices-witness : IndicesWitness
-unfolding be le beBytes wordBytes zeros records recordsFrom whole allGood wellFormedBy lengthOf kindOf flagOf typeOf indexOf codeOf nonZero goodCode inventory.goodRecord inventory.wellFormed listing.matches listing.chosen listing.listed codeField entryBytes entriesBytes fitting index-area.run index-area.answer index-area.written partAt withPart askable lendable goodNumber dueFits moreEntries listStatus indicesStatus indicesMemory nextNumber numberFor asks indicesOutcome outcome callOf answered indices.after
+unfolding be le beBytes wordBytes zeros records recordsFrom whole allGood wellFormedBy lengthOf kindOf flagOf typeOf indexOf codeOf nonZero goodCode inventory.goodRecord inventory.wellFormed listing.matches listing.chosen listing.listed codeField entryBytes entriesBytes fitting index-area.run index-area.answer index-area.written partAt withPart askable lendable goodNumber dueFits moreEntries listStatus indicesStatus indicesMemory nextNumber numberFor asks indicesOutcome outcome callOf answered afterCall
 indices-witness =
     record {
       bytes = bytes-by sensors refl;
@@ -71,17 +69,17 @@ indices-witness =
       may = refl;
       some = leb-true 1 2 refl;
       session = (
-        (λ e. record { unfinished = refl; indices = refl; of-flag = refl; of-kind = refl; numbered = refl }),
+        (λ e. record { unfinished = refl; unchanged = refl; indices = refl; of-flag = refl; of-kind = refl; numbered = refl }),
         (
           (λ e. absurd (false≢true e)),
-          ((λ e. record { unfinished = refl; indices = refl; of-flag = refl; of-kind = refl; numbered = refl }), tt),
+          ((λ e. record { unfinished = refl; unchanged = refl; indices = refl; of-flag = refl; of-kind = refl; numbered = refl }), tt),
         ),
       );
       refused = refl;
       well-made =
-          counted {c = indicesCall 0 1} (record { indices = refl; five-inputs = refl; two-outputs = refl; whole = omega arith; of-flag = refl; of-kind = refl; numbered = refl; large = omega arith; below = omega arith; inside = omega arith })
+          counted {c = indicesCall 0 1} (record { unchanged = refl; indices = refl; five-inputs = refl; two-outputs = refl; whole = omega arith; of-flag = refl; of-kind = refl; numbered = refl; large = omega arith; below = omega arith; inside = omega arith })
           (passed
-          (counted {c = indicesCall 8 2} (record { indices = refl; five-inputs = refl; two-outputs = refl; whole = omega arith; of-flag = refl; of-kind = refl; numbered = refl; large = omega arith; below = omega arith; inside = omega arith })
+          (counted {c = indicesCall 8 2} (record { unchanged = refl; indices = refl; five-inputs = refl; two-outputs = refl; whole = omega arith; of-flag = refl; of-kind = refl; numbered = refl; large = omega arith; below = omega arith; inside = omega arith })
           none));
       enough = leb-true 2 2 refl;
       ended = refl;

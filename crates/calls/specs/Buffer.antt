@@ -43,6 +43,17 @@ numberFor b =
     (cond (eqb (outputs b) 0) NoOutputs
     Given)))
 
+-- All that a call finds.
+pub record Found : Type 0 where
+  pub args : List ℕ
+  pub memory : List ℕ
+  pub journal : List ℕ
+  pub inventory : List ℕ
+  pub registration : Registration
+
+abbrev pub found : List ℕ → List ℕ → List ℕ → List ℕ → Registration → Found
+found args memory journal inventory registration = record { args = args; memory = memory; journal = journal; inventory = inventory; registration = registration }
+
 -- What a call's own work gives: its status, the output words after the status, memory and the registration afterwards.
 pub record Outcome : Type 0 where
   pub status : Status
@@ -64,49 +75,69 @@ abbrev pub isDump : List ℕ → Bool
 isDump b = asks 3 3 1 b
 
 -- 01, update-nodes: "Inputs: address, scope. One output."
-unfoldable pub nodesOutcome : List ℕ → List ℕ → List ℕ → Registration → Outcome
-nodesOutcome b m j r = record { status = nodesStatus m (input b 0) (input b 1) j; more = []; memory = nodesMemory m (input b 0) (input b 1) j; registration = r }
+unfoldable pub nodesOutcome : Found → Outcome
+nodesOutcome f =
+    let address = input (f .args) 0 in
+    let scope = input (f .args) 1 in
+    record {
+      status = nodesStatus (f .memory) address scope (f .journal);
+      more = [];
+      memory = nodesMemory (f .memory) address scope (f .journal);
+      registration = f .registration;
+    }
 
 -- 01, get-indices: "Inputs: indicator (0) or sensor (1), type, address, size, Starting Number. Outputs: status, Next Starting Number."
 abbrev pub requestOf : List ℕ → Request
 requestOf b = record { flag = input b 0; kind = input b 1; address = input b 2; size = input b 3; number = record { 0 = input b 4 } }
 
-unfoldable pub indicesOutcome : List ℕ → List ℕ → List ℕ → Registration → Outcome
-indicesOutcome b m i r =
-    let q = requestOf b in
-    record { status = indicesStatus m i q; more = cond (isAnswer (indicesStatus m i q)) (nextNumber i q ∷ []) []; memory = indicesMemory m i q; registration = r }
+unfoldable pub indicesOutcome : Found → Outcome
+indicesOutcome f =
+    let q = requestOf (f .args) in
+    let s = indicesStatus (f .memory) (f .inventory) q in
+    record { status = s; more = cond (isAnswer s) (nextNumber (f .inventory) q ∷ []) []; memory = indicesMemory (f .memory) (f .inventory) q; registration = f .registration }
 
 -- 01, configure-kernel-dump: "Inputs: command, address, length."
-unfoldable pub dumpOutcome : List ℕ → List ℕ → Registration → Outcome
-dumpOutcome b m r =
-    record { status = dumpStatus m (input b 0) (input b 1) (input b 2) r; more = []; memory = m; registration = registrationAfter m (input b 0) (input b 1) (input b 2) r }
+unfoldable pub dumpOutcome : Found → Outcome
+dumpOutcome f =
+    let command = input (f .args) 0 in
+    let address = input (f .args) 1 in
+    let len = input (f .args) 2 in
+    record {
+      status = dumpStatus (f .memory) command address len (f .registration);
+      more = [];
+      memory = f .memory;
+      registration = registrationAfter (f .memory) command address len (f .registration);
+    }
 
 -- a call that is refused for its token, counts or parameters
-abbrev pub refusal : List ℕ → Registration → Outcome
-refusal m r = record { status = Parameter; more = []; memory = m; registration = r }
+abbrev pub refusal : Found → Outcome
+refusal f = record { status = Parameter; more = []; memory = f .memory; registration = f .registration }
 
 -- 01: "Tokens here: 1 update-nodes, 2 get-indices, 3 configure-kernel-dump.", "an unknown token or counts unlike the call's own give status -3". Further tokens are added here.
-unfoldable pub outcome : List ℕ → List ℕ → List ℕ → List ℕ → Registration → Outcome
-outcome b m j i r =
-    cond (isNodes b) (nodesOutcome b m j r)
-    (cond (isIndices b) (indicesOutcome b m i r)
-    (cond (isDump b) (dumpOutcome b m r)
-    (refusal m r)))
+unfoldable pub outcome : Found → Outcome
+outcome f =
+    cond (isNodes (f .args)) (nodesOutcome f)
+    (cond (isIndices (f .args)) (indicesOutcome f)
+    (cond (isDump (f .args)) (dumpOutcome f)
+    (refusal f)))
 
--- What a call leaves: its number, the argument buffer, memory, and the registration.
-pub record Result : Type 0 where
+-- All that a call leaves; the journal and the inventory are only read.
+pub record Left : Type 0 where
   pub number : Number
   pub args : List ℕ
   pub memory : List ℕ
   pub registration : Registration
 
+abbrev pub leaves : Number → List ℕ → List ℕ → Registration → Left
+leaves number args memory registration = record { number = number; args = args; memory = memory; registration = registration }
+
 -- 01: "Each status below 0 writes the status word only."
-unfoldable pub callOf : List ℕ → List ℕ → List ℕ → List ℕ → Registration → Result
-callOf b m j i r =
-    let o = outcome b m j i r in
-    let given : Result = record { number = Given; args = sets b (statusAt b) (wordBytes (statusWord (o .status) ∷ o .more)); memory = o .memory; registration = o .registration } in
-    cond (isGiven (numberFor b)) given (record { number = numberFor b; args = b; memory = m; registration = r })
+unfoldable pub callOf : Found → Left
+callOf f =
+    let o = outcome f in
+    let given = leaves Given (sets (f .args) (statusAt (f .args)) (wordBytes (statusWord (o .status) ∷ o .more))) (o .memory) (o .registration) in
+    cond (isGiven (numberFor (f .args))) given (leaves (numberFor (f .args)) (f .args) (f .memory) (f .registration))
 
 -- 01: "A call is answered when its number is 0 and its status 0 or 1; otherwise it is refused."
-unfoldable pub answered : List ℕ → Result → Bool
+unfoldable pub answered : List ℕ → Left → Bool
 answered b x = isGiven (x .number) && leb (be32 (x .args) (statusAt b)) 1

@@ -7,38 +7,39 @@ use mathlib.Core.Logic.{_⊎_}
 use lib.ListN.{length, take, getD}
 use lib.Seq.{sets}
 use Rattle.words.specs.Numbers.{Bytes, be32, beBytes}
-use Rattle.dump.specs.declared.registration.Registration.{Registration}
 use Rattle.journal.specs.Journal.{wellFormed}
 use Rattle.journal.specs.Scope.{valid, rowOf}
 use Rattle.journal.specs.Reportable.{reportable, operandWords}
-use Rattle.nodes.specs.Reading.{read}
+use Rattle.words.specs.Reading.{read, readings}
+use Rattle.nodes.specs.Reading.{reading}
+use Rattle.journal.specs.declared.operation.Operation.{Operation}
 use Rattle.calls.specs.Status.{numberOf}
-use Rattle.calls.specs.Buffer.{Result, callOf}
+use Rattle.calls.specs.Buffer.{Found, Left, callOf}
 use Rattle.calls.specs.Terms.{minus, HasStatus, Refused, Asks, statusOf, Outside}
 use Rattle.calls.specs.ExactNodes.{ExactNodes}
 use Rattle.calls.specs.ExactIndices.{ExactIndices}
 use Rattle.calls.specs.ExactDump.{ExactDump}
-use Rattle.calls.specs.Account.{Among}
-use Rattle.calls.specs.Session.{Call, isAnswered, Standing, start, after, standing, Session, WellMade, readings, reported}
+use Rattle.calls.specs.Session.{isAnswered, Standing, Among}
+use Rattle.calls.specs.NodeSession.{start, after, standing, Session, WellMade, reported}
 
--- A call finds an argument buffer b, memory m, a journal j, an inventory i and a registration r, and leaves x.
+-- A call finds f: an argument buffer, memory, a journal, an inventory and a registration. It leaves x.
 
 -- ---- demand 1: "A refused call gives the status or refusal number .. a status is written in its word, and nothing else changes.
 -- No byte outside the output words and the named work area is written."
 
-pub record Confined (b m : List ℕ) (r : Registration) (x : Result) : Type 0 where
-  pub no-status : (HasStatus x → ⊥) → x .args ≡ b
-  pub refused-args : Refused b x → (k : ℕ) → Outside (12 + 4 * be32 b 4) 4 k → getD (x .args) k 0 ≡ getD b k 0
-  pub refused-memory : Refused b x → x .memory ≡ m
-  pub refused-registration : Refused b x → x .registration ≡ r
-  pub outside-outputs : (k : ℕ) → Outside (12 + 4 * be32 b 4) (4 * be32 b 8) k → getD (x .args) k 0 ≡ getD b k 0
-  pub outside-area : (k : ℕ) → (Asks 1 2 1 b → Outside (be32 b 12) 4096 k) → (Asks 2 5 2 b → Outside (be32 b 20) (be32 b 24) k)
-      → getD (x .memory) k 0 ≡ getD m k 0
-  pub args-length : length (x .args) ≡ length b
-  pub memory-length : length (x .memory) ≡ length m
+pub record Confined (f : Found) (x : Left) : Type 0 where
+  pub no-status : (HasStatus x → ⊥) → x .args ≡ f .args
+  pub refused-args : Refused (f .args) x → (k : ℕ) → Outside (12 + 4 * be32 (f .args) 4) 4 k → getD (x .args) k 0 ≡ getD (f .args) k 0
+  pub refused-memory : Refused (f .args) x → x .memory ≡ f .memory
+  pub refused-registration : Refused (f .args) x → x .registration ≡ f .registration
+  pub outside-outputs : (k : ℕ) → Outside (12 + 4 * be32 (f .args) 4) (4 * be32 (f .args) 8) k → getD (x .args) k 0 ≡ getD (f .args) k 0
+  pub outside-area : (k : ℕ) → (Asks 1 2 1 (f .args) → Outside (be32 (f .args) 12) 4096 k) → (Asks 2 5 2 (f .args) → Outside (be32 (f .args) 20) (be32 (f .args) 24) k)
+      → getD (x .memory) k 0 ≡ getD (f .memory) k 0
+  pub args-length : length (x .args) ≡ length (f .args)
+  pub memory-length : length (x .memory) ≡ length (f .memory)
 
 abbrev pub Demand1 : Type 0
-Demand1 = (b m j i : List ℕ) (r : Registration) → Confined b m r (callOf b m j i r)
+Demand1 = (f : Found) → Confined f (callOf f)
 
 -- ---- demand 2: "each status is given exactly when document 01 says so. Reading what was written gives back the same entries."
 
@@ -51,27 +52,31 @@ pub record Numbered (b : List ℕ) (inputs outputs number : ℕ) : Type 0 where
   pub given : inputs ≤ 16 → outputs ≤ 16 → 12 + 4 * (inputs + outputs) ≤ length b → 1 ≤ outputs → number ≡ 0
 
 -- 01: "an unknown token or counts unlike the call's own give status -3", and nothing else changes
-pub record Unknown (b m : List ℕ) (r : Registration) (x : Result) : Type 0 where
-  pub args : x .args ≡ sets b (12 + 4 * be32 b 4) (beBytes 4 (minus 3))
-  pub memory : x .memory ≡ m
-  pub registration : x .registration ≡ r
+pub record Unknown (f : Found) (x : Left) : Type 0 where
+  pub args : x .args ≡ sets (f .args) (12 + 4 * be32 (f .args) 4) (beBytes 4 (minus 3))
+  pub memory : x .memory ≡ f .memory
+  pub registration : x .registration ≡ f .registration
 
 -- Where a status is in the buffer, it and all that the call leaves are those of the call's own rules at its inputs, by its token and counts.
-pub record ByToken (b m j i : List ℕ) (r : Registration) (x : Result) : Type 0 where
+pub record ByToken (f : Found) (x : Left) : Type 0 where
   -- "Inputs: address, scope. One output."
-  pub nodes : Asks 1 2 1 b → ExactNodes m j (be32 b 12) (be32 b 16) (statusOf b x) (x .memory)
-  pub nodes-registration : Asks 1 2 1 b → x .registration ≡ r
+  pub nodes : Asks 1 2 1 (f .args) →
+      let b = f .args in
+      ExactNodes (f .memory) (f .journal) (be32 b 12) (be32 b 16) (statusOf b x) (x .memory) × (x .registration ≡ f .registration)
   -- "Inputs: indicator (0) or sensor (1), type, address, size, Starting Number. Outputs: status, Next Starting Number."
-  pub indices : Asks 2 5 2 b → ExactIndices m i (be32 b 12) (be32 b 16) (be32 b 20) (be32 b 24) (be32 b 28) (statusOf b x) (be32 (x .args) 36) (x .memory)
-  pub indices-registration : Asks 2 5 2 b → x .registration ≡ r
+  pub indices : Asks 2 5 2 (f .args) →
+      let b = f .args in
+      ExactIndices (f .memory) (f .inventory) (be32 b 12) (be32 b 16) (be32 b 20) (be32 b 24) (be32 b 28) (statusOf b x) (be32 (x .args) 36) (x .memory)
+      × (x .registration ≡ f .registration)
   -- "Inputs: command, address, length."
-  pub dump : Asks 3 3 1 b → ExactDump m (be32 b 12) (be32 b 16) (be32 b 20) (statusOf b x) r (x .registration)
-  pub dump-memory : Asks 3 3 1 b → x .memory ≡ m
-  pub other : (Asks 1 2 1 b → ⊥) → (Asks 2 5 2 b → ⊥) → (Asks 3 3 1 b → ⊥) → Unknown b m r x
+  pub dump : Asks 3 3 1 (f .args) →
+      let b = f .args in
+      ExactDump (f .memory) (be32 b 12) (be32 b 16) (be32 b 20) (statusOf b x) (f .registration) (x .registration) × (x .memory ≡ f .memory)
+  pub other : (Asks 1 2 1 (f .args) → ⊥) → (Asks 2 5 2 (f .args) → ⊥) → (Asks 3 3 1 (f .args) → ⊥) → Unknown f x
 
 pub record Demand2 : Type 0 where
-  pub numbers : (b m j i : List ℕ) (r : Registration) → Numbered b (be32 b 4) (be32 b 8) (numberOf (callOf b m j i r .number))
-  pub statuses : (b m j i : List ℕ) (r : Registration) → HasStatus (callOf b m j i r) → ByToken b m j i r (callOf b m j i r)
+  pub numbers : (f : Found) → Numbered (f .args) (be32 (f .args) 4) (be32 (f .args) 8) (numberOf (callOf f .number))
+  pub statuses : (f : Found) → HasStatus (callOf f) → ByToken f (callOf f)
 
 -- ---- demand 3: "After every such list the answered calls' areas, read by document 01's rules, hold, in order, exactly the first k of that
 -- document's reportable list for the journal and scope, deletions first, each once."
@@ -80,16 +85,16 @@ pub record Demand2 : Type 0 where
 abbrev pub Bounded : ℕ → ℕ → Type 0
 Bounded W n = (0 < W → 1015 * (n - 1) < W) × (W ≡ 0 → n ≤ 1)
 
-pub record Accounted (j : List ℕ) (scope : ℕ) (st : Standing) : Type 0 where
-  pub handed : readings (st .areas) ≡ read (take (reported (reportable (rowOf scope) j) st) (reportable (rowOf scope) j))
-  pub bounded : Bounded (operandWords (reportable (rowOf scope) j)) (length (st .areas))
+pub record Accounted (j : List ℕ) (scope : ℕ) (os : List Operation) (st : Standing (List ℕ)) : Type 0 where
+  pub handed : readings reading (st .areas) ≡ read (take (reported os st) os)
+  pub bounded : Bounded (operandWords os) (length (st .areas))
   -- "Until one says done, no well-made call that carries those sixteen bytes is refused"
-  pub answers : st .done ≡ false → (c : Call) → WellMade scope st c → isAnswered j c ≡ true
+  pub answers : st .done ≡ false → (c : Found) → WellMade j scope st c → isAnswered c ≡ true
 
 -- "so the session ends": it is done once 1015 times the calls that were well made when they came are more than W
-abbrev pub Ends : List ℕ → ℕ → List Call → Type 0
-Ends j scope cs = (n : ℕ) → Among (after j) (WellMade scope) start cs n → operandWords (reportable (rowOf scope) j) < 1015 * n → standing j start cs .done ≡ true
+abbrev pub Ends : List ℕ → ℕ → List Operation → List Found → Type 0
+Ends j scope os cs = (n : ℕ) → Among after (WellMade j scope) start cs n → operandWords os < 1015 * n → standing cs .done ≡ true
 
 abbrev pub Demand3 : Type 0
-Demand3 = (j : List ℕ) (scope : ℕ) → Bytes j → wellFormed j ≡ true → valid scope ≡ true → (cs : List Call) → Session j scope start cs
-    → Accounted j scope (standing j start cs) × Ends j scope cs
+Demand3 = (j : List ℕ) (scope : ℕ) → Bytes j → wellFormed j ≡ true → valid scope ≡ true → (cs : List Found) → Session j scope cs
+    → let os = reportable (rowOf scope) j in Accounted j scope os (standing cs) × Ends j scope os cs

@@ -10,7 +10,8 @@ use Rattle.inventory.specs.Inventory.{wellFormed}
 use Rattle.inventory.specs.Listing.{Entry, listed}
 use Rattle.indices.specs.Area.{run, written}
 use Rattle.indices.specs.Longest.{taken, LongestOf}
-use Rattle.indices.specs.Reading.{read, reading}
+use Rattle.words.specs.Reading.{read}
+use Rattle.indices.specs.Reading.{reading}
 use Rattle.calls.specs.Lent.{partAt, withPart}
 use Rattle.calls.specs.Terms.{minus, Exactly}
 

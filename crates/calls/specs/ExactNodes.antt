@@ -15,7 +15,8 @@ use Rattle.journal.specs.Reportable.{reportable}
 use Rattle.nodes.specs.Run.{cost, run}
 use Rattle.nodes.specs.Longest.{LongestOf}
 use Rattle.nodes.specs.Area.{written}
-use Rattle.nodes.specs.Reading.{read, reading}
+use Rattle.words.specs.Reading.{read}
+use Rattle.nodes.specs.Reading.{reading}
 use Rattle.calls.specs.Lent.{partAt, withPart}
 use Rattle.calls.specs.Terms.{minus, Exactly}
 

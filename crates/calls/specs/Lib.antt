@@ -8,9 +8,9 @@ pub mod Terms
 pub mod ExactNodes
 pub mod ExactIndices
 pub mod ExactDump
-pub mod Account
 pub mod Session
-pub mod ListSession
+pub mod NodeSession
+pub mod IndexSession
 pub mod Demands
 pub mod WholeList
 pub mod Readings

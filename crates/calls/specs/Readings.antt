@@ -6,6 +6,7 @@ use mathlib.Core.List.{List, [], _∷_, _++_}
 use lib.Dec.{T, eqb}
 use lib.ListN.{length, take, drop, replicate}
 use Rattle.words.specs.Numbers.{be32, wordBytes, words}
+use Rattle.words.specs.Reading.{Reading, read, refused}
 use Rattle.journal.specs.Claims.{short, long}
 use Rattle.nodes.specs.Reading as node-area
 use Rattle.inventory.specs.Claims.{entry, bytes}
@@ -16,12 +17,12 @@ use Rattle.dump.specs.declared.registration.Phase.the-variants.{Unregistered, R
 use Rattle.dump.specs.Claims.{from, bare, asked, times}
 use Rattle.calls.specs.Status.{numberOf}
 use Rattle.calls.specs.Lent.{partAt}
-use Rattle.calls.specs.Buffer.{Result, callOf}
+use Rattle.calls.specs.Buffer.{Left, found, callOf}
 use Rattle.calls.specs.Terms.{minus}
 
 -- what a call leaves, by the words of its argument buffer, memory, journal, inventory and the phase of its registration
-abbrev pub left : List ℕ → List ℕ → List ℕ → List ℕ → Phase → Result
-left args m j i p = callOf (wordBytes args) m j i (record { phase = p; len = 0; copy = [] })
+abbrev pub called : List ℕ → List ℕ → List ℕ → List ℕ → Phase → Left
+called args m j i p = callOf (found (wordBytes args) m j i (record { phase = p; len = 0; copy = [] }))
 
 -- ---- update-nodes
 
@@ -30,18 +31,19 @@ abbrev pub journalOf : ℕ → ℕ → ℕ → List ℕ
 journalOf d u a = times d (short 8 1 10) ++ (times u (short 8 2 10) ++ times a (long 12 3 10))
 
 -- a call over an area with these first four words and sevens behind them
-abbrev pub updateNodes : List ℕ → ℕ → List ℕ → Result
-updateNodes j scope head = left (1 ∷ 2 ∷ 1 ∷ 0 ∷ scope ∷ 9 ∷ []) (wordBytes head ++ replicate 4080 7) j [] Unregistered
+abbrev pub updateNodes : List ℕ → ℕ → List ℕ → Left
+updateNodes j scope head = called (1 ∷ 2 ∷ 1 ∷ 0 ∷ scope ∷ 9 ∷ []) (wordBytes head ++ replicate 4080 7) j [] Unregistered
 
-abbrev pub readsNodes : ℕ → node-area.Reading → Bool
-readsNodes n (node-area.read os) = eqb (length os) n
-readsNodes n (node-area.refused r at) = false
+-- an area that reads as so many entries
+abbrev pub reads : {E R : Type 0} → ℕ → Reading E R → Bool
+reads n (read es) = eqb (length es) n
+reads n (refused r at) = false
 
 -- a journal, scope and state are answered: the status, the operations that the area reads as, the state left
 abbrev pub nodes : List ℕ → ℕ → ℕ → ℕ → ℕ → ℕ → Bool
 nodes j scope state status n next =
     let x = updateNodes j scope (state ∷ 0 ∷ 0 ∷ 0 ∷ []) in
-    eqb (be32 (x .args) 20) status && (readsNodes n (node-area.reading (x .memory)) && eqb (be32 (x .memory) 0) next)
+    eqb (be32 (x .args) 20) status && (reads n (node-area.reading (x .memory)) && eqb (be32 (x .memory) 0) next)
 
 -- a call over an area with these first words is refused: the status
 abbrev pub noNodes : List ℕ → ℕ → List ℕ → ℕ → Bool
@@ -49,7 +51,7 @@ noNodes j scope head status = eqb (be32 (updateNodes j scope head .args) 20) sta
 
 -- an area at an address in so many zero bytes of memory: the status
 abbrev pub placed : ℕ → ℕ → ℕ → Bool
-placed memory address status = eqb (be32 (left (1 ∷ 2 ∷ 1 ∷ address ∷ 1 ∷ 9 ∷ []) (replicate memory 0) [] [] Unregistered .args) 20) status
+placed memory address status = eqb (be32 (called (1 ∷ 2 ∷ 1 ∷ address ∷ 1 ∷ 9 ∷ []) (replicate memory 0) [] [] Unregistered .args) 20) status
 
 -- ---- get-indices
 
@@ -59,18 +61,14 @@ inventoryOf [] = []
 inventoryOf (c ∷ cs) = entry (12 + c) 16 1 (bytes c) ++ inventoryOf cs
 
 -- a call over 200 sevens
-abbrev pub getIndices : List ℕ → ℕ → ℕ → ℕ → ℕ → ℕ → Result
-getIndices codes flag type address size number = left (2 ∷ 5 ∷ 2 ∷ flag ∷ type ∷ address ∷ size ∷ number ∷ 9 ∷ 9 ∷ []) (replicate 200 7) [] (inventoryOf codes) Unregistered
-
-abbrev pub readsIndices : ℕ → index-area.Reading → Bool
-readsIndices n (index-area.read es) = eqb (length es) n
-readsIndices n (index-area.refused r at) = false
+abbrev pub getIndices : List ℕ → ℕ → ℕ → ℕ → ℕ → ℕ → Left
+getIndices codes flag type address size number = called (2 ∷ 5 ∷ 2 ∷ flag ∷ type ∷ address ∷ size ∷ number ∷ 9 ∷ 9 ∷ []) (replicate 200 7) [] (inventoryOf codes) Unregistered
 
 -- sensors are listed in an area of a size at an address, from a Starting Number on: the status, the entries that it reads as, the next number
 abbrev pub sensors : List ℕ → ℕ → ℕ → ℕ → ℕ → ℕ → ℕ → Bool
 sensors codes address size number status n next =
     let x = getIndices codes 1 9 address size number in
-    eqb (be32 (x .args) 32) status && (readsIndices n (index-area.reading (partAt (x .memory) address size)) && eqb (be32 (x .args) 36) next)
+    eqb (be32 (x .args) 32) status && (reads n (index-area.reading (partAt (x .memory) address size)) && eqb (be32 (x .args) 36) next)
 
 -- a request is refused: the status, and nothing in the second output
 abbrev pub noIndices : List ℕ → ℕ → ℕ → ℕ → ℕ → ℕ → ℕ → Bool
@@ -86,7 +84,7 @@ takes c = length (entryBytes (record { index = 1; code = bytes c }))
 
 -- a command in a phase, over memory, with an address and a length: the status
 abbrev pub dump : Phase → List ℕ → ℕ → ℕ → ℕ → ℕ → Bool
-dump p m command address len status = eqb (be32 (left (3 ∷ 3 ∷ 1 ∷ command ∷ address ∷ len ∷ 9 ∷ []) m [] [] p .args) 24) status
+dump p m command address len status = eqb (be32 (called (3 ∷ 3 ∷ 1 ∷ command ∷ address ∷ len ∷ 9 ∷ []) m [] [] p .args) 24) status
 
 -- memory that is a structure of one section without a disk
 abbrev pub structure : List ℕ
@@ -99,11 +97,11 @@ commanded p command status = dump p structure command 0 80 status
 
 -- a buffer of a size with these counts: the number
 abbrev pub numbered : ℕ → ℕ → ℕ → ℕ → Bool
-numbered inputs outputs size number = eqb (numberOf (callOf (take size (wordBytes (1 ∷ inputs ∷ outputs ∷ []) ++ replicate 200 0)) [] [] [] (record { phase = Unregistered; len = 0; copy = [] }) .number)) number
+numbered inputs outputs size number = eqb (numberOf (callOf (found (take size (wordBytes (1 ∷ inputs ∷ outputs ∷ []) ++ replicate 200 0)) [] [] [] (record { phase = Unregistered; len = 0; copy = [] })) .number)) number
 
 -- a token with counts that no call has, in memory of 4,096 zero bytes: the status in the first output
 abbrev pub unknown : ℕ → ℕ → ℕ → Bool
-unknown token inputs outputs = eqb (be32 (left (token ∷ inputs ∷ outputs ∷ (replicate inputs 0 ++ replicate outputs 9)) (replicate 4096 0) [] [] Unregistered .args) (12 + 4 * inputs)) (minus 3)
+unknown token inputs outputs = eqb (be32 (called (token ∷ inputs ∷ outputs ∷ (replicate inputs 0 ++ replicate outputs 9)) (replicate 4096 0) [] [] Unregistered .args) (12 + 4 * inputs)) (minus 3)
 
 -- ---- what each scope reports
 

@@ -5,25 +5,25 @@ use mathlib.Core.List.{List}
 use mathlib.Core.Logic.{_⊎_}
 use Rattle.words.specs.Numbers.{be32}
 use Rattle.calls.specs.Status.{numberOf}
-use Rattle.calls.specs.Buffer.{Result}
+use Rattle.calls.specs.Buffer.{Left}
 
 -- a status below 0, as a 32-bit word
 abbrev pub minus : ℕ → ℕ
 minus n = 4294967296 - n
 
 -- 01: "0: none of these: a status is in the buffer"
-abbrev pub HasStatus : Result → Type 0
+abbrev pub HasStatus : Left → Type 0
 HasStatus x = numberOf (x .number) ≡ 0
 
 -- 01: "Token, number of inputs, number of outputs, the inputs, the outputs; the first output is the status."
 abbrev pub Asks : ℕ → ℕ → ℕ → List ℕ → Type 0
 Asks token inputs outputs b = (be32 b 0 ≡ token) × (be32 b 4 ≡ inputs) × (be32 b 8 ≡ outputs)
 
-abbrev pub statusOf : List ℕ → Result → ℕ
+abbrev pub statusOf : List ℕ → Left → ℕ
 statusOf b x = be32 (x .args) (12 + 4 * be32 b 4)
 
 -- 01: "A call is answered when its number is 0 and its status 0 or 1; otherwise it is refused."
-abbrev pub Refused : List ℕ → Result → Type 0
+abbrev pub Refused : List ℕ → Left → Type 0
 Refused b x = HasStatus x → statusOf b x ≤ 1 → ⊥
 
 -- a place outside of n bytes from another on

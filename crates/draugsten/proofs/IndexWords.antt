@@ -14,7 +14,8 @@ use Rattle.indices.specs.declared.reading.Check.the-variants.{Entries, Refused}
 use Rattle.indices.specs.declared.reading.Cursor.{Cursor}
 use Rattle.indices.specs.declared.reading.Set.{Set}
 use Rattle.indices.specs.declared.reading.Next.the-variants.{Found, End}
-use Rattle.indices.specs.Reading.{lengthAt, refusalNumber, Reading, read, refused, reading, checkOf}
+use Rattle.words.specs.Reading.{Reading, read, refused}
+use Rattle.indices.specs.Reading.{lengthAt, refusalNumber, reading, checkOf}
 use Rattle.indices.specs.Cursor.{entriesFrom, remaining, entryIn, nextOf, startOf}
 use Rattle.indices.proofs.IndexLaws.{code-part, steps-give, entries-in-order}
 use Rattle.draugsten.specs.declared.reading.IndexReading.{IndexReading}
@@ -93,15 +94,15 @@ words-tell area es e = rw (← entries-in-order area es e) (words-tell-from _ ar
 -- ---- the reading of an area by its check
 
 -- what the reader promises of its answer and its buffer
-abbrev Told : List ℕ → List ℕ → IndexReading → List ℕ → Reading → Type 0
+abbrev Told : List ℕ → List ℕ → IndexReading → List ℕ → Reading Entry Refusal → Type 0
 Told area out answer after r = (answer ≡ indexReading r) × ((after ≡ indicesOut out area r) × WordsTell)
 
 module _ (area out : List ℕ) where
-  pub refusal-told : (w : ℕ) (f : Refusal) (k : ℕ) → w ≡ refusalNumber f → (r : Reading) → checkOf r ≡ Refused f k → Told area out (record { refusal = w; offset = k; entries = 0 }) out r
+  pub refusal-told : (w : ℕ) (f : Refusal) (k : ℕ) → w ≡ refusalNumber f → (r : Reading Entry Refusal) → checkOf r ≡ Refused f k → Told area out (record { refusal = w; offset = k; entries = 0 }) out r
   refusal-told w f k e (read es) h = (cc, (cc, words-tell))
   refusal-told w f k e (refused g j) h = (rw e (cc), (refl, words-tell))
 
-  pub entries-told : (n k : ℕ) (after : List ℕ) → k ≡ min n (length out / 3) → after ≡ sets out 0 (setsWords k area 4) → (r : Reading) → checkOf r ≡ Entries n → Told area out (record { refusal = 0; offset = 0; entries = n }) after r
+  pub entries-told : (n k : ℕ) (after : List ℕ) → k ≡ min n (length out / 3) → after ≡ sets out 0 (setsWords k area 4) → (r : Reading Entry Refusal) → checkOf r ≡ Entries n → Told area out (record { refusal = 0; offset = 0; entries = n }) after r
   entries-told n k after m e (read es) h =
       let all : length es ≡ n = cc in
       let least : k ≡ min (length out / 3) n = omega arith in
@@ -112,6 +113,6 @@ module _ (area out : List ℕ) where
 pub all-ahead : (area : List ℕ) (n : ℕ) → checkOf (reading area) ≡ Entries n → length (remaining area (startOf area)) ≡ n
 all-ahead area n = go (reading area) (entries-in-order area)
   where
-    go : (r : Reading) → ((es : List Entry) → r ≡ read es → remaining area (startOf area) ≡ es) → checkOf r ≡ Entries n → length (remaining area (startOf area)) ≡ n
+    go : (r : Reading Entry Refusal) → ((es : List Entry) → r ≡ read es → remaining area (startOf area) ≡ es) → checkOf r ≡ Entries n → length (remaining area (startOf area)) ≡ n
     go (read es) ahead h = rw (ahead es refl) (cc)
     go (refused f k) ahead h = cc

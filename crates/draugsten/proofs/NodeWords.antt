@@ -18,7 +18,8 @@ use Rattle.nodes.specs.declared.reading.Refusal.{Refusal}
 use Rattle.nodes.specs.declared.reading.Refusal.the-variants.{Size}
 use Rattle.nodes.specs.declared.reading.Check.{Check}
 use Rattle.nodes.specs.declared.reading.Check.the-variants.{Entries, Refused}
-use Rattle.nodes.specs.Reading.{Reading, read, refused, reading, checkOf}
+use Rattle.words.specs.Reading.{Reading, read, refused}
+use Rattle.nodes.specs.Reading.{reading, checkOf}
 use Rattle.nodes.specs.Cursor.{remaining, startOf, nextOf}
 use Rattle.nodes.proofs.Steps.{steps-give}
 use Rattle.nodes.proofs.Verdicts.{entries-in-order}
@@ -79,12 +80,12 @@ contrary z = absurd (omega arith)
 pub refused-reading : (area : List ℕ) (x : Check) (r : Refusal) (at : ℕ) → x ≡ checkOf (reading area) → x ≡ Refused r at → reading area ≡ refused r at
 refused-reading area x r at told e = go (reading area) told
   where
-    go : (y : Reading) → x ≡ checkOf y → y ≡ refused r at
+    go : (y : Reading Operation Refusal) → x ≡ checkOf y → y ≡ refused r at
     go (read os) h = contrary (cc)
     go (refused q k) h = cc
 
 -- of another size nothing is read
-whole-size : (b : Bool) (x : Reading) (os : List Operation) → cond (not b) (refused Size 0) x ≡ read os → b ≡ true
+whole-size : (b : Bool) (x : Reading Operation Refusal) (os : List Operation) → cond (not b) (refused Size 0) x ≡ read os → b ≡ true
 whole-size true x os e = refl
 whole-size false x os e = cc
 
@@ -103,7 +104,7 @@ pub record Good (area : List ℕ) (n : ℕ) : Type 0 where
 pub good : (area : List ℕ) (x : Check) (n : ℕ) → x ≡ checkOf (reading area) → x ≡ Entries n → Good area n
 good area x n told e = go (reading area) refl told
   where
-    go : (y : Reading) → reading area ≡ y → x ≡ checkOf y → Good area n
+    go : (y : Reading Operation Refusal) → reading area ≡ y → x ≡ checkOf y → Good area n
     go (read os) g h = let ahead = entries-in-order area os g in record { size = area-size area os g; is = rw ahead g; entries = rw ahead (cc) }
     go (refused r at) g h = contrary (cc)
 

@@ -1,5 +1,5 @@
 -- A registration over the C boundary and back, and from one call to the next.
-use mathlib.Core.Path.{_≡_, refl, ap}
+use mathlib.Core.Path.{_≡_, refl, ap, _∙_}
 use mathlib.Core.Bool.{Bool, true, false, cond}
 use mathlib.Core.List.{List}
 use Prim.Native.Nat.{ℕ, zero, suc, _≤_}
@@ -13,10 +13,11 @@ use Rattle.dump.specs.declared.registration.Registration.{Registration}
 use Rattle.dump.specs.Registration.{noRegistration}
 use Rattle.calls.specs.declared.status.Number.{Number}
 use Rattle.calls.specs.declared.status.Number.the-variants.{Given, Short, NoOutputs, TooMany}
+use Rattle.calls.specs.Buffer.{found}
 use Rattle.calls.specs.Status.{numberOf}
 use Rattle.calls.proofs.Registrations.{handed-short}
 use Rattle.draugsten.specs.declared.calling.FlatRegistration.{FlatRegistration}
-use Rattle.draugsten.specs.Registration.{phaseNumber, phaseOf, flatOf, registrationOf, isRegistration, Faithful, called, numberAt, registrationThen, HandedOn, StartTaken}
+use Rattle.draugsten.specs.Registration.{phaseNumber, phaseOf, flatOf, registrationOf, isRegistration, Faithful, FlatFound, flatLeaves, called, flatCallOf, HandedOn, StartTaken}
 
 -- the phase and the length of a registration
 bounds : (f : FlatRegistration) → isRegistration f ≡ true → (f .phase ≤ 2) × (f .length ≤ 512)
@@ -53,27 +54,27 @@ no-thirteen NoOutputs e = omega arith
 no-thirteen TooMany e = omega arith
 
 -- 13 is given for what is no registration, and for nothing else
-module _ (b m j i : List ℕ) (f : FlatRegistration) where
-  taken : isRegistration f ≡ true → numberAt b m j i f ≡ 13 → ⊥
-  unfolding numberAt
-  taken is e = no-thirteen (called b m j i f .number) (rw is at e)
+module _ (f : FlatFound) where
+  taken : isRegistration (f .registration) ≡ true → flatCallOf f .number ≡ 13 → ⊥
+  unfolding flatCallOf
+  taken is e = no-thirteen (called f .number) (rw is at e)
 
-  not-refused : (numberAt b m j i f ≡ 13 → ⊥) → isRegistration f ≡ true
-  unfolding numberAt
-  not-refused n = go (isRegistration f) n
+  not-refused : (flatCallOf f .number ≡ 13 → ⊥) → isRegistration (f .registration) ≡ true
+  unfolding flatCallOf
+  not-refused n = go (isRegistration (f .registration)) n
     where
-      go : (t : Bool) → (cond t (numberOf (called b m j i f .number)) 13 ≡ 13 → ⊥) → t ≡ true
+      go : (t : Bool) → (cond t (flatLeaves (numberOf (called f .number)) (called f .args) (called f .memory) (flatOf (called f .registration))) (flatLeaves 13 (f .args) (f .memory) (f .registration)) .number ≡ 13 → ⊥) → t ≡ true
       go true h = refl
       go false h = absurd (h refl)
 
-  then-is : isRegistration f ≡ true → isRegistration (registrationThen b m j i f) ≡ true
-  unfolding registrationThen
-  then-is is = rw is (flat-is (called b m j i f .registration) (handed-short b m j i (registrationOf f) (bounds f is .1)))
+  then-is : isRegistration (f .registration) ≡ true → isRegistration (flatCallOf f .registration) ≡ true
+  unfolding flatCallOf
+  then-is is = rw is (flat-is (called f .registration) (handed-short (found (f .args) (f .memory) (f .journal) (f .inventory) (registrationOf (f .registration))) (bounds (f .registration) is .1)))
 
 -- a claim that `draugsten_call` cites
 pub handed-on : HandedOn
-handed-on b m j i f n args memory journal inventory = taken args memory journal inventory (registrationThen b m j i f) (then-is b m j i f (not-refused b m j i f n))
+handed-on f n next e = taken next (ap isRegistration e ∙ then-is f (not-refused f n))
 
 -- the claim that `draugsten_no_registration` cites
 pub start-taken : StartTaken
-start-taken args memory journal inventory = taken args memory journal inventory (flatOf noRegistration) (flat-is noRegistration (omega arith))
+start-taken f e = taken f (ap isRegistration e ∙ flat-is noRegistration (omega arith))

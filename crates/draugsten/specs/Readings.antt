@@ -6,10 +6,13 @@ use lib.ListN.{length, take, drop}
 use lib.Seq.{sets}
 use Rattle.words.specs.Numbers.{be32}
 use Rattle.words.specs.Nul.{untilNul}
+use Rattle.words.specs.Reading.{Reading, read, refused}
 use Rattle.journal.specs.declared.operation.Operation.{Operation}
 use Rattle.journal.specs.declared.operation.Operation.the-variants.{Delete, Update, Add}
+use Rattle.nodes.specs.declared.reading.Refusal as nodes-refusal
 use Rattle.nodes.specs.Reading as nodes
 use Rattle.inventory.specs.Listing.{Entry}
+use Rattle.indices.specs.declared.reading.Refusal as indices-refusal
 use Rattle.indices.specs.Reading as indices
 use Rattle.draugsten.specs.declared.reading.NodeReading.{NodeReading}
 use Rattle.draugsten.specs.declared.reading.IndexReading.{IndexReading}
@@ -27,14 +30,14 @@ operationsWords [] = []
 operationsWords (o ∷ os) = operationWords o ++ operationsWords os
 
 -- the refusal's number and offset, or the state and the number of operations
-abbrev pub nodeReading : List ℕ → nodes.Reading → NodeReading
-nodeReading area (nodes.read os) = record { refusal = 0; state = be32 area 0; offset = 0; entries = length os }
-nodeReading area (nodes.refused r at) = record { refusal = nodes.refusalNumber r; state = 0; offset = at; entries = 0 }
+abbrev pub nodeReading : List ℕ → Reading Operation nodes-refusal.Refusal → NodeReading
+nodeReading area (read os) = record { refusal = 0; state = be32 area 0; offset = 0; entries = length os }
+nodeReading area (refused r at) = record { refusal = nodes.refusalNumber r; state = 0; offset = at; entries = 0 }
 
 -- the buffer with as many whole operations as it has room for; a refusal leaves it as it was
-abbrev pub nodesOut : List ℕ → nodes.Reading → List ℕ
-nodesOut out (nodes.read os) = sets out 0 (operationsWords (take (length out / 3) os))
-nodesOut out (nodes.refused r at) = out
+abbrev pub nodesOut : List ℕ → Reading Operation nodes-refusal.Refusal → List ℕ
+nodesOut out (read os) = sets out 0 (operationsWords (take (length out / 3) os))
+nodesOut out (refused r at) = out
 
 -- ---- index areas
 
@@ -46,13 +49,13 @@ unfoldable pub setsWords : ℕ → List ℕ → ℕ → List ℕ
 setsWords zero area at = []
 setsWords (suc n) area at = setWords area at ++ setsWords n area (at + (8 + indices.lengthAt area at))
 
-abbrev pub indexReading : indices.Reading → IndexReading
-indexReading (indices.read es) = record { refusal = 0; offset = 0; entries = length es }
-indexReading (indices.refused r at) = record { refusal = indices.refusalNumber r; offset = at; entries = 0 }
+abbrev pub indexReading : Reading Entry indices-refusal.Refusal → IndexReading
+indexReading (read es) = record { refusal = 0; offset = 0; entries = length es }
+indexReading (refused r at) = record { refusal = indices.refusalNumber r; offset = at; entries = 0 }
 
-abbrev pub indicesOut : List ℕ → List ℕ → indices.Reading → List ℕ
-indicesOut out area (indices.read es) = sets out 0 (setsWords (min (length out / 3) (length es)) area 4)
-indicesOut out area (indices.refused r at) = out
+abbrev pub indicesOut : List ℕ → List ℕ → Reading Entry indices-refusal.Refusal → List ℕ
+indicesOut out area (read es) = sets out 0 (setsWords (min (length out / 3) (length es)) area 4)
+indicesOut out area (refused r at) = out
 
 -- the entries that words tell of an area: an index, and a part of the area
 unfoldable pub entriesTold : List ℕ → List ℕ → List Entry
@@ -63,4 +66,4 @@ entriesTold area (i ∷ s ∷ n ∷ ws) = record { index = i; code = take n (dro
 
 -- The words of an area's sets tell the entries of its reading, in order.
 abbrev pub WordsTell : Type 0
-WordsTell = (area : List ℕ) (es : List Entry) → indices.reading area ≡ indices.read es → entriesTold area (setsWords (length es) area 4) ≡ es
+WordsTell = (area : List ℕ) (es : List Entry) → indices.reading area ≡ read es → entriesTold area (setsWords (length es) area 4) ≡ es

@@ -9,7 +9,7 @@ use Rattle.dump.specs.declared.registration.Phase.the-variants.{Unregistered, R
 use Rattle.dump.specs.declared.registration.Registration.{Registration}
 use Rattle.dump.specs.Registration.{noRegistration}
 use Rattle.calls.specs.Status.{numberOf}
-use Rattle.calls.specs.Buffer.{Result, callOf}
+use Rattle.calls.specs.Buffer.{found, Left, callOf}
 use Rattle.draugsten.specs.declared.calling.FlatRegistration.{FlatRegistration}
 
 -- 01: "The registration is none, registered (with a copy of the structure) or active": the phases by their numbers
@@ -35,28 +35,41 @@ isRegistration f = leb (f .phase) 2 && leb (f .length) 512
 abbrev pub Faithful : Type 0
 Faithful = (f : FlatRegistration) → isRegistration f ≡ true → flatOf (registrationOf f) ≡ f
 
--- The call with what is lent, where a registration is given.
-abbrev pub called : List ℕ → List ℕ → List ℕ → List ℕ → FlatRegistration → Result
-called args memory journal inventory f = callOf args memory journal inventory (registrationOf f)
+-- All that a call finds and all that it leaves, with the registration as it crosses.
+pub record FlatFound : Type 0 where
+  pub args : List ℕ
+  pub memory : List ℕ
+  pub journal : List ℕ
+  pub inventory : List ℕ
+  pub registration : FlatRegistration
+
+abbrev pub flatFound : List ℕ → List ℕ → List ℕ → List ℕ → FlatRegistration → FlatFound
+flatFound args memory journal inventory registration = record { args = args; memory = memory; journal = journal; inventory = inventory; registration = registration }
+
+pub record FlatLeft : Type 0 where
+  pub number : ℕ
+  pub args : List ℕ
+  pub memory : List ℕ
+  pub registration : FlatRegistration
+
+abbrev pub flatLeaves : ℕ → List ℕ → List ℕ → FlatRegistration → FlatLeft
+flatLeaves number args memory registration = record { number = number; args = args; memory = memory; registration = registration }
+
+-- The call where a registration is given.
+abbrev pub called : FlatFound → Left
+called f = callOf (found (f .args) (f .memory) (f .journal) (f .inventory) (registrationOf (f .registration)))
 
 -- 13 where none is given, and then nothing changes
-unfoldable pub numberAt : List ℕ → List ℕ → List ℕ → List ℕ → FlatRegistration → ℕ
-numberAt b m j i f = cond (isRegistration f) (numberOf (called b m j i f .number)) 13
-
-unfoldable pub registrationThen : List ℕ → List ℕ → List ℕ → List ℕ → FlatRegistration → FlatRegistration
-registrationThen b m j i f = cond (isRegistration f) (flatOf (called b m j i f .registration)) f
-
-unfoldable pub argsThen : List ℕ → List ℕ → List ℕ → List ℕ → FlatRegistration → List ℕ
-argsThen b m j i f = cond (isRegistration f) (called b m j i f .args) b
-
-unfoldable pub memoryThen : List ℕ → List ℕ → List ℕ → List ℕ → FlatRegistration → List ℕ
-memoryThen b m j i f = cond (isRegistration f) (called b m j i f .memory) m
+unfoldable pub flatCallOf : FlatFound → FlatLeft
+flatCallOf f =
+    let x = called f in
+    let given = flatLeaves (numberOf (x .number)) (x .args) (x .memory) (flatOf (x .registration)) in
+    cond (isRegistration (f .registration)) given (flatLeaves 13 (f .args) (f .memory) (f .registration))
 
 -- A call that does not itself give 13 gives a registration that no later call refuses with 13.
 abbrev pub HandedOn : Type 0
-HandedOn = (b m j i : List ℕ) (f : FlatRegistration) → (numberAt b m j i f ≡ 13 → ⊥)
-    → (args memory journal inventory : List ℕ) → numberAt args memory journal inventory (registrationThen b m j i f) ≡ 13 → ⊥
+HandedOn = (f : FlatFound) → (flatCallOf f .number ≡ 13 → ⊥) → (next : FlatFound) → next .registration ≡ flatCallOf f .registration → flatCallOf next .number ≡ 13 → ⊥
 
 -- Nor does a call refuse with 13 the registration that a partition starts with.
 abbrev pub StartTaken : Type 0
-StartTaken = (args memory journal inventory : List ℕ) → numberAt args memory journal inventory (flatOf noRegistration) ≡ 13 → ⊥
+StartTaken = (f : FlatFound) → f .registration ≡ flatOf noRegistration → flatCallOf f .number ≡ 13 → ⊥

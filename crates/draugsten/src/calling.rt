@@ -2,7 +2,7 @@
 ghost use mathlib.Core.Path.{_≡_};
 ghost use Rattle.dump.specs.Registration.{noRegistration};
 ghost use Rattle.calls.specs.Status.{numberOf};
-ghost use Rattle.draugsten.specs.Registration.{phaseNumber, phaseOf, flatOf, registrationOf, isRegistration, Faithful, HandedOn, StartTaken, numberAt, registrationThen, argsThen, memoryThen};
+ghost use Rattle.draugsten.specs.Registration.{phaseNumber, phaseOf, flatOf, registrationOf, isRegistration, Faithful, HandedOn, StartTaken, flatFound, flatLeaves, flatCallOf};
 use calls::Number;
 use dump::Phase;
 use dump::Registration;
@@ -102,9 +102,7 @@ pub extern "C" fn draugsten_call(
     inventory: &[u8],
     registration: FlatRegistration,
 ) -> FlatAnswer
-    ensures { λ r. ⌜ (r .number ≡ numberAt (now (args .entry)) (now (memory .entry)) (now (journal .entry)) (now (inventory .entry)) registration) × (r .registration ≡ registrationThen (now (args .entry)) (now (memory .entry)) (now (journal .entry)) (now (inventory .entry)) registration) ⌝ }
-    ensures { λ _. ⌜ now (args .exit) ≡ argsThen (now (args .entry)) (now (memory .entry)) (now (journal .entry)) (now (inventory .entry)) registration ⌝ }
-    ensures { λ _. ⌜ now (memory .exit) ≡ memoryThen (now (args .entry)) (now (memory .entry)) (now (journal .entry)) (now (inventory .entry)) registration ⌝ }
+    ensures { λ r. ⌜ flatLeaves (r .number) (now (args .exit)) (now (memory .exit)) (r .registration) ≡ flatCallOf (flatFound (now (args .entry)) (now (memory .entry)) (now (journal .entry)) (now (inventory .entry)) registration) ⌝ }
     ensures faithful { λ _. ⌜ Faithful ⌝ }
     ensures handed { λ _. ⌜ HandedOn ⌝ }
 {

@@ -18,7 +18,8 @@ use Rattle.indices.specs.declared.reading.Fault.{Fault}
 use Rattle.indices.specs.declared.reading.Fault.the-variants.{Fine, Bad}
 use Rattle.indices.specs.declared.reading.Check.{Check}
 use Rattle.indices.specs.declared.reading.Check.the-variants.{Entries, Refused}
-use Rattle.indices.specs.Reading.{lengthAt, fieldAt, goodLength, goodField, faultAt, entryAt, Reading, read, refused, withEntry, judgedBy, readFrom, reading, checkOf}
+use Rattle.words.specs.Reading.{Reading, read, refused}
+use Rattle.indices.specs.Reading.{lengthAt, fieldAt, goodLength, goodField, faultAt, entryAt, withEntry, judgedBy, readFrom, reading, checkOf}
 use Rattle.indices.specs.declared.reading.Cursor.{Cursor}
 use Rattle.indices.specs.declared.reading.Next.the-variants.{Found, End}
 use Rattle.indices.specs.Cursor.{entriesFrom, remaining, Gives, nextOf, StepsGive, EntriesInOrder}
@@ -126,15 +127,15 @@ read-next zero area at h = absurd (omega arith)
 read-next (suc n) area at h = rw (one-less n)
 
 -- what a check tells that has passed so many sets
-abbrev counted : ℕ → Reading → Check
+abbrev counted : ℕ → Reading Entry Refusal → Check
 counted n (read es) = Entries (n + length es)
 counted n (refused r at) = Refused r at
 
-counted-none : (r : Reading) → checkOf r ≡ counted 0 r
+counted-none : (r : Reading Entry Refusal) → checkOf r ≡ counted 0 r
 counted-none (read es) = ap Entries (sym (zero-add (length es)))
 counted-none (refused r at) = refl
 
-counted-more : (n : ℕ) (e : Entry) (r : Reading) → counted n (withEntry e r) ≡ counted (n + 1) r
+counted-more : (n : ℕ) (e : Entry) (r : Reading Entry Refusal) → counted n (withEntry e r) ≡ counted (n + 1) r
 counted-more n e (read es) = let more : n + suc (length es) ≡ n + 1 + length es = omega arith in ap Entries more
 counted-more n e (refused r at) = refl
 
@@ -222,7 +223,7 @@ in-order zero area at es e = cc
 in-order (suc n) area at es e =
     go (faultAt area at) refl (readFrom n area (at + (8 + lengthAt area at))) (in-order n area (at + (8 + lengthAt area at))) e
   where
-    go : (f : Fault) → faultAt area at ≡ f → (r : Reading) → ((ds : List Entry) → r ≡ read ds → entriesFrom n area (at + (8 + lengthAt area at)) ≡ ds) → judgedBy f at (withEntry (entryAt area at) r) ≡ read es
+    go : (f : Fault) → faultAt area at ≡ f → (r : Reading Entry Refusal) → ((ds : List Entry) → r ≡ read ds → entriesFrom n area (at + (8 + lengthAt area at)) ≡ ds) → judgedBy f at (withEntry (entryAt area at) r) ≡ read es
         → cond (ltb (length area - at) 8) [] (entryAt area at ∷ entriesFrom n area (at + (8 + lengthAt area at))) ≡ es
     go (Bad b) g r more h = cc
     go Fine g (refused b k) more h = cc

@@ -19,7 +19,8 @@ use Rattle.inventory.specs.Inventory.{flagOf, indexOf, nonZero, goodCode, goodR
 use Rattle.inventory.specs.Listing.{Entry, entryOf, matches, chosen, listed}
 use Rattle.indices.specs.declared.reading.Fault.the-variants.{Fine}
 use Rattle.indices.specs.Area.{filled, entrySize, codeField, entryBytes, entriesBytes, fitting, run, answer, written}
-use Rattle.indices.specs.Reading.{lengthAt, fieldAt, goodLength, goodField, faultAt, entryAt, read, readFrom, reading}
+use Rattle.words.specs.Reading.{read}
+use Rattle.indices.specs.Reading.{lengthAt, fieldAt, goodLength, goodField, faultAt, entryAt, readFrom, reading}
 use Rattle.indices.specs.Claims.{Sound, RoundTrip, ReadsBack, HoldsDue}
 
 -- ---- a word at a place of which it is known what stands there

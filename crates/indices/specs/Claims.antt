@@ -11,7 +11,8 @@ use Rattle.inventory.specs.Listing.{Entry, listed}
 use Rattle.indices.specs.declared.reading.Check.{Check}
 use Rattle.indices.specs.declared.reading.Check.the-variants.{Entries, Refused}
 use Rattle.indices.specs.Area.{run, answer, written}
-use Rattle.indices.specs.Reading.{refusalNumber, read, reading, checkOf}
+use Rattle.words.specs.Reading.{read}
+use Rattle.indices.specs.Reading.{refusalNumber, reading, checkOf}
 
 -- ---- "Reading what was written gives back the same entries": of any entries with 32-bit indices and good codes
 

@@ -12,7 +12,8 @@ use Rattle.indices.specs.declared.reading.Cursor.{Cursor}
 use Rattle.indices.specs.declared.reading.Set.{Set}
 use Rattle.indices.specs.declared.reading.Next.{Next}
 use Rattle.indices.specs.declared.reading.Next.the-variants.{Found, End}
-use Rattle.indices.specs.Reading.{lengthAt, fieldAt, entryAt, read, reading}
+use Rattle.words.specs.Reading.{read}
+use Rattle.indices.specs.Reading.{lengthAt, fieldAt, entryAt, reading}
 
 -- the entries of n sets from a byte offset on, as far as there are eight bytes for each
 unfoldable pub entriesFrom : ℕ → List ℕ → ℕ → List Entry

@@ -4,6 +4,7 @@ use mathlib.Core.Bool.{Bool, cond, _&&_, not}
 use mathlib.Core.List.{List, [], _∷_}
 use lib.Dec.{leb, ltb, eqb}
 use lib.ListN.{length, take, drop}
+use Rattle.words.specs.Reading.{Reading, read, refused}
 use Rattle.words.specs.Numbers.{be32, zeros}
 use Rattle.words.specs.Nul.{untilNul}
 use Rattle.inventory.specs.Listing.{Entry}
@@ -49,33 +50,28 @@ faultAt area at =
 abbrev pub entryAt : List ℕ → ℕ → Entry
 entryAt area at = record { index = be32 area at; code = untilNul (fieldAt area at) }
 
--- What reading gives: the entries, or a refusal with its byte offset.
-pub data Reading : Type 0 where
-  read : List Entry → Reading
-  refused : Refusal → ℕ → Reading
-
-abbrev pub withEntry : Entry → Reading → Reading
+abbrev pub withEntry : Entry → Reading Entry Refusal → Reading Entry Refusal
 withEntry e (read es) = read (e ∷ es)
 withEntry e (refused r at) = refused r at
 
-abbrev pub judgedBy : Fault → ℕ → Reading → Reading
+abbrev pub judgedBy : Fault → ℕ → Reading Entry Refusal → Reading Entry Refusal
 judgedBy Fine at more = more
 judgedBy (Bad r) at more = refused r at
 
 -- the next n sets from a byte offset on
-unfoldable pub readFrom : ℕ → List ℕ → ℕ → Reading
+unfoldable pub readFrom : ℕ → List ℕ → ℕ → Reading Entry Refusal
 readFrom zero area at = read []
 readFrom (suc n) area at =
     let more = withEntry (entryAt area at) (readFrom n area (at + (8 + lengthAt area at))) in
     judgedBy (faultAt area at) at more
 
 -- The first word is the number of sets. Bytes after the last set aren't looked at.
-unfoldable pub reading : List ℕ → Reading
+unfoldable pub reading : List ℕ → Reading Entry Refusal
 reading area =
     let found = readFrom (be32 area 0) area 4 in
     cond (ltb (length area) 4) (refused Short 0) found
 
 -- What a check of an area tells of its reading: the number of its entries, or the refusal.
-abbrev pub checkOf : Reading → Check
+abbrev pub checkOf : Reading Entry Refusal → Check
 checkOf (read es) = Entries (length es)
 checkOf (refused r at) = Refused r at

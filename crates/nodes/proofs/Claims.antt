@@ -21,7 +21,8 @@ use Rattle.journal.proofs.Walks.{within-limit}
 use Rattle.nodes.specs.Run.{present, cost, longest, run, remains, nextState}
 use Rattle.nodes.specs.Longest.{AllOf}
 use Rattle.nodes.specs.Area.{operandsOf, part, body, answer, written}
-use Rattle.nodes.specs.Reading.{read, reading}
+use Rattle.words.specs.Reading.{read}
+use Rattle.nodes.specs.Reading.{reading}
 use Rattle.nodes.specs.Claims.{Sorted, SmallOperands, Listed, ReportableListed, NeverEmpty, WellFilled, RunCases, AreaClaims}
 use Rattle.nodes.proofs.Runs.{length-operandsOf, length-body, longest-run, run-facts, next-le}
 use Rattle.nodes.proofs.Listed.{chosen-code}

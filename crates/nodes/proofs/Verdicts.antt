@@ -19,7 +19,8 @@ use Rattle.nodes.specs.declared.reading.Refusal.the-variants.{Size, Rese
 use Rattle.nodes.specs.declared.reading.Fault.the-variants.{Fine, Bad}
 use Rattle.nodes.specs.declared.reading.Check.{Check}
 use Rattle.nodes.specs.declared.reading.Check.the-variants.{Entries, Refused}
-use Rattle.nodes.specs.Reading.{opcodeIn, countIn, faultOf, read, refused, Verdict, good, bad, verdict, single, operationsAt, operationsIn, readBy, reading, checkOf}
+use Rattle.words.specs.Reading.{read, refused}
+use Rattle.nodes.specs.Reading.{opcodeIn, countIn, faultOf, Verdict, good, bad, verdict, single, operationsAt, operationsIn, readBy, reading, checkOf}
 use Rattle.nodes.specs.Cursor.{remaining, EntriesInOrder}
 
 -- ---- a fine operator

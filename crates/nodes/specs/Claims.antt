@@ -13,7 +13,8 @@ use Rattle.journal.specs.Reportable.{reportable, operandWords}
 use Rattle.nodes.specs.Run.{run, remains, nextState}
 use Rattle.nodes.specs.Longest.{LongestRun}
 use Rattle.nodes.specs.Area.{written}
-use Rattle.nodes.specs.Reading.{read, reading}
+use Rattle.words.specs.Reading.{read}
+use Rattle.nodes.specs.Reading.{reading}
 
 -- the opcodes do not fall, from `least` on
 abbrev pub Sorted : ℕ → List Operation → Type 0

@@ -11,7 +11,8 @@ use Rattle.journal.specs.declared.operation.Operation.the-variants.{Add}
 use Rattle.nodes.specs.declared.reading.Cursor.{Cursor}
 use Rattle.nodes.specs.declared.reading.Next.{Next}
 use Rattle.nodes.specs.declared.reading.Next.the-variants.{Entry, End}
-use Rattle.nodes.specs.Reading.{opcodeIn, countIn, single, operationsAt, read, reading}
+use Rattle.words.specs.Reading.{read}
+use Rattle.nodes.specs.Reading.{opcodeIn, countIn, single, operationsAt, reading}
 
 -- the operations that a cursor has before it
 unfoldable pub remaining : List ℕ → Cursor → List Operation

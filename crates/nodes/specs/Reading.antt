@@ -5,6 +5,7 @@ use mathlib.Core.List.{List, [], _∷_}
 use lib.Dec.{leb, ltb, eqb}
 use lib.ListN.{length, drop}
 use lib.Seq.{slice}
+use Rattle.words.specs.Reading.{Reading, read, refused}
 use Rattle.words.specs.Numbers.{words, zeros}
 use Rattle.journal.specs.declared.operation.Operation.{Operation}
 use Rattle.journal.specs.declared.operation.Operation.the-variants.{Delete, Update, Add}
@@ -44,11 +45,6 @@ faultOf word last left =
     (cond (ltb left (countIn word)) (Bad Past)
     Fine))))
 
--- What reading gives: the operations, or a refusal with its byte offset.
-pub data Reading : Type 0 where
-  read : List Operation → Reading
-  refused : Refusal → ℕ → Reading
-
 -- What the operators at words `ws` are judged: nothing wrong, or the first refusal.
 pub data Verdict : Type 0 where
   good : Verdict
@@ -85,12 +81,12 @@ operationsAt (w ∷ v ∷ ws) code (suc n) =
     let other = single code w ∷ operationsAt (v ∷ ws) code n in
     cond (eqb code 3) addition other
 
-abbrev pub readBy : Verdict → List Operation → Reading
+abbrev pub readBy : Verdict → List Operation → Reading Operation Refusal
 readBy good os = read os
 readBy (bad r at) os = refused r at
 
 -- 01: "Node areas: 20 not 4,096 bytes (offset 0); 21 bytes 4 to 15 not zero (offset 4)."
-unfoldable pub reading : List ℕ → Reading
+unfoldable pub reading : List ℕ → Reading Operation Refusal
 reading area =
     let ws = drop 4 (words area) in
     let found = readBy (verdict 0 16 0 ws) (operationsAt ws 0 0) in
@@ -99,7 +95,7 @@ reading area =
     found)
 
 -- What a check of an area tells of its reading: the number of its operations, or the refusal.
-abbrev pub checkOf : Reading → Check
+abbrev pub checkOf : Reading Operation Refusal → Check
 checkOf (read os) = Entries (length os)
 checkOf (refused r at) = Refused r at
 

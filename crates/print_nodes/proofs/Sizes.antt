@@ -16,7 +16,8 @@ use Rattle.words.proofs.Choice.{choose}
 use Rattle.nodes.specs.declared.reading.Refusal.{Refusal}
 use Rattle.nodes.specs.declared.reading.Refusal.the-variants.{Size, Reserved}
 use Rattle.nodes.specs.declared.reading.Check.the-variants.{Entries, Refused}
-use Rattle.nodes.specs.Reading.{Reading, read, refused, Verdict, good, bad, verdict, reading, readBy, refusalNumber, operationsAt, opcodeIn, countIn, checkOf}
+use Rattle.words.specs.Reading.{Reading, read, refused}
+use Rattle.nodes.specs.Reading.{Verdict, good, bad, verdict, reading, readBy, refusalNumber, operationsAt, opcodeIn, countIn, checkOf}
 use Rattle.nodes.specs.Cursor.{remaining, startOf}
 use Rattle.nodes.proofs.Verdicts.{entries-in-order}
 use Rattle.print_nodes.specs.Put.{Fits}
@@ -99,7 +100,7 @@ module _ (input : List ℕ) where
   unfolding text
   area-text n state e w = go (reading input) refl e
     where
-      go : (r : Reading) → reading input ≡ r → checkOf r ≡ Entries n
+      go : (r : Reading Operation Refusal) → reading input ≡ r → checkOf r ≡ Entries n
           → (length input ≡ 4096) × (textOf (be32 input 0) (reading input) ≡ ended state- state ++ (lines (remaining input startOf) ++ ended end- n))
       go (read os) g h = let same : length os ≡ n = cc in (area-read input os g .size, rw (g, entries-in-order input os g, same, w))
       go (refused r at) g h = contrary (cc)
@@ -108,9 +109,9 @@ module _ (input : List ℕ) where
   unfolding text
   refused-text r at e = go (reading input) refl e
     where
-      go : (x : Reading) → reading input ≡ x → checkOf x ≡ Refused r at → textOf (be32 input 0) (reading input) ≡ numbered refused- (refusalNumber r) ++ ended -at- at
+      go : (x : Reading Operation Refusal) → reading input ≡ x → checkOf x ≡ Refused r at → textOf (be32 input 0) (reading input) ≡ numbered refused- (refusalNumber r) ++ ended -at- at
       go (read os) g h = contrary (cc)
-      go (refused q k) g h = let same : refused q k ≡ refused r at = cc in rw g (ap (textOf (be32 input 0)) same)
+      go (refused q k) g h = let same : _≡_ {A = Reading Operation Refusal} (refused q k) (refused r at) = cc in rw g (ap (textOf (be32 input 0)) same)
 
 -- ---- the text fits
 
@@ -121,7 +122,7 @@ pub text-fits : (input : List ℕ) → Fits 0 (text input)
 unfolding text
 text-fits input = go (reading input) refl
   where
-    go : (r : Reading) → reading input ≡ r → Fits 0 (textOf (be32 input 0) (reading input))
+    go : (r : Reading Operation Refusal) → reading input ≡ r → Fits 0 (textOf (be32 input 0) (reading input))
     go (read os) g =
         let first = ended state- (be32 input 0) in
         let last = ended end- (length os) in

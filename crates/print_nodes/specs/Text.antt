@@ -8,7 +8,9 @@ use lib.ListN.{length, take}
 use Rattle.words.specs.Numbers.{be32}
 use Rattle.journal.specs.declared.operation.Operation.{Operation}
 use Rattle.journal.specs.declared.operation.Operation.the-variants.{Delete, Update, Add}
-use Rattle.nodes.specs.Reading.{Reading, read, refused, reading, refusalNumber}
+use Rattle.nodes.specs.declared.reading.Refusal.{Refusal}
+use Rattle.words.specs.Reading.{Reading, read, refused}
+use Rattle.nodes.specs.Reading.{reading, refusalNumber}
 
 -- The decimal digits of a number, at most n of them, with no zero in front.
 unfoldable pub digits : ℕ → ℕ → List ℕ
@@ -85,7 +87,7 @@ lines [] = []
 lines (o ∷ os) = line o ++ lines os
 
 -- 01: "For a refusal it writes one line and no other, as `refused 27 at 4096`."
-abbrev pub textOf : ℕ → Reading → List ℕ
+abbrev pub textOf : ℕ → Reading Operation Refusal → List ℕ
 textOf state (read os) = ended state- state ++ (lines os ++ ended end- (length os))
 textOf state (refused r at) = numbered refused- (refusalNumber r) ++ ended -at- at
 

@@ -8,7 +8,8 @@ ghost use lib.Seq.{sets};
 ghost use Rattle.words.specs.Numbers.{wordBytes};
 ghost use Rattle.calls.specs.Status.{isGiven, isAnswer};
 ghost use Rattle.calls.specs.GetIndices.{indicesStatus, indicesMemory, nextNumber};
-ghost use Rattle.calls.specs.Buffer.{statusAt, numberFor, asks, requestOf, outcome, callOf};
+ghost use Rattle.calls.specs.Buffer.{numberFor, asks, requestOf, found, leaves, callOf};
+ghost use Rattle.rtas.specs.Working.{Worked};
 ghost use Rattle.calls.specs.Demands.{Demand1, Demand2, Demand3};
 ghost use Rattle.calls.specs.WholeList.{WholeList};
 ghost use Rattle.calls.specs.Witnesses.{NodesWitness, IndicesWitness};
@@ -105,9 +106,7 @@ fn dispatch(
     registration: Registration,
 ) -> Work
     requires { ⌜ numberFor (now args) ≡ Number.Given ⌝ }
-    ensures { λ r. ⌜ (r .status ≡ outcome (now (args .entry)) (now (memory .entry)) (now (journal .entry)) (now (inventory .entry)) registration .status) × (r .registration ≡ outcome (now (args .entry)) (now (memory .entry)) (now (journal .entry)) (now (inventory .entry)) registration .registration) ⌝ }
-    ensures { λ _. ⌜ now (args .exit) ≡ sets (now (args .entry)) (statusAt (now (args .entry)) + 4) (wordBytes (outcome (now (args .entry)) (now (memory .entry)) (now (journal .entry)) (now (inventory .entry)) registration .more)) ⌝ }
-    ensures { λ _. ⌜ now (memory .exit) ≡ outcome (now (args .entry)) (now (memory .entry)) (now (journal .entry)) (now (inventory .entry)) registration .memory ⌝ }
+    ensures { λ r. ⌜ Worked (found (now (args .entry)) (now (memory .entry)) (now (journal .entry)) (now (inventory .entry)) registration) (r .status) (r .registration) (now (args .exit)) (now (memory .exit)) ⌝ }
 {
     if asks_for(&*args, 1, 2, 1) {
         let address = words::read_be32(args, 12);
@@ -145,9 +144,7 @@ pub fn call(
     inventory: &[u8],
     registration: Registration,
 ) -> Answer
-    ensures { λ r. ⌜ (r .number ≡ callOf (now (args .entry)) (now (memory .entry)) (now (journal .entry)) (now (inventory .entry)) registration .number) × (r .registration ≡ callOf (now (args .entry)) (now (memory .entry)) (now (journal .entry)) (now (inventory .entry)) registration .registration) ⌝ }
-    ensures { λ _. ⌜ now (args .exit) ≡ callOf (now (args .entry)) (now (memory .entry)) (now (journal .entry)) (now (inventory .entry)) registration .args ⌝ }
-    ensures { λ _. ⌜ now (memory .exit) ≡ callOf (now (args .entry)) (now (memory .entry)) (now (journal .entry)) (now (inventory .entry)) registration .memory ⌝ }
+    ensures { λ r. ⌜ leaves (r .number) (now (args .exit)) (now (memory .exit)) (r .registration) ≡ callOf (found (now (args .entry)) (now (memory .entry)) (now (journal .entry)) (now (inventory .entry)) registration) ⌝ }
     ensures demands { λ _. ⌜ Demand1 × Demand2 × Demand3 × WholeList × NodesWitness × IndicesWitness × Readings ⌝ }
 {
     let number = number_for(&*args);

@@ -4,3 +4,4 @@ pub mod Numbers
 pub mod Stores
 pub mod Zeros
 pub mod Words
+pub mod Readings

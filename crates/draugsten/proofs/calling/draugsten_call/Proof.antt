@@ -2,7 +2,10 @@
 use mathlib.Core.Path.{refl, sym, _∙_}
 use borrow.Author.Needs.{needs}
 use borrow.Author.Tests.{not-true, not-false}
-use Rattle.draugsten.specs.Registration.{numberAt, registrationThen, argsThen, memoryThen}
+use Rattle.calls.specs.Status.{numberOf}
+use Rattle.calls.specs.Buffer.{Left}
+use Rattle.draugsten.specs.declared.calling.FlatRegistration.{FlatRegistration}
+use Rattle.draugsten.specs.Registration.{flatOf, flatLeaves, FlatLeft, flatCallOf}
 use Rattle.draugsten.proofs.Registrations.{faithful, handed-on}
 use Rattle.draugsten.proofs.calling.draugsten_call.Statement.{statement}
 use Rattle.draugsten.proofs.calling.draugsten_call.Tie as tie
@@ -11,8 +14,8 @@ is-registration-requires : tie.Need-is-registration-requires
 is-registration-requires c κs = search needs
 
 returns : tie.Need-returns
-unfolding numberAt registrationThen argsThen memoryThen
-returns c = rw (sym (c .before .is-registration .ensures) ∙ not-true _ (c .if1 .taken)) ((refl, refl), (refl, (refl, (faithful, handed-on))))
+unfolding flatCallOf
+returns c = rw (sym (c .before .is-registration .ensures) ∙ not-true _ (c .if1 .taken)) (refl, (faithful, handed-on))
 
 registration-of-requires : tie.Need-registration-of-requires
 registration-of-requires c κs = search needs
@@ -33,12 +36,11 @@ same-length-2 : tie.Need-same-length-2
 same-length-2 c = search needs
 
 returns-2 : tie.Need-returns-2
-unfolding numberAt registrationThen argsThen memoryThen
+unfolding flatCallOf
 returns-2 c =
     let is = sym (c .before .before .before .before .before .before .before .before .before .before .before .before .is-registration .ensures) ∙ not-false _ (c .before .before .before .before .before .before .before .before .before .before .before .if1 .left) in
-    let given = c .before .before .before .before .before .before .before .call .ensures in
-    rw (is, ← c .before .before .before .before .before .before .before .before .registration-of .ensures, ← given .0 .0, ← given .0 .1)
-    ((c .before .number-of .ensures, c .flat-of .ensures), (given .1 .0, (given .1 .1 .0, (faithful, handed-on))))
+    let given = c .before .before .before .before .before .before .before .call .ensures .0 in
+    rw (is, ← c .before .before .before .before .before .before .before .before .registration-of .ensures, ← given, c .before .number-of .ensures, c .flat-of .ensures) (refl, (faithful, handed-on))
 
 pub draugsten-call-spec : {M : Type 1} → statement M
 draugsten-call-spec =

@@ -7,10 +7,11 @@ use borrow.Author.Needs.{needs}
 use borrow.Author.Tests.{not-true, not-false}
 use denote.Ref.{now}
 use Rattle.calls.proofs.Claims.{demands}
-use Rattle.calls.proofs.Heads.{Whole, whole-buffer, given-number, unchanged, carried-out, outputs-stored}
-use Rattle.calls.specs.Buffer.{Result, numberFor, statusAt}
+use Rattle.calls.proofs.Heads.{Whole, whole-buffer, given-number, unchanged}
+use Rattle.rtas.proofs.Works.{call-leaves}
+use Rattle.calls.specs.Buffer.{numberFor, statusAt, Found, found, leaves}
 use Rattle.calls.specs.declared.status.Number.the-variants.{Given}
-use Rattle.calls.specs.Status.{isGiven, statusWord}
+use Rattle.calls.specs.Status.{isGiven}
 use Rattle.rtas.proofs.calling.call.Statement.{statement}
 use Rattle.rtas.proofs.calling.call.Tie as tie
 
@@ -20,6 +21,10 @@ number-for-requires c κs = search needs
 is-given-requires : tie.Need-is-given-requires
 is-given-requires c κs = search needs
 
+-- what the call finds
+abbrev entry : tie.Start → Found
+entry c = found (now (c .args .args)) (now (c .args .memory)) (now (c .args .journal)) (now (c .args .inventory)) (c .args .registration)
+
 -- the code's test is that of the definition
 given : (c : tie.After-is-given) → c .is-given .result ≡ isGiven (numberFor (now (c .before .before .before .before .before .before .before .args .args)))
 given c = c .is-given .ensures ∙ ap isGiven (c .before .number-for .ensures)
@@ -28,8 +33,7 @@ same-length : tie.Need-same-length
 same-length c = search needs
 
 returns : tie.Need-returns
-returns c = let u = sym (unchanged (now (c .before .before .before .before .before .before .before .before .args .args)) (now (c .before .before .before .before .before .before .before .before .args .memory)) (now (c .before .before .before .before .before .before .before .before .args .journal)) (now (c .before .before .before .before .before .before .before .before .args .inventory)) (c .before .before .before .before .before .before .before .before .args .registration) (sym (given (c .before)) ∙ not-true _ (c .if1 .taken))) in
-    ((c .before .before .number-for .ensures ∙ ap (λ (x : Result). x .number) u, ap (λ (x : Result). x .registration) u), (ap (λ (x : Result). x .args) u, (ap (λ (x : Result). x .memory) u, demands)))
+returns c = (rw (c .before .before .number-for .ensures) (sym (unchanged (entry (c .before .before .before .before .before .before .before .before)) (sym (given (c .before)) ∙ not-true _ (c .if1 .taken)))), demands)
 
 yes : (c : tie.Else1) → isGiven (numberFor (now (c .before .before .before .before .before .before .before .before .args .args))) ≡ true
 yes c = sym (given (c .before)) ∙ not-false _ (c .if1 .left)
@@ -69,17 +73,10 @@ same-length-3 c = search needs
 
 returns-2 : tie.Need-returns-2
 returns-2 c =
-    let g = yes (c .before .before .before .before .before .before .before .before .before .before .before .before .before .before .before) in
-    let u = sym (carried-out (now (c .before .before .before .before .before .before .before .before .before .before .before .before .before .before .before .before .before .before .before .before .before .before .before .args .args)) (now (c .before .before .before .before .before .before .before .before .before .before .before .before .before .before .before .before .before .before .before .before .before .before .before .args .memory)) (now (c .before .before .before .before .before .before .before .before .before .before .before .before .before .before .before .before .before .before .before .before .before .before .before .args .journal)) (now (c .before .before .before .before .before .before .before .before .before .before .before .before .before .before .before .before .before .before .before .before .before .before .before .args .inventory)) (c .before .before .before .before .before .before .before .before .before .before .before .before .before .before .before .before .before .before .before .before .before .before .before .args .registration) g) in
-    let d = c .before .before .before .before .before .before .before .before .before .before .dispatch .ensures in
-    let w = c .before .before .before .status-word .ensures in
-    let place : 12 + 4 * c .before .before .before .before .before .before .before .before .before .before .before .before .before .read-be32 .result ≡ statusAt (now (c .before .before .before .before .before .before .before .before .before .before .before .before .before .before .before .before .before .before .before .before .before .before .before .args .args)) = omega (arith, c .before .before .before .before .before .before .before .before .before .before .before .before .before .read-be32 .ensures) in (
-      (number-is (c .before .before .before .before .before .before .before .before .before .before .before .before .before .before .before) ∙ ap (λ (x : Result). x .number) u, d .0 .1 ∙ ap (λ (x : Result). x .registration) u),
-      (
-        outputs-stored (now (c .before .before .before .before .before .before .before .before .before .before .before .before .before .before .before .before .before .before .before .before .before .before .before .args .args)) (now (c .before .before .before .before .before .before .before .before .before .before .before .before .before .before .before .before .before .before .before .before .before .before .before .args .memory)) (now (c .before .before .before .before .before .before .before .before .before .before .before .before .before .before .before .before .before .before .before .before .before .before .before .args .journal)) (now (c .before .before .before .before .before .before .before .before .before .before .before .before .before .before .before .before .before .before .before .before .before .before .before .args .inventory)) (c .before .before .before .before .before .before .before .before .before .before .before .before .before .before .before .before .before .before .before .before .before .before .before .args .registration) _ _ _ _ g place (d .1 .0) (w ∙ ap statusWord (d .0 .0)) (c .before .before .store-be32 .ensures),
-        (d .1 .1 ∙ ap (λ (x : Result). x .memory) u, demands),
-      ),
-    )
+    let start = entry (c .before .before .before .before .before .before .before .before .before .before .before .before .before .before .before .before .before .before .before .before .before .before .before) in
+    let number = (c .before .before .before .before .before .before .before .before .before .before .before .before .before .before .before) in
+    let place : 12 + 4 * c .before .before .before .before .before .before .before .before .before .before .before .before .before .read-be32 .result ≡ statusAt (start .args) = omega (arith, c .before .before .before .before .before .before .before .before .before .before .before .before .before .read-be32 .ensures) in
+    (call-leaves start _ _ _ _ _ _ _ _ (yes number) (number-is number) (c .before .before .before .before .before .before .before .before .before .before .dispatch .ensures) place (c .before .before .before .status-word .ensures) (c .before .before .store-be32 .ensures), demands)
 
 pub call-spec : {M : Type 1} → statement M
 call-spec =

@@ -6,11 +6,16 @@ use native.Mathlib.Omega.{arith}
 use lib.ListN.{length}
 use borrow.Author.Needs.{needs}
 use denote.Ref.{now}
-use Rattle.calls.proofs.Heads.{Whole, whole-buffer, asked, Worked, worked-nodes, worked-indices, worked-dump, worked-none}
-use Rattle.calls.specs.Buffer.{isNodes, isIndices, isDump}
+use Rattle.calls.proofs.Heads.{Whole, whole-buffer, asked}
+use Rattle.calls.specs.Buffer.{isNodes, isIndices, isDump, Found, found}
 use Rattle.calls.specs.Status.{isGiven}
+use Rattle.rtas.proofs.Works.{worked-nodes, worked-indices, worked-dump, worked-none}
 use Rattle.rtas.proofs.calling.dispatch.Statement.{statement}
 use Rattle.rtas.proofs.calling.dispatch.Tie as tie
+
+-- what the call finds
+abbrev entry : tie.Start → Found
+entry c = found (now (c .args .args)) (now (c .args .memory)) (now (c .args .journal)) (now (c .args .inventory)) (c .args .registration)
 
 whole : (c : tie.Start) → Whole (now (c .args .args))
 whole c = whole-buffer (now (c .args .args)) (ap isGiven (c .pre))
@@ -45,8 +50,7 @@ same-length-2 c = search needs
 returns : tie.Need-returns
 returns c =
     let told = rw (c .before .before .before .before .before .before .read-be32 .ensures, c .before .before .before .before .read-be322 .ensures) at (c .before .before .update-nodes .ensures) in
-    let w : Worked _ _ _ _ _ _ _ _ _ = worked-nodes _ _ _ (now (c .before .before .before .before .before .before .before .before .before .before .before .before .before .before .before .args .inventory)) (c .before .before .before .before .before .before .before .before .before .before .before .before .before .before .before .args .registration) _ _ (nodes-yes (c .before .before .before .before .before .before .before)) (told .0) (told .1) in
-    ((w .status-is, w .registration-is), (w .args-are, w .memory-is))
+    worked-nodes (entry (c .before .before .before .before .before .before .before .before .before .before .before .before .before .before .before)) _ _ (nodes-yes (c .before .before .before .before .before .before .before)) (told .0) (told .1)
 
 -- ---- get-indices
 
@@ -68,8 +72,7 @@ same-length-4 c = search needs
 returns-2 : tie.Need-returns-2
 returns-2 c =
     let told = c .before .before .before .before .list-indices .ensures in
-    let w : Worked _ _ _ _ _ _ _ _ _ = worked-indices _ _ (now (c .before .before .before .before .before .before .before .before .before .before .before .before .before .before .before .before .before .args .journal)) _ (c .before .before .before .before .before .before .before .before .before .before .before .before .before .before .before .before .before .args .registration) _ _ _ (indices-yes (c .before .before .before .before .before)) (told .0) (told .1 .0) (told .1 .1) in
-    ((w .status-is, w .registration-is), (w .args-are, w .memory-is))
+    worked-indices (entry (c .before .before .before .before .before .before .before .before .before .before .before .before .before .before .before .before .before)) _ _ _ (indices-yes (c .before .before .before .before .before)) (told .0) (told .1 .0) (told .1 .1)
 
 -- ---- configure-kernel-dump
 
@@ -104,8 +107,7 @@ same-length-6 c = search needs
 returns-3 : tie.Need-returns-3
 returns-3 c =
     let told = rw (c .before .before .before .before .before .before .read-be323 .ensures, c .before .before .before .before .read-be324 .ensures, c .before .before .read-be325 .ensures) at (c .configure-kernel-dump .ensures) in
-    let w : Worked _ _ _ _ _ _ _ _ _ = worked-dump _ (now (c .before .before .before .before .before .before .before .before .before .before .before .before .before .before .before .before .before .before .before .before .before .args .memory)) (now (c .before .before .before .before .before .before .before .before .before .before .before .before .before .before .before .before .before .before .before .before .before .args .journal)) (now (c .before .before .before .before .before .before .before .before .before .before .before .before .before .before .before .before .before .before .before .before .before .args .inventory)) (c .before .before .before .before .before .before .before .before .before .before .before .before .before .before .before .before .before .before .before .before .before .args .registration) _ _ (dump-yes (c .before .before .before .before .before .before .before)) (told .0) (told .1) in
-    ((w .status-is, w .registration-is), (w .args-are, w .memory-is))
+    worked-dump (entry (c .before .before .before .before .before .before .before .before .before .before .before .before .before .before .before .before .before .before .before .before .before)) _ _ (dump-yes (c .before .before .before .before .before .before .before)) (told .0) (told .1)
 
 -- ---- any other
 
@@ -114,8 +116,8 @@ same-length-7 c = search needs
 
 returns-4 : tie.Need-returns-4
 returns-4 c =
-    let none : Worked _ _ _ _ _ _ _ _ _ = worked-none (now (c .before .before .before .before .before .before .before .before .before .before .before .before .before .args .args)) (now (c .before .before .before .before .before .before .before .before .before .before .before .before .before .args .memory)) (now (c .before .before .before .before .before .before .before .before .before .before .before .before .before .args .journal)) (now (c .before .before .before .before .before .before .before .before .before .before .before .before .before .args .inventory)) (c .before .before .before .before .before .before .before .before .before .before .before .before .before .args .registration) (sym (c .before .before .before .before .before .before .before .asks-for .ensures) ∙ c .before .before .before .before .before .before .if1 .left) (sym (c .before .before .before .before .asks-for2 .ensures) ∙ c .before .before .before .if2 .left) (sym (c .before .asks-for3 .ensures) ∙ c .if3 .left) in
-    ((none .status-is, none .registration-is), (none .args-are, none .memory-is))
+    worked-none (entry (c .before .before .before .before .before .before .before .before .before .before .before .before .before)) (sym (c .before .before .before .before .before .before .before .asks-for .ensures) ∙ c .before .before .before .before .before .before .if1 .left)
+    (sym (c .before .before .before .before .asks-for2 .ensures) ∙ c .before .before .before .if2 .left) (sym (c .before .asks-for3 .ensures) ∙ c .if3 .left)
 
 pub dispatch-spec : {M : Type 1} → statement M
 dispatch-spec =

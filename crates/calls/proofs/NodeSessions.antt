@@ -1,0 +1,172 @@
+-- Demand 3: the answered calls of a session hand out the reportable list, each operation once and in order.
+use mathlib.Core.Path.{_≡_, refl, ap, _∙_, sym}
+use mathlib.Core.Bool.{Bool, true, false, cond, _||_, true≢false}
+use mathlib.Core.List.{List}
+use mathlib.Core.Logic.{_⊎_, ⊎-elim}
+use Prim.Native.Nat.{ℕ, _+_, _*_, _≤_, _<_}
+use native.Mathlib.Omega.{arith}
+use native.Mathlib.Nat.{eq-or-lt-of-le}
+use lib.Dec.{ltb, eqb}
+use borrow.Author.Tests.{lt-ltb, le-ltb, eq-eqb}
+use lib.ListN.{length, take, drop, take-append-drop}
+use lib.Seq.{take-all}
+use Rattle.words.specs.Numbers.{be32, beBytes, wordBytes}
+use Rattle.words.specs.Reading.{read}
+use Rattle.journal.specs.declared.operation.Operation.{Operation}
+use Rattle.journal.specs.Journal.{wellFormed}
+use Rattle.journal.specs.Scope.{valid, rowOf}
+use Rattle.journal.specs.Reportable.{operandWords}
+use Rattle.nodes.specs.Run.{run, remains, nextState}
+use Rattle.nodes.specs.Area.{written}
+use Rattle.nodes.specs.Reading.{reading}
+use Rattle.nodes.specs.Claims.{Listed}
+use Rattle.nodes.proofs.Runs.{RunFacts, run-facts, operandWords-append, operandWords-le, length-le-operandWords}
+use Rattle.nodes.proofs.Claims.{area-claims}
+use Rattle.calls.specs.Status.{isGiven}
+use Rattle.calls.specs.UpdateNodes.{areaAt, reserved, goodState}
+use Rattle.calls.specs.Buffer.{input, numberFor, asks, isNodes, Found}
+use Rattle.calls.specs.Session.{isAnswered, statusThen, Standing}
+use Rattle.calls.specs.NodeSession.{address, areaBefore, areaThen, carriedThen, start, standing, Continues, Session, WellMade, reported}
+use Rattle.calls.specs.Demands.{Bounded, Accounted, Ends, Demand3}
+use Rattle.calls.proofs.Memory.{part-length, part-stored, written-length}
+use Rattle.calls.proofs.Calls.{listed, Passed, Answered, answered-is, will-answer}
+use Rattle.calls.proofs.Carried.{carrying, state-of, zeros-of, written-head}
+use Rattle.calls.proofs.Session as session
+
+-- the words of a part of a list are no more than the list's
+words-part : (k : ℕ) (os : List Operation) → operandWords (take k os) ≤ operandWords os
+words-part k os = omega (arith, operandWords-append (take k os) (drop k os), ap operandWords (take-append-drop k os))
+
+or-right : (a b : Bool) → b ≡ true → (a || b) ≡ true
+or-right true b e = refl
+or-right false b e = e
+
+-- ---- the kind of session: sixteen bytes carry a state, and each area that does not end the list has 1,015 operand words
+
+abbrev Names : List ℕ → ℕ → Type 0
+Names carried k = carried ≡ carrying k
+
+module _ (j : List ℕ) (s : ℕ) (ls : Listed (listed s j)) where
+  abbrev os : List Operation
+  os = listed s j
+
+  abbrev Fill : ℕ → ℕ → Type 0
+  Fill a k = 1015 * a ≤ operandWords (take k os)
+
+  abbrev End : ℕ → Type 0
+  End a = Bounded (operandWords os) a
+
+  abbrev Open : Standing (List ℕ) → ℕ → Type 0
+  Open = session.Open carriedThen areaThen reading os Names Fill End
+
+  abbrev Step : ℕ → ℕ → Found → Type 0
+  Step = session.Step carriedThen areaThen reading os Names Fill End
+
+  begins : session.Stands carriedThen areaThen reading os Names Fill End start
+  unfolding operandWords wordBytes beBytes
+  begins = session.starts carriedThen areaThen reading os Names Fill End (start .carried) refl (omega arith)
+
+  module _ (st : Standing (List ℕ)) (k : ℕ) (o : Open st k) where
+    k-le : k ≤ length os
+    k-le = session.within carriedThen areaThen reading os Names Fill End st k o
+
+    k-small : k < 4294967296
+    k-small = omega (arith, k-le, ls .few)
+
+    -- ---- an answered call of the session
+    module _ (c : Found) (yes : isAnswered c ≡ true) (n : Continues j s st c) where
+      k-is : be32 (areaBefore c) 0 ≡ k
+      k-is = state-of (areaBefore c) k (n .carries ∙ o .named) k-small
+
+      left : Answered c
+      left = answered-is c (n .nodes) yes
+
+      size : length (areaBefore c) ≡ 4096
+      size = part-length (c .memory) (address c) 4096 (left .passed .inside)
+
+      area-is : areaThen c ≡ written (areaBefore c) os k
+      area-is =
+          ap (λ (m : List ℕ). areaAt m (address c)) (left .memory ∙ rw (n .of-scope, n .unchanged, k-is))
+          ∙ part-stored (c .memory) (address c) 4096 (left .passed .inside) (written (areaBefore c) os k) (written-length (areaBefore c) os k size k-le)
+
+      runs : RunFacts os k
+      runs = run-facts os k k-le
+
+      carried-then : carriedThen c ≡ carrying (nextState os k)
+      carried-then = ap (take 16) area-is ∙ written-head (areaBefore c) os k
+
+      -- an area that ends the list: only an empty list has one with nothing in it
+      last : k + length (run os k) ≡ length os → Bounded (operandWords os) (length (st .areas) + 1)
+      last e =
+          let whole : operandWords os ≡ operandWords (take k os) + operandWords (run os k) = ap operandWords (sym (take-all (k + length (run os k)) os (omega arith))) ∙ runs .words-so-far in
+          let empty : k ≡ length os → length os ≡ 0 = λ q. ⊎-elim (λ z. omega arith) (λ l. omega arith) (o .place) in
+          ⊎-elim
+          (λ q. omega (arith, o .fills, operandWords-le os, empty q))
+          (λ l. omega (arith, o .fills, length-le-operandWords (run os k), runs .some-more l))
+          (eq-or-lt-of-le k-le)
+
+      step : Step (length (st .areas)) k c
+      unfolding remains nextState
+      step =
+          record {
+            n = length (run os k);
+            inside = runs .within;
+            reads = ap reading area-is ∙ area-claims .round-trip (areaBefore c) os k size ls k-le ∙ ap read (area-claims .longest-run os k .first);
+            status = left .status ∙ rw (n .of-scope, n .unchanged, k-is);
+            names = λ l. carried-then ∙ rw (lt-ltb (k + length (run os k)) (length os) l);
+            fills = λ l. omega (arith, o .fills, runs .words-so-far, runs .many l);
+            ends = last;
+          }
+
+    -- ---- a well-made call is answered while the session is open
+    module _ (w : wellFormed j ≡ true) (v : valid s ≡ true) (c : Found) (m : WellMade j s st c) where
+      good-state : (eqb k 0 || ltb k (length os)) ≡ true
+      good-state = ⊎-elim (λ e. rw (eq-eqb k 0 e)) (λ l. or-right (eqb k 0) _ (lt-ltb k (length os) l)) (o .place)
+
+      given-is : isGiven (numberFor (c .args)) ≡ true
+      unfolding numberFor
+      given-is = rw (le-ltb (length (c .args)) 12 (omega arith), m .two-inputs, m .one-output, le-ltb (length (c .args)) 24 (m .whole))
+
+      nodes-is : isNodes (c .args) ≡ true
+      unfolding asks
+      nodes-is = rw (m .nodes, m .two-inputs, m .one-output)
+
+      passed : Passed (c .memory) (address c) (input (c .args) 1) (c .journal)
+      unfolding goodState
+      passed = record {
+        aligned = m .aligned;
+        inside = m .inside;
+        scoped = rw (m .of-scope) v;
+        formed = rw (m .unchanged) w;
+        clear = zeros-of (areaBefore c) k (m .carries ∙ o .named);
+        begun = rw (state-of (areaBefore c) k (m .carries ∙ o .named) k-small, m .of-scope, m .unchanged) good-state;
+      }
+
+      answers : isAnswered c ≡ true
+      answers = will-answer c given-is nodes-is passed
+
+  -- ---- the account of a session
+
+  module _ (w : wellFormed j ≡ true) (v : valid s ≡ true) where
+    open-demand : (st : Standing (List ℕ)) (k : ℕ) → Open st k → Accounted j s os st
+    unfolding reported wordBytes beBytes
+    open-demand st k o =
+        let state-is : be32 (st .carried) 0 ≡ k = state-of (st .carried) k (ap (take 16) (o .named)) (k-small st k o) in
+        record { handed = rw (o .unfinished, state-is) (o .handed); bounded = omega (arith, o .fills, words-part k os); answers = λ e. answers st k o w v }
+
+    closed-demand : (st : Standing (List ℕ)) → session.Closed carriedThen areaThen reading os Names Fill End st → Accounted j s os st
+    unfolding reported
+    closed-demand st c = record { handed = rw (c .finished, take-all (length os) os (omega arith)) (c .handed); bounded = c .ends; answers = λ e. absurd (true≢false (sym (c .finished) ∙ e)) }
+
+    accounted : (cs : List Found) → Session j s cs → Accounted j s os (standing cs)
+    accounted cs h = ⊎-elim (λ o. open-demand (standing cs) (o .0) (o .1)) (closed-demand (standing cs))
+        (session.stands carriedThen areaThen reading os Names Fill End (Continues j s) (λ st c n. n .unfinished) step start cs begins h)
+
+    ends : (cs : List Found) → Session j s cs → Ends j s os cs
+    ends cs h n a l = session.session-ends carriedThen areaThen reading os Names Fill End (Continues j s) (λ st c m. m .unfinished) step (WellMade j s) (λ st k o. answers st k o w v) start cs n
+        (λ b k f p g. omega (arith, words-part k os)) begins h a
+
+pub demand3 : Demand3
+demand3 j s bytes w v cs h =
+    let ls = area-claims .reportable-listed (rowOf s) j bytes w in
+    (accounted j s ls w v cs h, ends j s ls w v cs h)

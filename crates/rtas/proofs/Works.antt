@@ -1,0 +1,69 @@
+-- What a call's own work leaves, way by way through the code, and what comes of it once the status is stored.
+use mathlib.Core.Path.{_≡_, refl, ap, _∙_}
+use mathlib.Core.Bool.{true, false, cond}
+use mathlib.Core.List.{List, [], _∷_}
+use Prim.Native.Nat.{ℕ, _+_}
+use native.Mathlib.Omega.{arith}
+use lib.Seq.{sets}
+use Rattle.words.specs.Numbers.{beBytes, wordBytes}
+use Rattle.words.proofs.Numbers.{length-beBytes}
+use Rattle.words.proofs.Stores.{sets-swap, sets-behind}
+use Rattle.dump.specs.declared.registration.Registration.{Registration}
+use Rattle.dump.specs.Registration.{registrationAfter}
+use Rattle.calls.specs.declared.request.Request.{Request}
+use Rattle.calls.specs.declared.status.Number.{Number}
+use Rattle.calls.specs.declared.status.Number.the-variants.{Given}
+use Rattle.calls.specs.declared.status.Status.{Status}
+use Rattle.calls.specs.declared.status.Status.the-variants.{Parameter}
+use Rattle.calls.specs.Status.{isGiven, isAnswer, statusWord}
+use Rattle.calls.specs.UpdateNodes.{nodesStatus, nodesMemory}
+use Rattle.calls.specs.ConfigureDump.{dumpStatus}
+use Rattle.calls.specs.GetIndices.{indicesStatus, indicesMemory, nextNumber}
+use Rattle.calls.specs.Buffer.{input, requestOf, isNodes, isIndices, isDump, statusAt, numberFor, Found, nodesOutcome, indicesOutcome, dumpOutcome, refusal, outcome, leaves, callOf}
+use Rattle.calls.proofs.Heads.{asked, carried-out, nodes-outcome, indices-outcome, dump-outcome}
+use Rattle.rtas.specs.Working.{Worked}
+
+module _ (c : Found) where
+  abbrev b : List ℕ
+  b = c .args
+
+  abbrev q : Request
+  q = requestOf b
+
+  pub worked-nodes : (s : Status) (memory : List ℕ) → isNodes b ≡ true → s ≡ nodesStatus (c .memory) (input b 0) (input b 1) (c .journal) → memory ≡ nodesMemory (c .memory) (input b 0) (input b 1) (c .journal)
+      → Worked c s (c .registration) b memory
+  unfolding nodesOutcome wordBytes
+  worked-nodes s memory e f g = let o = nodes-outcome c e in record { status-is = rw o f; registration-is = rw o; args-are = rw o; memory-is = rw o g }
+
+  pub worked-indices : (s : Status) (args memory : List ℕ) → isIndices b ≡ true → s ≡ indicesStatus (c .memory) (c .inventory) q
+      → args ≡ sets b 36 (wordBytes (cond (isAnswer (indicesStatus (c .memory) (c .inventory) q)) (nextNumber (c .inventory) q ∷ []) []))
+      → memory ≡ indicesMemory (c .memory) (c .inventory) q → Worked c s (c .registration) args memory
+  unfolding indicesOutcome
+  worked-indices s args memory e f g h =
+      let o = indices-outcome c e in
+      let place : statusAt b + 4 ≡ 36 = omega (arith, asked 2 5 2 b e) in
+      record { status-is = rw o f; registration-is = rw o; args-are = rw (o, place) g; memory-is = rw o h }
+
+  pub worked-dump : (s : Status) (next : Registration) → isDump b ≡ true → s ≡ dumpStatus (c .memory) (input b 0) (input b 1) (input b 2) (c .registration)
+      → next ≡ registrationAfter (c .memory) (input b 0) (input b 1) (input b 2) (c .registration) → Worked c s next b (c .memory)
+  unfolding dumpOutcome wordBytes
+  worked-dump s next e f g = let o = dump-outcome c e in record { status-is = rw o f; registration-is = rw o g; args-are = rw o; memory-is = rw o }
+
+  pub worked-none : isNodes b ≡ false → isIndices b ≡ false → isDump b ≡ false → Worked c Parameter (c .registration) b (c .memory)
+  unfolding outcome wordBytes
+  worked-none e f g = record { status-is = rw (e, f, g); registration-is = rw (e, f, g); args-are = rw (e, f, g); memory-is = rw (e, f, g) }
+
+  -- the status word is stored before the outputs behind it, which stand already
+  stored-all : (s : Status) (next : Registration) (l memory : List ℕ) → Worked c s next l memory → sets l (statusAt b) (beBytes 4 (statusWord s)) ≡ sets b (statusAt b) (wordBytes (statusWord (outcome c .status) ∷ outcome c .more))
+  unfolding wordBytes
+  stored-all s next l memory w =
+      let v = beBytes 4 (statusWord (outcome c .status)) in
+      let ws = wordBytes (outcome c .more) in
+      let size = length-beBytes 4 (statusWord (outcome c .status)) in
+      rw (w .args-are, w .status-is) (sets-swap v ws b (statusAt b) (statusAt b + 4) (omega arith) ∙ sets-behind b (statusAt b) (statusAt b + 4) v ws (omega arith))
+
+  -- what a call leaves whose work is done and whose status is stored
+  pub call-leaves : (n : Number) (s : Status) (next : Registration) (l args memory : List ℕ) (at word : ℕ) → isGiven (numberFor b) ≡ true → n ≡ Given → Worked c s next l memory
+      → at ≡ statusAt b → word ≡ statusWord s → args ≡ sets l at (beBytes 4 word) → leaves n args memory next ≡ callOf c
+  call-leaves n s next l args memory at word g e w p t a =
+      rw (carried-out c g, e, a, t, p, stored-all s next l memory w, w .memory-is, w .registration-is)
