@@ -14,7 +14,7 @@ use Rattle.dump.specs.declared.registration.Registration.{Registration}
 use Rattle.dump.specs.declared.registration.Verdict.{Verdict}
 use Rattle.dump.specs.declared.registration.Verdict.the-variants.{Done, Parameter, AlreadyRegistered, DumpActive}
 use Rattle.dump.specs.Structure.{goodStructure}
-use Rattle.dump.specs.Registration.{isNone, isRegistered, isActive, isDone, acceptable, verdictOf, registrationAfter, noRegistration, registered, structureAt}
+use Rattle.dump.specs.Registration.{isNone, isRegistered, isActive, isDone, acceptable, verdictOf, registrationAfter, noRegistration, padded, registered, structureAt}
 use Rattle.calls.specs.Status.{statusWord}
 use Rattle.calls.specs.Lent.{partAt}
 use Rattle.calls.specs.ConfigureDump.{verdictStatus, dumpStatus}
@@ -125,7 +125,7 @@ module _ (m : List ℕ) (command address len : ℕ) (r : Registration) where
   after-refused n = rw (done-word (verdictOf m command address len phase), ne-eqb status 0 n)
 
   pub exact-dump : ExactDump m command address len status r next
-  unfolding dumpStatus verdictOf partAt
+  unfolding dumpStatus verdictOf partAt padded
   exact-dump =
       let a = agrees command phase (acceptable m address len) in
       let is : (n : ℕ) → Exactly (eqb command n ≡ true) (command ≡ n) = equal command in
@@ -137,7 +137,7 @@ module _ (m : List ℕ) (command address len : ℕ) (r : Registration) where
             (both (eqb command 1) _ (is 1) (both (isNone phase) _ (none-exact phase) (acceptable-exact m address len)))
             (either (eqb command 2 && isRegistered phase) (eqb command 3 && isActive phase) (both (eqb command 2) (isRegistered phase) (is 2) (registered-exact phase)) (both (eqb command 3) (isActive phase) (is 3) (active-exact phase))));
         otherwise = one-of (verdictOf m command address len phase);
-        registers = λ e c. after-done e ∙ rw (eq-eqb command 1 c);
-        ends = λ e n. after-done e ∙ rw (ne-eqb command 1 n);
+        registers = λ e c. rw (after-done e, eq-eqb command 1 c) (record { in-phase = refl; size = refl; copy = refl });
+        ends = λ e n. rw (after-done e, ne-eqb command 1 n) (record { in-phase = refl; size = refl; copy = refl });
         keeps = after-refused;
       }

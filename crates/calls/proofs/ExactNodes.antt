@@ -1,23 +1,24 @@
 -- Demand 2 of update-nodes: the exact condition of each status, and what an answer leaves.
 use mathlib.Core.Path.{_≡_, refl, sym, ap, _∙_}
 use mathlib.Core.Bool.{Bool, true, false, cond, _&&_, not}
-use mathlib.Core.List.{List, _++_}
+use mathlib.Core.List.{List, [], _∷_, _++_, append-assoc}
 use mathlib.Core.Logic.{_⊎_}
 use Prim.Native.Nat.{ℕ, _+_, _*_, _-_, _%_, _≤_, _<_}
 use native.Mathlib.Omega.{arith}
 use lib.Dec.{leb, ltb, eqb}
 use borrow.Author.Tests.{ltb-true}
 use lib.ListN.{length, drop, getD, length-append}
-use lib.Seq.{getD-append-add, getD-drop}
-use Rattle.words.specs.Numbers.{Bytes, be32, wordBytes}
+use lib.Seq.{drop-at, getD-append-add, getD-drop}
+use Rattle.words.specs.Numbers.{Bytes, be, be32, beBytes, wordBytes}
+use Rattle.words.proofs.Numbers.{be-drop, be-bytes}
 use Rattle.words.proofs.Choice.{choose}
-use Rattle.words.proofs.Stores.{length-wordBytes}
+use Rattle.words.proofs.Stores.{length-wordBytes, wordBytes-append, wordBytes-one}
 use Rattle.journal.specs.declared.operation.Operation.{Operation}
 use Rattle.journal.specs.Journal.{wellFormed}
 use Rattle.journal.specs.Scope.{negative, valid, rowOf}
 use Rattle.journal.specs.Reportable.{reportable}
 use Rattle.nodes.specs.Run.{cost, run, remains, nextState}
-use Rattle.nodes.specs.Area.{answer, written}
+use Rattle.nodes.specs.Area.{body, answer, written}
 use Rattle.nodes.specs.Claims.{Listed}
 use Rattle.words.specs.Reading.{read}
 use Rattle.nodes.specs.Reading.{reading}
@@ -34,7 +35,7 @@ use Rattle.calls.proofs.Ladder.{ladder, isMalformed, ladder-malformed, 
 use Rattle.calls.proofs.Areas.{state-within}
 use Rattle.calls.proofs.Calls.{Passed, passed-is, nodes-answers, nodes-status, nodes-memory, word-either}
 use Rattle.calls.proofs.Memory.{part-length, part-stored, written-length}
-use Rattle.calls.proofs.Carried.{state-of, written-head}
+use Rattle.calls.proofs.Carried.{state-of, zeros-of, written-head}
 
 -- ---- the checks in the paper's numerals
 
@@ -66,6 +67,19 @@ behind area os state k h =
     let there : k ≡ length front + (k - length front) = omega arith in
     ap (λ (n : ℕ). getD (front ++ drop (length front) area) n 0) there
     ∙ getD-append-add front (drop (length front) area) (k - length front) 0 ∙ getD-drop (length front) area (k - length front) 0 ∙ ap (λ (n : ℕ). getD area n 0) (sym there)
+
+-- the terminator stands behind the run
+ends-zero : (area : List ℕ) (os : List Operation) (state : ℕ) → be32 (written area os state) (16 + 4 * cost (run os state)) ≡ 0
+unfolding written answer
+ends-zero area os state =
+    let front = nextState os state ∷ 0 ∷ 0 ∷ 0 ∷ body (run os state) in
+    let rest = drop (length (wordBytes (answer os state))) area in
+    let n = 16 + 4 * cost (run os state) in
+    let size : length (wordBytes front) ≡ n = simp (length-wordBytes, length-body) (omega arith) in
+    let cut : written area os state ≡ wordBytes front ++ (beBytes 4 0 ++ rest) =
+    ap (λ (l : List ℕ). l ++ rest) (wordBytes-append front (0 ∷ [])) ∙ rw (wordBytes-one 0) (append-assoc (wordBytes front) (beBytes 4 0) rest) in
+    ap (λ (k : ℕ). be 4 (written area os state) k) (omega arith) ∙ sym (be-drop 4 n (written area os state) 0)
+    ∙ ap (λ (l : List ℕ). be 4 (drop n l) 0) cut ∙ ap (λ (l : List ℕ). be 4 l 0) (drop-at (wordBytes front) (beBytes 4 0 ++ rest) n size) ∙ be-bytes 4 0 rest
 
 next-small : (os : List Operation) (state : ℕ) → length os < 4294967296 → nextState os state < 4294967296
 unfolding nextState remains
@@ -134,7 +148,7 @@ module _ (m j : List ℕ) (address scope : ℕ) where
         ∙ part-stored m address 4096 (p .inside) (written area os state) (written-length area os state size within)
 
     answers : Bytes j → exact.Answer area (areaAt after address) os (run os state) state status
-    unfolding remains nextState
+    unfolding remains nextState reserved
     answers bytes =
         let listed : Listed os = area-claims .reportable-listed (rowOf scope) j bytes (p .formed) in
         rw left-is
@@ -142,6 +156,8 @@ module _ (m j : List ℕ) (address scope : ℕ) where
           longest = area-claims .longest-run os state;
           remaining = ap statusWord (nodes-status m address scope j p) ∙ word-either (remains os state);
           new-state = state-of (written area os state) (nextState os state) (written-head area os state) (next-small os state (listed .few));
+          clear = zeros-of (written area os state) (nextState os state) (written-head area os state);
+          terminator = ends-zero area os state;
           unchanged = behind area os state;
           reads-back = area-claims .round-trip area os state size listed within;
         })

@@ -57,7 +57,7 @@ pub record Unknown (f : Found) (x : Left) : Type 0 where
   pub memory : x .memory ≡ f .memory
   pub registration : x .registration ≡ f .registration
 
--- Where a status is in the buffer, it and all that the call leaves are those of the call's own rules at its inputs, by its token and counts.
+-- What a call leaves where a status is in the buffer: token and counts choose the call, whose own rules decide.
 pub record ByToken (f : Found) (x : Left) : Type 0 where
   -- "Inputs: address, scope. One output."
   pub nodes : Asks 1 2 1 (f .args) →
@@ -91,7 +91,7 @@ pub record Accounted (j : List ℕ) (scope : ℕ) (os : List Operation) (st : St
   -- "Until one says done, no well-made call that carries those sixteen bytes is refused"
   pub answers : st .done ≡ false → (c : Found) → WellMade j scope st c → isAnswered c ≡ true
 
--- "so the session ends": it is done once 1015 times the calls that were well made when they came are more than W
+-- "so the session ends": n calls that are well made when they come suffice where 1015 x n is above W
 abbrev pub Ends : List ℕ → ℕ → List Operation → List Found → Type 0
 Ends j scope os cs = (n : ℕ) → Among after (WellMade j scope) start cs n → operandWords os < 1015 * n → standing cs .done ≡ true
 

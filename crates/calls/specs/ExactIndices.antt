@@ -34,7 +34,7 @@ pub record Passed (i : List ℕ) (es : List Entry) (size number : ℕ) : Type 0 
   pub to-last : number ≤ length es
   pub due : 4 + taken (take 1 (drop (number - 1) es)) ≤ size
 
--- what an answer that hands out a run of entries from a number on leaves where an area of a size stood, and its Next Starting Number
+-- What an answer leaves in its area, and gives as the Next Starting Number, when it hands out a run of entries from a number on.
 pub record Answer (area left : List ℕ) (es handed : List Entry) (size number status next : ℕ) : Type 0 where
   -- "The longest fitting run is returned, never zero entries"
   pub longest : LongestOf size (drop (number - 1) es) handed
@@ -49,7 +49,7 @@ pub record Answer (area left : List ℕ) (es handed : List Entry) (size number s
   -- "Reading what was written gives back the same entries."
   pub reads-back : reading left ≡ read handed
 
--- the call at its inputs: the status and the number that it gives, and memory before and after
+-- The call at its inputs: its status and number, and memory before and after it.
 pub record ExactIndices (m i : List ℕ) (flag type address size number status next : ℕ) (after : List ℕ) : Type 0 where
   pub answered : Exactly (status ≤ 1) (Asked m flag type address size × Passed i (listed flag type i) size number)
   pub malformed : Exactly (status ≡ minus 1) (Asked m flag type address size × (wellFormed i ≡ false))

@@ -32,7 +32,7 @@ pub record Passed (j area : List ℕ) (os : List Operation) : Type 0 where
   pub clear : zeros (slice 4 16 area) ≡ true
   pub begun : (be32 area 0 ≡ 0) ⊎ (be32 area 0 < length os)
 
--- what an answer that hands out a run of operations from a state on leaves where an area stood
+-- What an answer leaves in its area, when it hands out a run of operations from a state on.
 pub record Answer (area left : List ℕ) (os handed : List Operation) (state status : ℕ) : Type 0 where
   -- "The call hands out the longest run of operations, from the state on, that fits 1,019 words."
   pub longest : LongestOf (drop state os) handed
@@ -40,12 +40,15 @@ pub record Answer (area left : List ℕ) (os handed : List Operation) (state sta
   pub remaining : status ≡ cond (ltb (state + length handed) (length os)) 1 0
   -- "new state (0 when nothing remains)"
   pub new-state : be32 left 0 ≡ cond (ltb (state + length handed) (length os)) (state + length handed) 0
+  -- "twelve zero bytes", "then 0x00000000"
+  pub clear : zeros (slice 4 16 left) ≡ true
+  pub terminator : be32 left (16 + 4 * cost handed) ≡ 0
   -- "Bytes after the terminator stay unchanged."
   pub unchanged : (k : ℕ) → 16 + 4 * cost handed + 4 ≤ k → getD left k 0 ≡ getD area k 0
   -- "Reading what was written gives back the same entries."
   pub reads-back : reading left ≡ read handed
 
--- the call at its inputs: the status that it gives, and memory before and after
+-- The call at its inputs: its status, and memory before and after it.
 pub record ExactNodes (m j : List ℕ) (address scope status : ℕ) (after : List ℕ) : Type 0 where
   pub answered :
       let area = partAt m address 4096 in

@@ -12,6 +12,7 @@ use Rattle.nodes.specs.Reading as node-area
 use Rattle.inventory.specs.Claims.{entry, bytes}
 use Rattle.indices.specs.Area.{entryBytes}
 use Rattle.indices.specs.Reading as index-area
+use Rattle.dump.specs.declared.registration.Registration.{Registration}
 use Rattle.dump.specs.declared.registration.Phase.{Phase}
 use Rattle.dump.specs.declared.registration.Phase.the-variants.{Unregistered, Registered, Active}
 use Rattle.dump.specs.Claims.{from, bare, asked, times}
@@ -123,6 +124,30 @@ same (x ∷ xs) (y ∷ ys) = eqb x y && same xs ys
 abbrev pub reports : ℕ → List ℕ → Bool
 reports scope ws = same (take (length ws) (drop 4 (words (updateNodes (everyType 14) scope (0 ∷ 0 ∷ 0 ∷ 0 ∷ []) .memory)))) ws
 
+-- ---- bytes, so that no definition stands between a case and the paper
+
+abbrev pub none : Registration
+none = record { phase = Unregistered; len = 0; copy = [] }
+
+-- update-nodes of scope 1: a delete, an addition, and a delete with a lower phandle
+abbrev pub nodesBytes : Left
+nodesBytes =
+    callOf (found (0 ∷ 0 ∷ 0 ∷ 1 ∷ 0 ∷ 0 ∷ 0 ∷ 2 ∷ 0 ∷ 0 ∷ 0 ∷ 1 ∷ 0 ∷ 0 ∷ 0 ∷ 0 ∷ 0 ∷ 0 ∷ 0 ∷ 1 ∷ 9 ∷ 9 ∷ 9 ∷ 9 ∷ []) (replicate 16 0 ++ replicate 4080 7)
+    ((8 ∷ 0 ∷ 1 ∷ 0 ∷ 11 ∷ 0 ∷ 8 ∷ 7 ∷ 6 ∷ 5 ∷ []) ++ ((12 ∷ 0 ∷ 3 ∷ 0 ∷ 10 ∷ 0 ∷ 4 ∷ 3 ∷ 2 ∷ 1 ∷ 12 ∷ 11 ∷ 10 ∷ 9 ∷ []) ++ (8 ∷ 0 ∷ 1 ∷ 0 ∷ 10 ∷ 0 ∷ 2 ∷ 0 ∷ 0 ∷ 0 ∷ []))) [] none)
+
+-- get-indices of sensors of type 0x01020304 among others, in an area at address 8
+abbrev pub indicesBytes : Left
+indicesBytes =
+    callOf (found (0 ∷ 0 ∷ 0 ∷ 2 ∷ 0 ∷ 0 ∷ 0 ∷ 5 ∷ 0 ∷ 0 ∷ 0 ∷ 2 ∷ 0 ∷ 0 ∷ 0 ∷ 1 ∷ 1 ∷ 2 ∷ 3 ∷ 4 ∷ 0 ∷ 0 ∷ 0 ∷ 8 ∷ 0 ∷ 0 ∷ 0 ∷ 100 ∷ 0 ∷ 0 ∷ 0 ∷ 1 ∷ replicate 8 9) (replicate 200 7) []
+    ((15 ∷ 0 ∷ 16 ∷ 0 ∷ 1 ∷ 0 ∷ 4 ∷ 3 ∷ 2 ∷ 1 ∷ 8 ∷ 7 ∷ 6 ∷ 5 ∷ 85 ∷ 55 ∷ 56 ∷ []) ++ ((13 ∷ 0 ∷ 16 ∷ 0 ∷ 0 ∷ 0 ∷ 4 ∷ 3 ∷ 2 ∷ 1 ∷ 1 ∷ 0 ∷ 0 ∷ 0 ∷ 65 ∷ []) ++ ((13 ∷ 0 ∷ 16 ∷ 0 ∷ 1 ∷ 0 ∷ 4 ∷ 3 ∷ 2 ∷ 0 ∷ 1 ∷ 0 ∷ 0 ∷ 0 ∷ 65 ∷ []) ++ (16 ∷ 0 ∷ 16 ∷ 0 ∷ 1 ∷ 0 ∷ 4 ∷ 3 ∷ 2 ∷ 1 ∷ 3 ∷ 0 ∷ 0 ∷ 0 ∷ 65 ∷ 66 ∷ 67 ∷ 68 ∷ [])))) none)
+
+-- configure-kernel-dump: command 1 for a structure of one section without a disk, all of whose free fields are zero
+abbrev pub zeroStructure : List ℕ
+zeroStructure = (0 ∷ 0 ∷ 0 ∷ 1 ∷ 0 ∷ 1 ∷ 0 ∷ 0 ∷ 0 ∷ 0 ∷ 0 ∷ 40 ∷ replicate 28 0) ++ (0 ∷ 0 ∷ 0 ∷ 1 ∷ 0 ∷ 1 ∷ replicate 34 0)
+
+abbrev pub dumpBytes : Left
+dumpBytes = callOf (found (0 ∷ 0 ∷ 0 ∷ 3 ∷ 0 ∷ 0 ∷ 0 ∷ 3 ∷ 0 ∷ 0 ∷ 0 ∷ 1 ∷ 0 ∷ 0 ∷ 0 ∷ 1 ∷ 0 ∷ 0 ∷ 0 ∷ 2 ∷ 0 ∷ 0 ∷ 0 ∷ 80 ∷ 9 ∷ 9 ∷ 9 ∷ 9 ∷ []) (7 ∷ 7 ∷ zeroStructure) [] [] none)
+
 -- ---- the table
 
 abbrev pub cases : List Bool
@@ -158,7 +183,19 @@ cases =
     -- * "Ten sections at offset 112, length 512, no disk: good. At 113: -3."
     ∷ dump Unregistered (from 112 (bare 10 112) (times 10 (asked 1))) 1 0 512 0
     ∷ dump Unregistered (from 113 (bare 10 113) (times 10 (asked 1))) 1 0 512 (minus 3)
-    -- Our own: what each scope reports, deletes, then updates, then additions
+    -- Our own, in bytes
+    ∷ same (drop 20 (nodesBytes .args)) (0 ∷ 0 ∷ 0 ∷ 0 ∷ [])
+    ∷ same (take 45 (nodesBytes .memory)) (replicate 16 0 ++ (1 ∷ 0 ∷ 0 ∷ 2 ∷ 5 ∷ 6 ∷ 7 ∷ 8 ∷ 0 ∷ 0 ∷ 0 ∷ 2 ∷ 3 ∷ 0 ∷ 0 ∷ 2 ∷ 1 ∷ 2 ∷ 3 ∷ 4 ∷ 9 ∷ 10 ∷ 11 ∷ 12 ∷ 0 ∷ 0 ∷ 0 ∷ 0 ∷ 7 ∷ []))
+    ∷ same (drop 32 (indicesBytes .args)) (0 ∷ 0 ∷ 0 ∷ 0 ∷ 0 ∷ 0 ∷ 0 ∷ 1 ∷ [])
+    ∷ same (take 41 (indicesBytes .memory)) (replicate 8 7 ++ (0 ∷ 0 ∷ 0 ∷ 2 ∷ 5 ∷ 6 ∷ 7 ∷ 8 ∷ 0 ∷ 0 ∷ 0 ∷ 4 ∷ 85 ∷ 55 ∷ 56 ∷ 0 ∷ 0 ∷ 0 ∷ 0 ∷ 3 ∷ 0 ∷ 0 ∷ 0 ∷ 8 ∷ 65 ∷ 66 ∷ 67 ∷ 68 ∷ 0 ∷ 0 ∷ 0 ∷ 0 ∷ 7 ∷ []))
+    ∷ same (drop 24 (dumpBytes .args)) (0 ∷ 0 ∷ 0 ∷ 0 ∷ [])
+    -- two opcodes in one run
+    ∷ nodes (journalOf 1 1016 0) 1 0 0 1017 0
+    ∷ nodes (journalOf 1 0 508) 1 0 0 509 0
+    ∷ nodes (journalOf 0 1 508) 1 0 0 509 0
+    ∷ nodes (journalOf 0 1018 0) 1 0 0 1018 0
+    -- what each scope reports, deletes, then updates, then additions; every negative scope has the same row
+    ∷ reports 2147483648 (16777221 ∷ 10 ∷ 11 ∷ 12 ∷ 13 ∷ 14 ∷ 33554440 ∷ 5 ∷ 8 ∷ 9 ∷ 10 ∷ 11 ∷ 12 ∷ 13 ∷ 14 ∷ 50331658 ∷ 10 ∷ 77 ∷ 11 ∷ 77 ∷ 12 ∷ 77 ∷ 13 ∷ 77 ∷ 14 ∷ 77 ∷ 0 ∷ [])
     ∷ reports 4294967295 (16777221 ∷ 10 ∷ 11 ∷ 12 ∷ 13 ∷ 14 ∷ 33554440 ∷ 5 ∷ 8 ∷ 9 ∷ 10 ∷ 11 ∷ 12 ∷ 13 ∷ 14 ∷ 50331658 ∷ 10 ∷ 77 ∷ 11 ∷ 77 ∷ 12 ∷ 77 ∷ 13 ∷ 77 ∷ 14 ∷ 77 ∷ 0 ∷ [])
     ∷ reports 1 (16777223 ∷ 6 ∷ 9 ∷ 10 ∷ 11 ∷ 12 ∷ 13 ∷ 14 ∷ 33554446 ∷ 1 ∷ 2 ∷ 3 ∷ 4 ∷ 5 ∷ 6 ∷ 7 ∷ 8 ∷ 9 ∷ 10 ∷ 11 ∷ 12 ∷ 13 ∷ 14 ∷ 50331662 ∷ 6 ∷ 77 ∷ 9 ∷ 77 ∷ 10 ∷ 77 ∷ 11 ∷ 77 ∷ 12 ∷ 77 ∷ 13 ∷ 77 ∷ 14 ∷ 77 ∷ 0 ∷ [])
     ∷ reports 2 (33554433 ∷ 3 ∷ 0 ∷ [])

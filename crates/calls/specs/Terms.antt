@@ -11,7 +11,7 @@ use Rattle.calls.specs.Buffer.{Left}
 abbrev pub minus : ℕ → ℕ
 minus n = 4294967296 - n
 
--- 01: "0: none of these: a status is in the buffer"
+-- 01: number 0: "none of these: a status is in the buffer"
 abbrev pub HasStatus : Left → Type 0
 HasStatus x = numberOf (x .number) ≡ 0
 

@@ -22,7 +22,7 @@ pub record HandedOut (i : List ℕ) (flag kind : ℕ) (es : List Entry) (st : St
   -- until status 0 any call with the next number and an area of 92 bytes or more inside memory is answered
   pub answers : askable flag kind ≡ true → 1 ≤ length es → st .done ≡ false → (c : Found) → WellMade i flag kind st c → isAnswered c ≡ true
 
--- so the session ends: where the type may be asked for and has an entry, it is done once as many calls were well made when they came as there are entries
+-- So the session ends: as many calls that are well made when they come as there are entries suffice, where the type may be asked for and has one.
 abbrev pub Ends : List ℕ → ℕ → ℕ → List Entry → List Found → Type 0
 Ends i flag kind es cs = askable flag kind ≡ true → 1 ≤ length es → (n : ℕ) → Among after (WellMade i flag kind) start cs n → length es ≤ n → standing cs .done ≡ true
 

@@ -1,5 +1,5 @@
--- Sessions of which the claims speak, so that none of these is empty; cited by the contract of `call`. In each, two calls are well made when they
--- come, one between them is refused, and the second says done.
+-- Sessions of which the claims speak, so that none of the claims is empty; cited by the contract of `call`. Each has three calls: the first is
+-- well made and answered, the second is refused, the last is well made and says done.
 use Prim.Native.Nat.{ℕ, _*_, _≤_, _<_}
 use mathlib.Core.Path.{_≡_}
 use mathlib.Core.Bool.{true, false}

@@ -7,3 +7,4 @@ pub mod Steps
 pub mod Decoding
 pub mod Claims
 pub mod Answers
+pub mod ReadingCases

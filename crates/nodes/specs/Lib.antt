@@ -7,3 +7,4 @@ pub mod Cursor
 pub mod Claims
 pub mod Source
 pub mod Writing
+pub mod ReadingCases

@@ -6,6 +6,7 @@ ghost use Prim.Native.Nat.{_-_, _%_, _<_};
 ghost use lib.ListN.{length, drop};
 ghost use Rattle.words.specs.Numbers.{words};
 ghost use Rattle.nodes.specs.Reading.{faultOf, operationsIn, verdict, operationsAt, single, readBy, reading, checkOf};
+ghost use Rattle.nodes.specs.ReadingCases.{ReadingCases};
 ghost use Rattle.nodes.specs.Cursor.{stepAt, nextOf, StepsGive, startOf, EntriesInOrder};
 use crate::run::less;
 use journal::Operation;
@@ -108,6 +109,7 @@ fn check_operators(area: &[u8]) -> Check
 // The whole area judged: the number of its operations, or the first refusal.
 pub fn check_area(area: &[u8]) -> Check
     ensures { λ r. ⌜ r ≡ checkOf (reading (now (area .entry))) ⌝ }
+    ensures cases { λ _. ⌜ ReadingCases ⌝ }
 {
     if area.len() != 4096 {
         return Check::Refused(Refusal::Size, 0);

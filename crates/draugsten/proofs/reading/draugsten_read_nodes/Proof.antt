@@ -24,7 +24,7 @@ least-requires c κs = search needs
 
 -- the check found operations
 found : (c : tie.After-found2) → Good (now (c .before .before .before .before .before .args .area)) (c .found2 .given .0 .0)
-found c = good _ _ _ (c .before .before .check-area .ensures) (c .found2 .given .1)
+found c = good _ _ _ (c .before .before .check-area .ensures .0) (c .found2 .given .1)
 
 store-operations-requires : tie.Need-store-operations-requires
 store-operations-requires c κs = let g = found (c .before .before .before) in let least = c .least .ensures in (omega arith, omega arith)
@@ -33,7 +33,7 @@ read-be32-requires : tie.Need-read-be32-requires
 read-be32-requires c κs = omega (arith, found (c .before .before .before .before .before .before) .size)
 
 returns : tie.Need-returns
-returns c = rw (refused-reading _ _ _ _ (c .before .before .before .before .check-area .ensures) (c .before .before .found .given .1), c .node-refusal .ensures) (refl, refl)
+returns c = rw (refused-reading _ _ _ _ (c .before .before .before .before .check-area .ensures .0) (c .before .before .found .given .1), c .node-refusal .ensures) (refl, refl)
 
 same-length : tie.Need-same-length
 same-length c = search needs

@@ -3,26 +3,27 @@ use borrow.Author.Needs.{needs}
 use borrow.Author.Tests.{eq-eqb, ne-eqb}
 use Rattle.nodes.specs.Reading.{reading}
 use Rattle.words.proofs.Words.{words-drop}
+use Rattle.nodes.proofs.ReadingCases.{reading-cases}
 use Rattle.nodes.proofs.reading.check_area.Statement.{statement}
 use Rattle.nodes.proofs.reading.check_area.Tie as tie
 
 returns : tie.Need-returns
 unfolding reading
-returns c = rw (ne-eqb _ 4096 (c .if1 .taken))
+returns c = (rw (ne-eqb _ 4096 (c .if1 .taken)), reading-cases)
 
 is-zero-requires : tie.Need-is-zero-requires
 is-zero-requires c κs = search needs
 
 returns-2 : tie.Need-returns-2
 unfolding reading
-returns-2 c = rw (eq-eqb _ 4096 (c .before .before .if1 .left), ← c .before .is-zero .ensures, c .if2 .taken)
+returns-2 c = (rw (eq-eqb _ 4096 (c .before .before .if1 .left), ← c .before .is-zero .ensures, c .if2 .taken), reading-cases)
 
 check-operators-requires : tie.Need-check-operators-requires
 check-operators-requires c κs = search needs
 
 returns-3 : tie.Need-returns-3
 unfolding reading
-returns-3 c = rw (eq-eqb _ 4096 (c .before .before .before .if1 .left), ← c .before .before .is-zero .ensures, c .before .if2 .left, words-drop 4 _) (c .check-operators .ensures)
+returns-3 c = (rw (eq-eqb _ 4096 (c .before .before .before .if1 .left), ← c .before .before .is-zero .ensures, c .before .if2 .left, words-drop 4 _) (c .check-operators .ensures), reading-cases)
 
 pub check-area-spec : {M : Type 1} → statement M
 check-area-spec =

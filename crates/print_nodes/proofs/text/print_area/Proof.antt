@@ -24,10 +24,10 @@ enum-known-found-2 : tie.Need-enum-known-found-2
 enum-known-found-2 c = search needs
 
 put-area-requires : tie.Need-put-area-requires
-put-area-requires c κs = sym (c .before .before .before .before .check-area .ensures) ∙ c .before .before .found2 .given .1
+put-area-requires c κs = sym (c .before .before .before .before .check-area .ensures .0) ∙ c .before .before .found2 .given .1
 
 returns : tie.Need-returns
-returns c = put-whole {t = text (now (c .before .before .before .before .before .before .before .before .args .input))} long-input (rw (refused-text _ _ _ (sym (c .before .before .before .before .before .before .check-area .ensures) ∙ c .before .before .before .before .found .given .1), ← (c .before .before .refusal-number .ensures)) (c .put-refusal .ensures))
+returns c = put-whole {t = text (now (c .before .before .before .before .before .before .before .before .args .input))} long-input (rw (refused-text _ _ _ (sym (c .before .before .before .before .before .before .check-area .ensures .0) ∙ c .before .before .before .before .found .given .1), ← (c .before .before .refusal-number .ensures)) (c .put-refusal .ensures))
 
 returns-2 : tie.Need-returns-2
 returns-2 c = put-whole long-input (c .put-area .ensures)
