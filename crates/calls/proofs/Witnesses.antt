@@ -9,9 +9,10 @@ use borrow.Author.Tests.{ltb-true, leb-true}
 use Rattle.words.specs.Numbers.{Bytes, be, le, beBytes, wordBytes, zeros}
 use Rattle.words.proofs.Choice.{and-left, and-right}
 use Rattle.records.specs.Records.{records, recordsFrom, whole, allGood, wellFormedBy, lengthOf, kindOf}
+use Rattle.records.specs.Choosing.{chosenBy}
 use Rattle.journal.specs.Journal.{goodFrame, nodeType, goodRecord, wellFormed, operationOf, entries}
 use Rattle.journal.specs.Scope.{negative, valid, rowOf}
-use Rattle.journal.specs.Reportable.{reports, chosen, reportable, operandWords}
+use Rattle.journal.specs.Reportable.{reports, reportable, operandWords}
 use Rattle.nodes.specs.Run.{present, cost, longest, run, remains, nextState}
 use Rattle.nodes.specs.Area.{operandsOf, body, answer, written}
 use Rattle.inventory.specs.Inventory.{flagOf, typeOf, indexOf, codeOf, nonZero, goodCode}
@@ -37,7 +38,7 @@ bytes-by (x ∷ xs) e zero = ltb-true x 256 (and-left _ _ e)
 bytes-by (x ∷ xs) e (suc i) = bytes-by xs (and-right (ltb x 256) _ e) i
 
 pub nodes-witness : NodesWitness
-unfolding be le beBytes wordBytes zeros records recordsFrom whole allGood wellFormedBy lengthOf kindOf goodFrame nodeType goodRecord wellFormed operationOf entries negative valid rowOf reports chosen reportable operandWords present cost longest run remains nextState operandsOf body answer written partAt withPart placed reserved goodState areaStatus areaAfter nodesStatus nodesMemory numberFor asks nodesOutcome outcome callOf answered afterCall
+unfolding be le beBytes wordBytes zeros records recordsFrom whole allGood wellFormedBy lengthOf kindOf goodFrame nodeType goodRecord wellFormed operationOf entries negative valid rowOf reports chosen reportable operandWords present cost longest run remains nextState operandsOf body answer written partAt withPart placed reserved goodState areaStatus areaAfter nodesStatus nodesMemory numberFor asks nodesOutcome outcome callOf answered afterCall chosenBy
 nodes-witness =
     record {
       bytes = bytes-by additions refl;
@@ -61,7 +62,7 @@ nodes-witness =
     }
 
 pub indices-witness : IndicesWitness
-unfolding be le beBytes wordBytes zeros records recordsFrom whole allGood wellFormedBy lengthOf kindOf flagOf typeOf indexOf codeOf nonZero goodCode inventory.goodRecord inventory.wellFormed listing.matches listing.chosen listing.listed codeField entryBytes entriesBytes fitting index-area.run index-area.answer index-area.written partAt withPart askable lendable goodNumber dueFits moreEntries listStatus indicesStatus indicesMemory nextNumber numberFor asks indicesOutcome outcome callOf answered afterCall
+unfolding be le beBytes wordBytes zeros records recordsFrom whole allGood wellFormedBy lengthOf kindOf flagOf typeOf indexOf codeOf nonZero goodCode inventory.goodRecord inventory.wellFormed listing.matches listing.chosen listing.listed codeField entryBytes entriesBytes fitting index-area.run index-area.answer index-area.written partAt withPart askable lendable goodNumber dueFits moreEntries listStatus indicesStatus indicesMemory nextNumber numberFor asks indicesOutcome outcome callOf answered afterCall chosenBy
 indices-witness =
     record {
       bytes = bytes-by sensors refl;

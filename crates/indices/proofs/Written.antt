@@ -14,6 +14,8 @@ use Rattle.words.specs.Nul.{untilNul}
 use Rattle.words.proofs.Choice.{choose, and-left, and-right}
 use Rattle.words.proofs.Numbers.{be-drop, be-bytes, length-beBytes, le-below}
 use Rattle.records.specs.Records.{kindOf, whole, recordsFrom, records, allGood, wellFormedBy}
+use Rattle.records.specs.Choosing.{chosenBy}
+use Rattle.records.proofs.Choosing.{chosen-few}
 use Rattle.records.proofs.Steps.{EachBytes, records-bytes, records-few}
 use Rattle.inventory.specs.Inventory.{flagOf, indexOf, nonZero, goodCode, goodRecord, wellFormed}
 use Rattle.inventory.specs.Listing.{Entry, entryOf, matches, chosen, listed}
@@ -174,7 +176,7 @@ fitting-front room (e ∷ es) =
 -- ---- the entries of an inventory
 
 chosen-sound : (flag type : ℕ) (rs : List (List ℕ)) → EachBytes rs → allGood goodRecord rs ≡ true → Sound (chosen flag type rs)
-unfolding chosen allGood goodRecord indexOf Sound
+unfolding chosenBy allGood goodRecord indexOf Sound
 chosen-sound flag type [] h g = tt
 chosen-sound flag type (r ∷ rs) h g = go (matches flag type r) (chosen-sound flag type rs (h .1) (and-right (whole r && goodRecord r) _ g))
   where
@@ -185,14 +187,6 @@ chosen-sound flag type (r ∷ rs) h g = go (matches flag type r) (chosen-sound f
     go true k = (le-below r (h .0) 4 10, and-right (leb (flagOf r) 1) _ (and-right (eqb (kindOf r) 16) _ good), k)
     go false k = k
 
-chosen-few : (flag type : ℕ) (rs : List (List ℕ)) → length (chosen flag type rs) ≤ length rs
-unfolding chosen
-chosen-few flag type [] = omega arith
-chosen-few flag type (r ∷ rs) =
-    choose (matches flag type r) (λ l. length l ≤ suc (length rs)) {x = entryOf r ∷ chosen flag type rs} {y = chosen flag type rs}
-    (λ _. omega (arith, chosen-few flag type rs))
-    (λ _. omega (arith, chosen-few flag type rs))
-
 module _ (flag type : ℕ) (inventory : List ℕ) (formed : wellFormed inventory ≡ true) where
   pub listed-sound : Bytes inventory → Sound (listed flag type inventory)
   unfolding listed records wellFormed wellFormedBy
@@ -200,7 +194,7 @@ module _ (flag type : ℕ) (inventory : List ℕ) (formed : wellFormed inventory
 
   pub listed-few : length (listed flag type inventory) ≤ 1048576
   unfolding listed records wellFormed wellFormedBy
-  listed-few = omega (arith, leb-true (length inventory) 1048576 (and-left _ _ formed), chosen-few flag type (recordsFrom 0 inventory), records-few 0 inventory)
+  listed-few = omega (arith, leb-true (length inventory) 1048576 (and-left _ _ formed), chosen-few (matches flag type) entryOf (recordsFrom 0 inventory), records-few 0 inventory)
 
 pub reads-back : ReadsBack
 unfolding run

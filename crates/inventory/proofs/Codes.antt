@@ -10,15 +10,8 @@ use lib.Dec.{eqb}
 use lib.ListN.{length, getD, take, drop}
 use lib.Seq.{slice, slice-cons, slice-empty, take-add, drop-append-add, length-take-le}
 use borrow.Author.Tests.{ne-eqb}
+use Rattle.records.proofs.Choosing.{one-if}
 use Rattle.inventory.specs.Inventory.{nonZero, zeroCount}
-
--- a test as a number
-abbrev pub one-if : Bool → ℕ
-one-if b = cond b 1 0
-
-pub one-if-le : (b : Bool) → one-if b ≤ 1
-one-if-le true = omega arith
-one-if-le false = omega arith
 
 -- one byte more of a part
 pub zero-count-next : (s : List ℕ) (i to : ℕ) → i < to → to ≤ length s → zeroCount (slice i to s) ≡ one-if (eqb (getD s i 0) 0) + zeroCount (slice (i + 1) to s)

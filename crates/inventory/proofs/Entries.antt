@@ -1,49 +1,20 @@
 -- The entries of a flag and type, one record after the other.
 use mathlib.Core.Path.{_≡_, refl, sym, ap, _∙_}
-use mathlib.Core.Bool.{Bool, true, false, cond, and-false}
-use mathlib.Core.List.{List, [], _∷_}
+use mathlib.Core.Bool.{true, false, and-false}
+use mathlib.Core.List.{List}
 use Prim.Native.Nat.{ℕ, _+_, _-_, _<_, _≤_}
 use native.Mathlib.Omega.{arith}
 use lib.ListN.{length, drop}
-use lib.Seq.{drop-drop}
 use borrow.Author.Tests.{le-leb, lt-leb}
 use Rattle.records.specs.Records.{firstRecord, records, allGood, wellFormedBy}
-use Rattle.records.proofs.Steps.{records-step, records-end, good-step, bad-step, none-good}
+use Rattle.records.specs.Choosing.{Before}
+use Rattle.records.proofs.Choosing.{one-if, one-if-le, each-record, before-step, before-all}
+use Rattle.records.proofs.Steps.{good-step, bad-step, none-good}
 use Rattle.inventory.specs.Inventory.{goodRecord, wellFormed}
-use Rattle.inventory.specs.Listing.{Entry, entryOf, matches, chosen, listed}
+use Rattle.inventory.specs.Listing.{entryOf, matches, listed}
 use Rattle.inventory.specs.Scanning.{From, Tells}
 use Rattle.inventory.specs.declared.scanning.Judgement.the-variants.{Counted}
-use Rattle.inventory.proofs.Codes.{one-if, one-if-le}
 use Rattle.inventory.proofs.RecordLaws.{goodHere, Stands}
-
-module _ (flag type : ℕ) (r : List ℕ) (rs : List (List ℕ)) where
-  pub chosen-yes : matches flag type r ≡ true → chosen flag type (r ∷ rs) ≡ entryOf r ∷ chosen flag type rs
-  unfolding chosen
-  chosen-yes h = rw h
-
-  pub chosen-no : matches flag type r ≡ false → chosen flag type (r ∷ rs) ≡ chosen flag type rs
-  unfolding chosen
-  chosen-no h = rw h
-
-  chosen-length : length (chosen flag type (r ∷ rs)) ≡ one-if (matches flag type r) + length (chosen flag type rs)
-  unfolding chosen
-  chosen-length = go (matches flag type r) (chosen flag type rs)
-    where
-      go : (b : Bool) (es : List Entry) → length (cond b (entryOf r ∷ es) es) ≡ one-if b + length es
-      go true es = omega arith
-      go false es = omega arith
-
-  chosen-drop : drop (one-if (matches flag type r)) (chosen flag type (r ∷ rs)) ≡ chosen flag type rs
-  unfolding chosen
-  chosen-drop = go (matches flag type r) (chosen flag type rs)
-    where
-      go : (b : Bool) (es : List Entry) → drop (one-if b) (cond b (entryOf r ∷ es) es) ≡ es
-      go true es = refl
-      go false es = refl
-
-pub chosen-none : (flag type : ℕ) → chosen flag type [] ≡ []
-unfolding chosen
-chosen-none flag type = refl
 
 pub oversized : (inventory : List ℕ) → 1048576 < length inventory → wellFormed inventory ≡ false
 unfolding wellFormed wellFormedBy
@@ -51,18 +22,21 @@ oversized inventory h = rw (lt-leb (length inventory) 1048576 h)
 
 -- a place that the entries were counted to
 module _ {flag type passed at : ℕ} {inventory : List ℕ} (f : From flag type inventory passed at) where
+  before : Before (matches flag type) entryOf records inventory at passed
+  unfolding listed
+  before = record { number = f .number; rest = f .rest }
+
   -- past a good record
   from-step : (size : ℕ) → at < length inventory → Stands inventory at size → From flag type inventory (passed + one-if (matches flag type (firstRecord (drop at inventory)))) (at + size)
+  unfolding listed
   from-step size h g =
-      let r = firstRecord (drop at inventory) in
-      let rs = records (drop (at + size) inventory) in
-      let n = one-if (matches flag type r) in
-      let p : records (drop at inventory) ≡ r ∷ rs = rw (g .size-is) (records-step inventory at h) in
+      let p : Before (matches flag type) entryOf records inventory (at + size) (passed + one-if (matches flag type (firstRecord (drop at inventory)))) =
+      rw (g .size-is) (before-step (matches flag type) entryOf each-record inventory at passed before h) in
       record {
         inside = g .fits;
         sound = f .sound ∙ good-step goodRecord inventory at h (g .good) ∙ ap (λ (k : ℕ). allGood goodRecord (records (drop (at + k) inventory))) (sym (g .size-is));
-        number = omega (arith, f .number, ap (λ (x : List (List ℕ)). length (chosen flag type x)) p, chosen-length flag type r rs);
-        rest = sym (drop-drop n passed (listed flag type inventory)) ∙ ap (drop n) (f .rest ∙ ap (chosen flag type) p) ∙ chosen-drop flag type r rs;
+        number = p .number;
+        rest = p .rest;
       }
 
   -- at a bad one
@@ -76,7 +50,8 @@ module _ {flag type passed at : ℕ} {inventory : List ℕ} (f : From flag type 
   end-good l h = rw (le-leb (length inventory) 1048576 l, f .sound, none-good goodRecord inventory at h)
 
   end-count : length inventory ≤ at → passed ≡ length (listed flag type inventory)
-  end-count h = omega (arith, f .number, ap (λ (x : List (List ℕ)). length (chosen flag type x)) (records-end inventory at h), ap length (chosen-none flag type))
+  unfolding listed
+  end-count h = before-all (matches flag type) entryOf each-record inventory at passed before h
 
 -- A scan has come to a place: the entries before it are counted, and if the entry due is among them, a place is noted from which on the list holds the entries from that one on.
 pub record Scanned (flag type number : ℕ) (inventory : List ℕ) (at count due : ℕ) : Type 0 where

@@ -1,19 +1,16 @@
 -- The search for the next entry of a flag and type, one record after the other.
-use mathlib.Core.Path.{_≡_, refl, sym, ap, _∙_}
+use mathlib.Core.Path.{_≡_, refl, sym, _∙_}
 use mathlib.Core.Bool.{true, false, _&&_}
-use mathlib.Core.List.{List, _∷_}
-use mathlib.Core.Logic.{⊎-elim}
+use mathlib.Core.List.{List}
 use Prim.Native.Nat.{ℕ, _+_, _<_}
-use native.Mathlib.Nat.{eq-or-lt-of-le}
-use native.Mathlib.Omega.{arith}
 use lib.ListN.{length, drop}
 use Rattle.words.proofs.Choice.{and-left, and-right}
 use Rattle.records.specs.Records.{sizeOf, firstRecord, records, allGood}
-use Rattle.records.proofs.Steps.{records-step, records-end, judge-step}
+use Rattle.records.proofs.Choosing.{each-record, chosen-here, chosen-later, still-inside}
+use Rattle.records.proofs.Steps.{judge-step}
 use Rattle.inventory.specs.Inventory.{goodRecord}
-use Rattle.inventory.specs.Listing.{matches, chosen}
+use Rattle.inventory.specs.Listing.{entryOf, matches, chosen}
 use Rattle.inventory.specs.Scanning.{Onward, Next}
-use Rattle.inventory.proofs.Entries.{chosen-yes, chosen-no, chosen-none}
 use Rattle.inventory.proofs.RecordLaws.{goodHere, Stands, good-stands}
 
 -- A search has come from a place to another: good records stand from there on, and their entries are those from where it began, at least one.
@@ -25,11 +22,7 @@ pub record Sought (flag type : ℕ) (inventory : List ℕ) (from at : ℕ) : Typ
 module _ {flag type from at : ℕ} {inventory : List ℕ} (t : Sought flag type inventory from at) where
   -- no entry stands at the end
   at-record : at < length inventory
-  at-record =
-      ⊎-elim
-      (λ (e : at ≡ length inventory). absurd (omega (arith, t .some, ap length (t .same ∙ ap (chosen flag type) (records-end inventory at (omega arith)) ∙ chosen-none flag type))))
-      (λ (h : at < length inventory). h)
-      (eq-or-lt-of-le (t .onward .inside))
+  at-record = still-inside (matches flag type) entryOf each-record inventory at (rw (t .same) at (t .some))
 
   judged : (goodHere inventory at && allGood goodRecord (records (drop (at + sizeOf (drop at inventory)) inventory))) ≡ true
   judged = sym (judge-step goodRecord inventory at at-record) ∙ t .onward .good
@@ -41,13 +34,10 @@ module _ {flag type from at : ℕ} {inventory : List ℕ} (t : Sought flag type 
   behind : Onward inventory (at + sizeOf (drop at inventory))
   behind = record { inside = record-sought .fits; good = and-right (goodHere inventory at) _ judged }
 
-  stepped : chosen flag type (records (drop from inventory)) ≡ chosen flag type (firstRecord (drop at inventory) ∷ records (drop (at + sizeOf (drop at inventory)) inventory))
-  stepped = t .same ∙ ap (chosen flag type) (records-step inventory at at-record)
-
   -- past a record of another flag or type
   pub sought-step : (size : ℕ) → size ≡ sizeOf (drop at inventory) → matches flag type (firstRecord (drop at inventory)) ≡ false → Sought flag type inventory from (at + size)
-  sought-step size e h = rw e (record { onward = behind; some = t .some; same = stepped ∙ chosen-no flag type _ _ h })
+  sought-step size e h = rw e (record { onward = behind; some = t .some; same = t .same ∙ chosen-later (matches flag type) entryOf each-record inventory at at-record h })
 
   -- at a record of the flag and type
   pub sought-found : matches flag type (firstRecord (drop at inventory)) ≡ true → Next flag type inventory from at
-  sought-found h = record { of-type = h; large = record-sought .large; small = record-sought .small; onward = behind; first = stepped ∙ chosen-yes flag type _ _ h }
+  sought-found h = record { of-type = h; large = record-sought .large; small = record-sought .small; onward = behind; first = t .same ∙ chosen-here (matches flag type) entryOf each-record inventory at at-record h }

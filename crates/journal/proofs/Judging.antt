@@ -12,6 +12,7 @@ use borrow.Author.Tests.{le-leb, lt-leb, ne-eqb, leb-true, leb-false, eqb-true}
 use Rattle.words.specs.Numbers.{Bytes, le}
 use Rattle.words.proofs.Numbers.{le-split, le-below}
 use Rattle.records.specs.Records.{lengthOf, kindOf, sizeOf, firstRecord, whole}
+use Rattle.records.proofs.Choosing.{one-if}
 use Rattle.records.proofs.Steps.{field-at, length-at, kind-at, record-length, record-kind, whole-at}
 use Rattle.journal.specs.declared.stride.Found.{Found}
 use Rattle.journal.specs.declared.stride.Found.the-variants.{Bad, Good}
@@ -22,7 +23,6 @@ use Rattle.journal.specs.Marks.{count}
 use Rattle.journal.specs.Scanning.{goodAt, weightOf, Judged, FoundAt, Known}
 use Rattle.words.proofs.Choice.{choose, and-left, and-right}
 use Rattle.journal.proofs.Opcodes.{each-code}
-use Rattle.journal.proofs.Entries.{one-if}
 
 -- ---- length and kind
 

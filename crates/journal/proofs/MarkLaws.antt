@@ -1,24 +1,24 @@
 -- Laws of marks: what the code's stores note, what a mark resumes, and where the operation due is sought.
-use mathlib.Core.Path.{_≡_, refl, sym, ap, _∙_}
+use mathlib.Core.Path.{_≡_, refl, sym, _∙_}
 use mathlib.Core.Bool.{cond}
 use mathlib.Core.List.{List, [], _∷_}
 use Prim.Native.Nat.{ℕ, zero, suc, _+_, _*_, _-_, _<_, _≤_}
-use native.Mathlib.Nat.{add-sub-of-le}
 use native.Mathlib.Numerals.{add-one}
 use native.Mathlib.Omega.{arith}
 use lib.Dec.{leb}
-use lib.ListN.{length, getD, set, drop, length-set}
-use lib.Seq.{length-sets, getD-set-same, getD-set-other, drop-drop}
+use lib.ListN.{length, getD, set, length-set}
+use lib.Seq.{length-sets, getD-set-same, getD-set-other}
 use borrow.Author.Count.{below-more}
 use borrow.Author.Tests.{le-leb, lt-leb, leb-true}
 use Rattle.words.proofs.Stores.{sets-before}
 use Rattle.journal.specs.declared.marks.Place.{Place}
 use Rattle.journal.specs.declared.stride.Position.{Position}
-use Rattle.journal.specs.Journal.{entries}
-use Rattle.journal.specs.Reportable.{chosen}
+use Rattle.journal.specs.Reportable.{operation, reports}
 use Rattle.journal.specs.Marks.{count, Resumes, Marked, sought}
-use Rattle.journal.specs.Scanning.{Reached, Noted, kept, added}
+use Rattle.journal.specs.Scanning.{Before, Reached, Noted, kept, added}
 use Rattle.words.proofs.Choice.{choose}
+use Rattle.records.proofs.Choosing.{before-later}
+use Rattle.journal.proofs.Entries.{each-entry}
 
 -- ---- marks noted
 
@@ -92,12 +92,12 @@ module _ (m : List ℕ) (code k : ℕ) where
 -- a place that resumes a list from a number on resumes it from a later one
 later : (row j : List ℕ) (code n k at : ℕ) → Resumes row j code n at 0 → n ≤ k → Resumes row j code k at (k - n)
 later row j code n k at r h =
-    let all = chosen row code (entries j) in
+    let before : Before row j at code n = record { number = omega (arith, r .number); rest = r .same } in
     record {
       inside = r .inside;
       sound = r .sound;
       number = omega (arith, r .number);
-      same = ap (λ (i : ℕ). drop i all) (sym (add-sub-of-le h)) ∙ sym (drop-drop (k - n) n all) ∙ ap (drop (k - n)) (r .same);
+      same = before-later (reports row code) operation each-entry j at n before k h;
     }
 
 -- what is sought resumes the list of the opcode from number k on, for the writer that starts there

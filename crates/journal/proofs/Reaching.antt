@@ -9,17 +9,18 @@ use lib.ListN.{length, drop}
 use borrow.Author.Tests.{le-leb, lt-leb}
 use Rattle.words.specs.Numbers.{le}
 use Rattle.records.specs.Records.{firstRecord, records, whole, allGood, wellFormedBy}
+use Rattle.records.proofs.Choosing.{before-step, before-none, before-all}
 use Rattle.records.proofs.Steps.{good-step, bad-step, none-good}
 use Rattle.journal.specs.declared.scanning.Judgement.the-variants.{Malformed, Counted}
 use Rattle.journal.specs.declared.stride.Position.{Position}
 use Rattle.journal.specs.declared.stride.Step.{Step}
 use Rattle.journal.specs.declared.stride.Step.the-variants.{Bad, Upto}
 use Rattle.journal.specs.Journal.{goodRecord, wellFormed, entries}
-use Rattle.journal.specs.Reportable.{chosen, judgementOf}
+use Rattle.journal.specs.Reportable.{operation, reports, chosen, judgementOf}
 use Rattle.journal.specs.Marks.{count}
 use Rattle.journal.specs.Scanning.{Before, Reached, Went, Judged, fourHeaded, Known, unpacked}
 use Rattle.journal.proofs.Opcodes.{each-code}
-use Rattle.journal.proofs.Entries.{before-step, before-none, before-all}
+use Rattle.journal.proofs.Entries.{each-entry}
 use Rattle.journal.proofs.Judging.{four-equal, judged-size, judged-fits, judged-light, judged-adds}
 
 -- ---- packed counts
@@ -70,10 +71,11 @@ position at counts = record { at = at; counts = counts }
 
 pub reached-none : (row j : List ℕ) → Reached row j (position 0 0)
 reached-none row j =
+    let none : (code : ℕ) → Before row j 0 code 0 = λ code. before-none (reports row code) operation each-entry j in
     record {
       inside = omega arith;
       good = refl;
-      before = each-code (λ (k : ℕ). Before row j 0 k (count k 0)) (before-none row j 1) (before-none row j 2) (before-none row j 3);
+      before = each-code (λ (k : ℕ). Before row j 0 k (count k 0)) (none 1) (none 2) (none 3);
       few = omega arith;
       packed = omega arith;
     }
@@ -90,7 +92,7 @@ module _ (row j : List ℕ) (at counts : ℕ) (small : length j ≤ 1048576) (t 
       record {
         inside = omega arith;
         good = t .good ∙ good-step goodRecord j at h (g .good) ∙ ap (λ (n : ℕ). allGood goodRecord (records (drop (at + n) j))) (g .size-is);
-        before = λ code a b. rw (sums code a b, judged-adds row j at size weight g code a b, ← g .size-is) (before-step row j at code (count code counts) h (t .before code a b));
+        before = λ code a b. rw (sums code a b, judged-adds row j at size weight g code a b, ← g .size-is) (before-step (reports row code) operation each-entry j at (count code counts) (t .before code a b) h);
         few = omega (arith, sums 1 (omega arith) (omega arith), sums 2 (omega arith) (omega arith), sums 3 (omega arith) (omega arith));
         packed = packed-more counts weight at (t .packed) (omega arith) (omega (arith, t .inside)) (light .1);
       }
@@ -104,7 +106,7 @@ module _ (row j : List ℕ) (at counts : ℕ) (small : length j ≤ 1048576) (t 
   pub reached-end : length j ≤ at → Counted (unpacked counts) ≡ judgementOf row j
   unfolding judgementOf wellFormed wellFormedBy
   reached-end h =
-      let all : (code : ℕ) → 1 ≤ code → code ≤ 3 → count code counts ≡ length (chosen row code (entries j)) = λ code a b. before-all row j at code (count code counts) h (t .before code a b) in
+      let all : (code : ℕ) → 1 ≤ code → code ≤ 3 → count code counts ≡ length (chosen row code (entries j)) = λ code a b. before-all (reports row code) operation each-entry j at (count code counts) (t .before code a b) h in
       rw (le-leb (length j) 1048576 small, t .good, none-good goodRecord j at h, ← all 1 (omega arith) (omega arith), ← all 2 (omega arith) (omega arith), ← all 3 (omega arith) (omega arith))
 
 pub oversized : (row j : List ℕ) → 1048576 < length j → wellFormed j ≡ false

@@ -4,6 +4,7 @@ use mathlib.Core.Bool.{Bool, cond, _&&_}
 use mathlib.Core.List.{List, [], _∷_, _++_}
 use lib.Dec.{eqb}
 use lib.ListN.{length, getD}
+use Rattle.records.specs.Choosing.{chosenBy}
 use Rattle.journal.specs.declared.operation.Operation.{Operation}
 use Rattle.journal.specs.declared.scanning.Counts.{Counts}
 use Rattle.journal.specs.declared.scanning.Judgement.{Judgement}
@@ -11,18 +12,17 @@ use Rattle.journal.specs.declared.scanning.Judgement.the-variants.{Malfo
 use Rattle.journal.specs.Journal.{Entry, opcode, operands, entries, wellFormed}
 use Rattle.journal.specs.Scope.{holds}
 
+abbrev pub operation : Entry → Operation
+operation e = e .operation
+
 -- a row reports an entry under an opcode
 unfoldable pub reports : List ℕ → ℕ → Entry → Bool
 reports row code e = eqb (opcode (e .operation)) code && holds (getD row (e .node) 0) code
 
 -- 01: "Records that the scope doesn't report are passed over.", "Equal records stay as separate operations."
 -- The operations of an opcode that a row reports, in journal order.
-unfoldable pub chosen : List ℕ → ℕ → List Entry → List Operation
-chosen row code [] = []
-chosen row code (e ∷ es) =
-    let rest = chosen row code es in
-    let more = e .operation ∷ rest in
-    cond (reports row code e) more rest
+abbrev pub chosen : List ℕ → ℕ → List Entry → List Operation
+chosen row code es = chosenBy (reports row code) operation es
 
 -- 01: "The reportable list is all reportable deletes in journal order, then updates, then additions."
 unfoldable pub reportable : List ℕ → List ℕ → List Operation

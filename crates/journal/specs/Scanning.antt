@@ -7,6 +7,7 @@ use lib.Dec.{leb, eqb}
 use lib.ListN.{length, getD, drop}
 use lib.Seq.{sets}
 use Rattle.words.specs.Numbers.{le, le16}
+use Rattle.records.specs.Choosing as choosing
 use Rattle.records.specs.Records.{kindOf, sizeOf, firstRecord, records, whole, allGood}
 use Rattle.journal.specs.declared.scanning.Counts.{Counts}
 use Rattle.journal.specs.declared.stride.Found.{Found}
@@ -16,17 +17,16 @@ use Rattle.journal.specs.declared.stride.Step.{Step}
 use Rattle.journal.specs.declared.stride.Step.the-variants as step
 use Rattle.journal.specs.Journal.{within, goodFrame, goodRecord, wellFormed, entries}
 use Rattle.journal.specs.Scope.{holds}
-use Rattle.journal.specs.Reportable.{chosen}
+use Rattle.journal.specs.Reportable.{reports, operation}
 use Rattle.journal.specs.Marks.{count}
 
 -- a record of this length, kind and node type is good where so many bytes are left
 abbrev pub goodAt : ℕ → ℕ → ℕ → ℕ → Bool
 goodAt left len kind node = leb (len + 2) left && (goodFrame len kind && within 1 14 node)
 
--- n operations of an opcode stand before a place
-pub record Before (row j : List ℕ) (at code n : ℕ) : Type 0 where
-  pub number : length (chosen row code (entries j)) ≡ n + length (chosen row code (entries (drop at j)))
-  pub rest : drop n (chosen row code (entries j)) ≡ chosen row code (entries (drop at j))
+-- n operations of an opcode that a row reports stand before a place
+abbrev pub Before : List ℕ → List ℕ → ℕ → ℕ → ℕ → Type 0
+Before row j at code n = choosing.Before (reports row code) operation entries j at n
 
 -- a scan has come to a place over good records alone, and has counted what the row reports of them
 pub record Reached (row j : List ℕ) (p : Position) : Type 0 where

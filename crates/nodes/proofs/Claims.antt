@@ -11,6 +11,7 @@ use borrow.Author.Tests.{ltb-true}
 use Rattle.words.specs.Numbers.{Small, beBytes, wordBytes, words, zeros}
 use Rattle.words.proofs.Stores.{length-wordBytes}
 use Rattle.words.proofs.Words.{words-bytes}
+use Rattle.records.specs.Choosing.{chosenBy}
 use Rattle.journal.specs.declared.operation.Operation.{Operation}
 use Rattle.journal.specs.Journal.{Entry, opcode, operands, entries}
 use Rattle.journal.specs.Reportable.{reports, chosen, reportable, operandWords}
@@ -40,7 +41,7 @@ small-join [] ps h g = g
 small-join (o ∷ os) ps h g = (h .0, small-join os ps (h .1) g)
 
 chosen-small : (row : List ℕ) (code : ℕ) (es : List Entry) → SmallEntries es → SmallOperands (chosen row code es)
-unfolding chosen
+unfolding chosenBy
 chosen-small row code [] h = tt
 chosen-small row code (e ∷ es) h =
     choose (reports row code e) SmallOperands {x = e .operation ∷ chosen row code es} {y = chosen row code es}

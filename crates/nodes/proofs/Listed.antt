@@ -9,6 +9,7 @@ use lib.Dec.{ltb, eqb}
 use borrow.Author.Tests.{eqb-true}
 use lib.ListN.{length, take, drop, length-append, length-drop}
 use lib.Seq.{drop-nil, length-take-le}
+use Rattle.records.specs.Choosing.{chosenBy}
 use Rattle.journal.specs.declared.operation.Operation.{Operation}
 use Rattle.journal.specs.declared.scanning.Counts.{Counts}
 use Rattle.journal.specs.Journal.{Entry, opcode, entries}
@@ -27,7 +28,7 @@ unfolding reports
 report-code row code e h = eqb-true _ _ (and-left (eqb (opcode (e .operation)) code) _ h)
 
 pub chosen-code : (row : List ℕ) (code : ℕ) (es : List Entry) → AllOf code (chosen row code es)
-unfolding chosen
+unfolding chosenBy
 chosen-code row code [] = tt
 chosen-code row code (e ∷ es) =
     choose (reports row code e) (AllOf code) {x = e .operation ∷ chosen row code es} {y = chosen row code es}

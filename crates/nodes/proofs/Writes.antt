@@ -12,14 +12,15 @@ use borrow.Author.Tests.{eqb-true, eq-eqb, ne-eqb}
 use Rattle.words.specs.Numbers.{le, beBytes, wordBytes}
 use Rattle.words.proofs.Stores.{sets-over, length-wordBytes, words-behind, store-first}
 use Rattle.records.specs.Records.{sizeOf, firstRecord}
+use Rattle.records.proofs.Choosing.{one-if, chosen-here, chosen-later, still-inside}
 use Rattle.journal.specs.declared.operation.Operation.{Operation}
 use Rattle.journal.specs.Journal.{wellFormed, operationOf, entryOf, entries}
-use Rattle.journal.specs.Reportable.{reports, chosen}
+use Rattle.journal.specs.Reportable.{operation, reports, chosen}
 use Rattle.journal.specs.Marks.{operandsAt, Resumes}
 use Rattle.journal.proofs.Opcodes.{each-code}
-use Rattle.journal.proofs.Entries.{one-if}
+use Rattle.journal.proofs.Entries.{each-entry}
 use Rattle.journal.proofs.Judging.{judged-kind}
-use Rattle.journal.proofs.Walks.{all-good, walked, walked-on, walked-fits, walked-size, walked-operands, still-inside, chosen-here, chosen-later}
+use Rattle.journal.proofs.Walks.{all-good, walked, walked-on, walked-fits, walked-size, walked-operands}
 use Rattle.nodes.specs.Run.{partWords, operator}
 use Rattle.nodes.specs.Longest.{AllOf}
 use Rattle.nodes.specs.Area.{wordsOf, part}
@@ -58,7 +59,7 @@ module _ (row j : List ℕ) (code at n : ℕ) (d : Due row j code at n) where
 
   -- while an operation is due, a record stands at the place, and its operands are inside
   pub due-inside : 0 < n → at < length j
-  due-inside h = still-inside row j code at (omega (arith, d .enough))
+  due-inside h = still-inside (reports row code) operation each-entry j at (omega (arith, d .enough))
 
   pub due-record : 0 < n → at + (6 + 4 * width code) ≤ length j
   due-record h = go (reports row code (entryOf (firstRecord (drop at j)))) (eqb code 3) refl refl
@@ -72,9 +73,9 @@ module _ (row j : List ℕ) (code at n : ℕ) (d : Due row j code at n) where
           let k = judged-kind row j at _ _ (walked row j at there (d .sound)) code e ∙ eqb-true code 3 f in
           rw f (omega (arith, walked-fits row j at there (d .sound), walked-size row j at there (d .sound) .1 k))
       go false true e f =
-          let c = chosen-later row j code at there e in
+          let c = chosen-later (reports row code) operation each-entry j at there e in
           let next = at + sizeOf (drop at j) in
-          let there′ : next < length j = still-inside row j code next (omega (arith, d .enough, ap (λ (l : List Operation). length l) c)) in
+          let there′ : next < length j = still-inside (reports row code) operation each-entry j next (omega (arith, d .enough, ap (λ (l : List Operation). length l) c)) in
           let good′ = walked-on row j at there (d .sound) in
           rw f (omega (arith, walked-size row j at there (d .sound) .0, walked-fits row j next there′ good′, walked-size row j next there′ good′ .0))
 
@@ -117,7 +118,7 @@ module _ (aim row j : List ℕ) (code : ℕ) (area : List ℕ) (at to left : ℕ
   unfolding dueWords wordsOf
   counts e =
       let d = w .due in
-      let c = chosen-here row j code at inside e in
+      let c = chosen-here (reports row code) operation each-entry j at inside e in
       let os = chosen row code (entries (drop past j)) in
       let more : width code * left ≡ width code + width code * (left - 1) = pred-mul (width code) left h in
       let first : take left (chosen row code (entries (drop at j))) ≡ operationOf (firstRecord (drop at j)) ∷ take (left - 1) os = ap (take left) c ∙ take-one left _ os h in
@@ -142,7 +143,7 @@ module _ (aim row j : List ℕ) (code : ℕ) (area : List ℕ) (at to left : ℕ
   passes : shown ≡ false → Writing aim row j code stored past to left
   passes e =
       let d = w .due in
-      let c = chosen-later row j code at inside e in
+      let c = chosen-later (reports row code) operation each-entry j at inside e in
       let words : dueWords row j code past left ≡ dueWords row j code at left = due-words row j code at past left c in
       let wide : width code ≤ width code * left = mul-one-le (width code) left h in
       record {

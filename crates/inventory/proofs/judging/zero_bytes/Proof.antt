@@ -9,7 +9,8 @@ use lib.Seq.{slice}
 use borrow.Author.Needs.{needs}
 use denote.Ref.{now}
 use Rattle.inventory.specs.Inventory.{zeroCount}
-use Rattle.inventory.proofs.Codes.{one-if-le, zero-count-next, zero-count-end}
+use Rattle.records.proofs.Choosing.{one-if-le}
+use Rattle.inventory.proofs.Codes.{zero-count-next, zero-count-end}
 use Rattle.inventory.proofs.judging.zero_bytes.Statement.{statement}
 use Rattle.inventory.proofs.judging.zero_bytes.Tie as tie
 

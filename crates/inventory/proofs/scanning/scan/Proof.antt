@@ -9,7 +9,7 @@ use borrow.Author.Tests.{eqb-true, eqb-false}
 use denote.Ref.{now}
 use Rattle.inventory.specs.Claims.{WellFormedCases, SizeLimit}
 use Rattle.inventory.proofs.Claims.{well-formed-cases, size-limit}
-use Rattle.inventory.proofs.Codes.{one-if, one-if-le}
+use Rattle.records.proofs.Choosing.{one-if, one-if-le}
 use Rattle.inventory.proofs.Entries.{oversized, from-bad, Scanned, scanned-start, found-here, found-before, scanned-step, scanned-end}
 use Rattle.inventory.proofs.RecordLaws.{Stands, stands, none-stands}
 use Rattle.inventory.proofs.scanning.scan.Statement.{statement}

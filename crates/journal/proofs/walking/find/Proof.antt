@@ -4,12 +4,13 @@ use Prim.Native.Nat.{_+_, _-_, _<_}
 use native.Mathlib.Omega.{arith}
 use lib.ListN.{length, drop}
 use denote.Ref.{now}
-use Rattle.journal.proofs.Entries.{one-if-le}
+use Rattle.journal.proofs.Entries.{each-entry}
 use Rattle.journal.proofs.MarkLaws.{sought-resumes}
-use Rattle.journal.proofs.Walks.{all-good, still-inside, resumes-step}
+use Rattle.journal.proofs.Walks.{all-good, resumes-step}
 use Rattle.journal.specs.Journal.{entryOf}
 use Rattle.journal.specs.Marks.{Resumes}
-use Rattle.journal.specs.Reportable.{reports}
+use Rattle.journal.specs.Reportable.{operation, reports}
+use Rattle.records.proofs.Choosing.{one-if-le, still-inside}
 use Rattle.records.specs.Records.{firstRecord}
 use Rattle.journal.proofs.walking.find.Statement.{statement}
 use Rattle.journal.proofs.walking.find.Tie as tie
@@ -27,7 +28,7 @@ loop-holds : tie.Need-loop-holds Inv-loop μ-loop
 loop-holds c = rw (c .seek .ensures) (sought-resumes (now (c .before .before .args .row)) (now (c .before .before .args .j)) _ _ _ _ (c .before .before .pre .1) (c .before .before .pre .2) (c .before .before .pre .3))
 
 inside : (c : tie.In-loop Inv-loop μ-loop) → c .before .loop .at < length (now (c .before .before .before .before .args .j))
-inside c = still-inside (now (c .before .before .before .before .args .row)) (now (c .before .before .before .before .args .j)) (c .before .before .before .before .args .code) (c .before .loop .at) (omega (arith, c .before .loop .inv .number, c .before .before .before .before .pre .4))
+inside c = still-inside (reports (now (c .before .before .before .before .args .row)) (c .before .before .before .before .args .code)) operation each-entry (now (c .before .before .before .before .args .j)) (c .before .loop .at) (omega (arith, c .before .loop .inv .number, c .before .before .before .before .pre .4))
 
 -- past a record
 turn : (c : tie.After-pass Inv-loop μ-loop) → Resumes (now (c .before .before .before .before .before .args .row)) (now (c .before .before .before .before .before .args .j)) (c .before .before .before .before .before .args .code) (c .before .before .before .before .before .args .k) (c .before .before .loop .at + c .pass .result .size) (c .before .before .loop .skip - c .pass .result .reported)

@@ -6,7 +6,7 @@ use lib.ListN.{length, drop}
 use lib.Seq.{sets}
 use borrow.Author.Needs.{needs}
 use denote.Ref.{now}
-use Rattle.journal.proofs.Entries.{one-if-le}
+use Rattle.records.proofs.Choosing.{one-if-le}
 use Rattle.journal.proofs.Walks.{walked-fits, walked-size}
 use Rattle.journal.specs.Journal.{entryOf}
 use Rattle.journal.specs.Reportable.{reports}
