@@ -10,7 +10,7 @@ use borrow.Author.Tests.{le-leb, lt-leb}
 use Rattle.words.specs.Numbers.{beBytes}
 use Rattle.words.proofs.Numbers.{length-beBytes}
 use Rattle.words.proofs.Stores.{sets-behind, sets-swap}
-use Rattle.records.specs.Records.{sizeOf, firstRecord}
+use Rattle.records.specs.Records.{sizeOf, firstRecord, sizeLimit}
 use Rattle.records.proofs.Steps.{field-at}
 use Rattle.inventory.specs.Inventory.{indexOf, codeOf}
 use Rattle.inventory.specs.Listing.{Entry, entryOf, listed}
@@ -158,7 +158,7 @@ module _ (area : List ℕ) {inventory : List ℕ} {flag kind number from count :
   unfolding run
   answered p q = rw (d .rest) (p, q)
 
-  pub run-few : length due-run ≤ 1048576
+  pub run-few : length due-run ≤ sizeLimit
   run-few = omega (arith, fitting-few (length area - 4) (ahead flag kind inventory from))
 
   -- by what the writer of the entries tells, and the count that is stored after them

@@ -13,10 +13,10 @@ use Rattle.words.specs.Numbers.{Bytes, be, be32, beBytes, zeros}
 use Rattle.words.specs.Nul.{untilNul}
 use Rattle.words.proofs.Choice.{choose, and-left, and-right}
 use Rattle.words.proofs.Numbers.{be-drop, be-bytes, length-beBytes, le-below}
-use Rattle.records.specs.Records.{kindOf, whole, recordsFrom, records, allGood, wellFormedBy}
+use Rattle.records.specs.Records.{kindOf, whole, recordsFrom, records, allGood, sizeLimit}
 use Rattle.records.specs.Choosing.{chosenBy}
 use Rattle.records.proofs.Choosing.{chosen-few}
-use Rattle.records.proofs.Steps.{EachBytes, records-bytes, records-few}
+use Rattle.records.proofs.Steps.{formed-good, formed-within, EachBytes, records-bytes, records-few}
 use Rattle.inventory.specs.Inventory.{flagOf, indexOf, nonZero, goodCode, goodRecord, wellFormed}
 use Rattle.inventory.specs.Listing.{Entry, entryOf, matches, chosen, listed}
 use Rattle.indices.specs.declared.reading.Fault.the-variants.{Fine}
@@ -189,12 +189,12 @@ chosen-sound flag type (r ∷ rs) h g = go (matches flag type r) (chosen-sound f
 
 module _ (flag type : ℕ) (inventory : List ℕ) (formed : wellFormed inventory ≡ true) where
   pub listed-sound : Bytes inventory → Sound (listed flag type inventory)
-  unfolding listed records wellFormed wellFormedBy
-  listed-sound bytes = chosen-sound flag type (recordsFrom 0 inventory) (records-bytes 0 inventory bytes) (and-right (leb (length inventory) 1048576) _ formed)
+  unfolding listed records wellFormed
+  listed-sound bytes = chosen-sound flag type (recordsFrom 0 inventory) (records-bytes 0 inventory bytes) (formed-good sizeLimit goodRecord inventory formed)
 
-  pub listed-few : length (listed flag type inventory) ≤ 1048576
-  unfolding listed records wellFormed wellFormedBy
-  listed-few = omega (arith, leb-true (length inventory) 1048576 (and-left _ _ formed), chosen-few (matches flag type) entryOf (recordsFrom 0 inventory), records-few 0 inventory)
+  pub listed-few : length (listed flag type inventory) ≤ sizeLimit
+  unfolding listed records wellFormed
+  listed-few = omega (arith, formed-within sizeLimit goodRecord inventory formed, chosen-few (matches flag type) entryOf (recordsFrom 0 inventory), records-few 0 inventory)
 
 pub reads-back : ReadsBack
 unfolding run

@@ -4,7 +4,7 @@ use mathlib.Core.Path.{_≡_}
 use mathlib.Core.List.{List}
 use lib.ListN.{length, take, drop}
 use Rattle.words.specs.Numbers.{le32}
-use Rattle.records.specs.Records.{records}
+use Rattle.records.specs.Records.{records, sizeLimit}
 use Rattle.inventory.specs.Listing.{Entry, chosen, listed}
 use Rattle.inventory.specs.Scanning.{Onward}
 
@@ -21,4 +21,4 @@ pub record Due (flag type number : ℕ) (inventory : List ℕ) (from count : ℕ
   pub onward : Onward inventory from
   pub rest : drop (number - 1) (listed flag type inventory) ≡ ahead flag type inventory from
   pub counted : count ≡ length (ahead flag type inventory from)
-  pub few : count ≤ 1048576
+  pub few : count ≤ sizeLimit

@@ -1,24 +1,23 @@
 -- The entries of a flag and type, one record after the other.
 use mathlib.Core.Path.{_≡_, refl, sym, ap, _∙_}
-use mathlib.Core.Bool.{true, false, and-false}
+use mathlib.Core.Bool.{true, false}
 use mathlib.Core.List.{List}
 use Prim.Native.Nat.{ℕ, _+_, _-_, _<_, _≤_}
 use native.Mathlib.Omega.{arith}
 use lib.ListN.{length, drop}
-use borrow.Author.Tests.{le-leb, lt-leb}
-use Rattle.records.specs.Records.{firstRecord, records, allGood, wellFormedBy}
+use Rattle.records.specs.Records.{firstRecord, records, allGood, sizeLimit}
 use Rattle.records.specs.Choosing.{Before}
 use Rattle.records.proofs.Choosing.{one-if, one-if-le, each-record, before-step, before-all}
-use Rattle.records.proofs.Steps.{good-step, bad-step, none-good}
+use Rattle.records.proofs.Steps.{good-step, bad-step, none-good, formed, not-formed, oversized}
 use Rattle.inventory.specs.Inventory.{goodRecord, wellFormed}
 use Rattle.inventory.specs.Listing.{entryOf, matches, listed}
 use Rattle.inventory.specs.Scanning.{From, Tells}
 use Rattle.inventory.specs.declared.scanning.Judgement.the-variants.{Counted}
 use Rattle.inventory.proofs.RecordLaws.{goodHere, Stands}
 
-pub oversized : (inventory : List ℕ) → 1048576 < length inventory → wellFormed inventory ≡ false
-unfolding wellFormed wellFormedBy
-oversized inventory h = rw (lt-leb (length inventory) 1048576 h)
+pub too-large : (inventory : List ℕ) → sizeLimit < length inventory → wellFormed inventory ≡ false
+unfolding wellFormed
+too-large inventory h = oversized sizeLimit goodRecord inventory h
 
 -- a place that the entries were counted to
 module _ {flag type passed at : ℕ} {inventory : List ℕ} (f : From flag type inventory passed at) where
@@ -41,13 +40,13 @@ module _ {flag type passed at : ℕ} {inventory : List ℕ} (f : From flag type 
 
   -- at a bad one
   pub from-bad : at < length inventory → goodHere inventory at ≡ false → wellFormed inventory ≡ false
-  unfolding wellFormed wellFormedBy
-  from-bad h e = simp (f .sound ∙ bad-step goodRecord inventory at h e, and-false)
+  unfolding wellFormed
+  from-bad h e = not-formed sizeLimit goodRecord inventory (f .sound ∙ bad-step goodRecord inventory at h e)
 
   -- at the end
-  end-good : length inventory ≤ 1048576 → length inventory ≤ at → wellFormed inventory ≡ true
-  unfolding wellFormed wellFormedBy
-  end-good l h = rw (le-leb (length inventory) 1048576 l, f .sound, none-good goodRecord inventory at h)
+  end-good : length inventory ≤ sizeLimit → length inventory ≤ at → wellFormed inventory ≡ true
+  unfolding wellFormed
+  end-good l h = formed sizeLimit goodRecord inventory l (f .sound ∙ none-good goodRecord inventory at h)
 
   end-count : length inventory ≤ at → passed ≡ length (listed flag type inventory)
   unfolding listed
@@ -84,5 +83,5 @@ module _ {flag type number at count due : ℕ} {inventory : List ℕ} (t : Scann
       }
 
   -- at the end
-  pub scanned-end : length inventory ≤ 1048576 → length inventory ≤ at → Tells flag type number inventory (Counted count due)
+  pub scanned-end : length inventory ≤ sizeLimit → length inventory ≤ at → Tells flag type number inventory (Counted count due)
   scanned-end l h = (end-good (t .passed) l h, end-count (t .passed) h, t .found)

@@ -5,7 +5,7 @@ use mathlib.Core.List.{List, [], _∷_}
 use lib.Dec.{leb, eqb}
 use lib.ListN.{length, drop}
 use Rattle.words.specs.Numbers.{le16, le32}
-use Rattle.records.specs.Records.{kindOf, sizeOf, firstRecord, whole, wellFormedBy}
+use Rattle.records.specs.Records.{kindOf, sizeOf, firstRecord, whole, wellFormedBy, sizeLimit}
 
 -- 01: "kind 16 holds two bytes (0 indicator, 1 sensor), a four-byte type, a four-byte index and a location code of 1 to 79 non-zero bytes; length 12 plus the code."
 unfoldable pub flagOf : List ℕ → ℕ
@@ -37,8 +37,9 @@ goodCode code = leb 1 (length code) && (leb (length code) 79 && nonZero code)
 unfoldable pub goodRecord : List ℕ → Bool
 goodRecord r = eqb (kindOf r) 16 && (leb (flagOf r) 1 && goodCode (codeOf r))
 
+-- 01: "Inventory, same limit"
 unfoldable pub wellFormed : List ℕ → Bool
-wellFormed inventory = wellFormedBy goodRecord inventory
+wellFormed inventory = wellFormedBy sizeLimit goodRecord inventory
 
 -- a record of this size, kind and flag can stand where so many bytes are left
 abbrev pub framedAt : ℕ → ℕ → ℕ → ℕ → Bool

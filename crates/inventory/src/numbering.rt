@@ -5,6 +5,7 @@ ghost use Prim.Native.Nat.{_+_, _-_, _≤_, _<_};
 ghost use lib.Dec.{eqb, leb};
 ghost use lib.ListN.{length};
 ghost use lib.Seq.{sets};
+ghost use Rattle.records.specs.Records.{sizeLimit};
 ghost use Rattle.words.specs.Numbers.{be32, beBytes};
 
 // The Starting Number: the number of the entry due. It counts from 1.
@@ -36,7 +37,7 @@ impl StartingNumber {
 
     // Whether the entry due comes next once so many entries were passed.
     pub fn is_next(self, passed: usize) -> bool
-        requires { ⌜ passed ≤ 1048576 ⌝ }
+        requires { ⌜ passed ≤ sizeLimit ⌝ }
         ensures { λ r. ⌜ r ≡ eqb (passed + 1) (self .0) ⌝ }
     {
         passed + 1 == self.0 as usize

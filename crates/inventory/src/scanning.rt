@@ -18,7 +18,7 @@ pub fn scan(inventory: &[u8], flag: u32, kind: u32, number: StartingNumber) -> J
     ensures { λ r. ⌜ Tells flag kind (number .0) (now (inventory .entry)) r ⌝ }
     ensures rules { λ _. ⌜ WellFormedCases × SizeLimit ⌝ }
 {
-    if 1048576 < inventory.len() {
+    if records::SIZE_LIMIT < inventory.len() {
         return Judgement::Malformed;
     }
     let mut at: usize = 0;

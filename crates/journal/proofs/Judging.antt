@@ -16,11 +16,11 @@ use Rattle.records.proofs.Choosing.{one-if}
 use Rattle.records.proofs.Steps.{field-at, length-at, kind-at, record-length, record-kind, whole-at}
 use Rattle.journal.specs.declared.stride.Found.{Found}
 use Rattle.journal.specs.declared.stride.Found.the-variants.{Bad, Good}
-use Rattle.journal.specs.Journal.{within, goodFrame, nodeType, goodRecord, opcode, operationOf, entryOf}
+use Rattle.journal.specs.Journal.{within, largestType, goodFrame, nodeType, goodRecord, opcode, operationOf, entryOf}
 use Rattle.journal.specs.Scope.{holds}
 use Rattle.journal.specs.Reportable.{reports}
-use Rattle.journal.specs.Marks.{count}
-use Rattle.journal.specs.Scanning.{goodAt, weightOf, Judged, FoundAt, Known}
+use Rattle.journal.specs.Marks.{countLimit, count}
+use Rattle.journal.specs.Scanning.{goodAt, largestWeight, weightOf, Judged, FoundAt, Known}
 use Rattle.words.proofs.Choice.{choose, and-left, and-right}
 use Rattle.journal.proofs.Opcodes.{each-code}
 
@@ -68,18 +68,18 @@ framed len kind h = ⊎-elim (one 1 8 (omega arith) (omega arith)) (λ s. ⊎-el
 -- ---- the test of a record in code
 
 module _ (left len kind node : ℕ) where
-  pub bad-node : (1 ≤ node → node ≤ 14 → ⊥) → false ≡ goodAt left len kind node
+  pub bad-node : (1 ≤ node → node ≤ largestType → ⊥) → false ≡ goodAt left len kind node
   bad-node h = sym (simp (go (leb 1 node) refl, and-false))
     where
-      go : (t : Bool) → leb 1 node ≡ t → (leb 1 node && leb node 14) ≡ false
-      go true e = rw (e, lt-leb node 14 (omega (arith, h (leb-true 1 node e))))
+      go : (t : Bool) → leb 1 node ≡ t → (leb 1 node && leb node largestType) ≡ false
+      go true e = rw (e, lt-leb node largestType (omega (arith, h (leb-true 1 node e))))
       go false e = rw e
 
   pub bad-frame : goodFrame len kind ≡ false → false ≡ goodAt left len kind node
   bad-frame e = sym (simp (e, and-false))
 
-  pub fits-only : 1 ≤ node → node ≤ 14 → goodFrame len kind ≡ true → 2 ≤ left → leb len (left - 2) ≡ goodAt left len kind node
-  fits-only a b e h = rw (e, le-leb 1 node a, le-leb node 14 b, and-true) (go (leb (len + 2) left) refl)
+  pub fits-only : 1 ≤ node → node ≤ largestType → goodFrame len kind ≡ true → 2 ≤ left → leb len (left - 2) ≡ goodAt left len kind node
+  fits-only a b e h = rw (e, le-leb 1 node a, le-leb node largestType b, and-true) (go (leb (len + 2) left) refl)
     where
       go : (t : Bool) → leb (len + 2) left ≡ t → leb len (left - 2) ≡ t
       go true q = le-leb len (left - 2) (omega (arith, leb-true (len + 2) left q))
@@ -87,16 +87,16 @@ module _ (left len kind node : ℕ) where
 
   -- what a good record tells
   pub room : goodAt left len kind node ≡ true → len + 2 ≤ left
-  room e = leb-true (len + 2) left (and-left _ (goodFrame len kind && within 1 14 node) e)
+  room e = leb-true (len + 2) left (and-left _ (goodFrame len kind && within 1 largestType node) e)
 
   pub frame-good : goodAt left len kind node ≡ true → goodFrame len kind ≡ true
-  frame-good e = and-left _ (within 1 14 node) (and-right (leb (len + 2) left) _ e)
+  frame-good e = and-left _ (within 1 largestType node) (and-right (leb (len + 2) left) _ e)
 
   pub frame : goodAt left len kind node ≡ true → Framed len kind
   frame e = framed len kind (frame-good e)
 
-  pub node-high : goodAt left len kind node ≡ true → node ≤ 14
-  node-high e = leb-true node 14 (and-right (leb 1 node) _ (and-right (goodFrame len kind) _ (and-right (leb (len + 2) left) _ e)))
+  pub node-high : goodAt left len kind node ≡ true → node ≤ largestType
+  node-high e = leb-true node largestType (and-right (leb 1 node) _ (and-right (goodFrame len kind) _ (and-right (leb (len + 2) left) _ e)))
 
 -- the same record is good wherever it fits
 pub good-again : (left left′ len kind node : ℕ) → goodAt left len kind node ≡ true → len + 2 ≤ left′ → goodAt left′ len kind node ≡ true
@@ -116,7 +116,7 @@ module _ (j : List ℕ) (at : ℕ) where
   unfolding goodRecord
   good-here = go (leb 6 (lengthOf (drop at j))) refl
     where
-      go : (t : Bool) → leb 6 (lengthOf (drop at j)) ≡ t → (whole here && (goodFrame (lengthOf here) (kindOf here) && within 1 14 (nodeType here))) ≡ goodAt (length j - at) (lengthOf (drop at j)) (kindOf (drop at j)) (le 2 j (at + 4))
+      go : (t : Bool) → leb 6 (lengthOf (drop at j)) ≡ t → (whole here && (goodFrame (lengthOf here) (kindOf here) && within 1 largestType (nodeType here))) ≡ goodAt (length j - at) (lengthOf (drop at j)) (kindOf (drop at j)) (le 2 j (at + 4))
       go true e =
           let l = leb-true 6 (lengthOf (drop at j)) e in
           rw (whole-at j at, record-length j at, record-kind j at (omega arith), node-here (omega arith), le-leb 2 (lengthOf (drop at j)) (omega arith))
@@ -143,11 +143,11 @@ unfolding operationOf
 opcode-kind r k e l h = each-code (λ (n : ℕ). kindOf r ≡ n → opcode (operationOf r) ≡ n) (λ q. rw q) (λ q. rw q) (λ q. rw q) k l h e
 
 -- one operation of a kind counts under its own opcode alone
-count-one : (kind code : ℕ) → 1 ≤ kind → kind ≤ 3 → 1 ≤ code → code ≤ 3 → count code (2097152 ^ (kind - 1)) ≡ one-if (eqb kind code)
-count-one kind code a b = each-code (λ (k : ℕ). (c : ℕ) → 1 ≤ c → c ≤ 3 → count c (2097152 ^ (k - 1)) ≡ one-if (eqb k c))
-    (each-code (λ (c : ℕ). count c (2097152 ^ (1 - 1)) ≡ one-if (eqb 1 c)) refl refl refl)
-    (each-code (λ (c : ℕ). count c (2097152 ^ (2 - 1)) ≡ one-if (eqb 2 c)) refl refl refl)
-    (each-code (λ (c : ℕ). count c (2097152 ^ (3 - 1)) ≡ one-if (eqb 3 c)) refl refl refl) kind a b code
+count-one : (kind code : ℕ) → 1 ≤ kind → kind ≤ 3 → 1 ≤ code → code ≤ 3 → count code (countLimit ^ (kind - 1)) ≡ one-if (eqb kind code)
+count-one kind code a b = each-code (λ (k : ℕ). (c : ℕ) → 1 ≤ c → c ≤ 3 → count c (countLimit ^ (k - 1)) ≡ one-if (eqb k c))
+    (each-code (λ (c : ℕ). count c (countLimit ^ (1 - 1)) ≡ one-if (eqb 1 c)) refl refl refl)
+    (each-code (λ (c : ℕ). count c (countLimit ^ (2 - 1)) ≡ one-if (eqb 2 c)) refl refl refl)
+    (each-code (λ (c : ℕ). count c (countLimit ^ (3 - 1)) ≡ one-if (eqb 3 c)) refl refl refl) kind a b code
 
 count-zero : (code : ℕ) → 1 ≤ code → code ≤ 3 → count code 0 ≡ 0
 count-zero = each-code (λ (c : ℕ). count c 0 ≡ 0) refl refl refl
@@ -156,18 +156,18 @@ module _ (row : List ℕ) (kind node : ℕ) (low : 1 ≤ kind) (high : kind ≤ 
   weight-adds : (code : ℕ) → 1 ≤ code → code ≤ 3 → count code (weightOf row kind node) ≡ one-if (eqb kind code && holds (getD row node 0) code)
   weight-adds code l h = go (holds (getD row node 0) kind) (eqb kind code) refl refl
     where
-      go : (t u : Bool) → holds (getD row node 0) kind ≡ t → eqb kind code ≡ u → count code (cond (holds (getD row node 0) kind) (2097152 ^ (kind - 1)) 0) ≡ one-if (eqb kind code && holds (getD row node 0) code)
+      go : (t u : Bool) → holds (getD row node 0) kind ≡ t → eqb kind code ≡ u → count code (cond (holds (getD row node 0) kind) (countLimit ^ (kind - 1)) 0) ≡ one-if (eqb kind code && holds (getD row node 0) code)
       go true true p q = rw (p, count-one kind code low high l h, q, ← eqb-true kind code q, p)
       go true false p q = rw (p, count-one kind code low high l h, q)
       go false true p q = rw (p, count-zero code l h, q, ← eqb-true kind code q, p)
       go false false p q = rw (p, count-zero code l h, q)
 
-  weight-light : (count 1 (weightOf row kind node) + count 2 (weightOf row kind node) + count 3 (weightOf row kind node) ≤ 1) × (weightOf row kind node ≤ 4398046511104)
+  weight-light : (count 1 (weightOf row kind node) + count 2 (weightOf row kind node) + count 3 (weightOf row kind node) ≤ 1) × (weightOf row kind node ≤ largestWeight)
   weight-light =
-      each-code (λ (k : ℕ). Light (cond (holds (getD row node 0) k) (2097152 ^ (k - 1)) 0)) (go 1 1 (omega arith)) (go 2 2097152 (omega arith)) (go 3 4398046511104 (omega arith)) kind low high
+      each-code (λ (k : ℕ). Light (cond (holds (getD row node 0) k) (countLimit ^ (k - 1)) 0)) (go 1 1 (omega arith)) (go 2 countLimit (omega arith)) (go 3 largestWeight (omega arith)) kind low high
     where
       Light : ℕ → Type 0
-      Light w = (count 1 w + count 2 w + count 3 w ≤ 1) × (w ≤ 4398046511104)
+      Light w = (count 1 w + count 2 w + count 3 w ≤ 1) × (w ≤ largestWeight)
 
       go : (k w : ℕ) → Light w → Light (cond (holds (getD row node 0) k) w 0)
       go k w h = choose (holds (getD row node 0) k) Light {x = w} {y = 0} (λ _. h) (λ _. (omega arith, omega arith))
@@ -193,7 +193,7 @@ module _ (row j : List ℕ) (at size weight : ℕ) (g : Judged row j at size wei
   pub judged-fits : size ≤ length j - at
   judged-fits = omega (arith, room (length j - at) (lengthOf (drop at j)) (kindOf (drop at j)) (le 2 j (at + 4)) good-is, g .size-is)
 
-  pub judged-light : (count 1 weight + count 2 weight + count 3 weight ≤ 1) × (weight ≤ 4398046511104)
+  pub judged-light : (count 1 weight + count 2 weight + count 3 weight ≤ 1) × (weight ≤ largestWeight)
   judged-light = rw (g .weight-is) (weight-light row (kindOf (drop at j)) (le 2 j (at + 4)) (frame-here .low) (frame-here .high))
 
   -- whether the row reports it, by its kind and node type
@@ -219,7 +219,7 @@ module _ (row j : List ℕ) (at size weight : ℕ) (g : Judged row j at size wei
       let l = eqb-true (lengthOf (drop at j)) 12 (sym (frame-is (lengthOf (drop at j)) 3 (omega arith) (omega arith)) ∙ ap (goodFrame (lengthOf (drop at j))) (sym e) ∙ frame-good (length j - at) (lengthOf (drop at j)) (kindOf (drop at j)) (le 2 j (at + 4)) good-is) in
       omega arith
 
-  pub judged-node : le 2 j (at + 4) ≤ 14
+  pub judged-node : le 2 j (at + 4) ≤ largestType
   judged-node = node-high (length j - at) (lengthOf (drop at j)) (kindOf (drop at j)) (le 2 j (at + 4)) good-is
 
   pub judged-adds : (code : ℕ) → 1 ≤ code → code ≤ 3 → count code weight ≡ one-if (reports row code (entryOf (here j at)))

@@ -14,7 +14,7 @@ use Rattle.words.proofs.Stores.{sets-before}
 use Rattle.journal.specs.declared.marks.Place.{Place}
 use Rattle.journal.specs.declared.stride.Position.{Position}
 use Rattle.journal.specs.Reportable.{operation, reports}
-use Rattle.journal.specs.Marks.{count, Resumes, Marked, sought}
+use Rattle.journal.specs.Marks.{count, markLimit, Resumes, Marked, sought}
 use Rattle.journal.specs.Scanning.{Before, Reached, Noted, kept, added}
 use Rattle.words.proofs.Choice.{choose}
 use Rattle.records.proofs.Choosing.{before-later}
@@ -23,7 +23,7 @@ use Rattle.journal.proofs.Entries.{each-entry}
 -- ---- marks noted
 
 -- the code's two stores note a place, for `note`
-pub noted-stores : (m : List ℕ) (n : ℕ) (p : Position) → n < 64 → Noted m n p (set (set m (2 * n) (p .at)) (2 * n + 1) (p .counts)) (n + 1)
+pub noted-stores : (m : List ℕ) (n : ℕ) (p : Position) → n < markLimit → Noted m n p (set (set m (2 * n) (p .at)) (2 * n + 1) (p .counts)) (n + 1)
 noted-stores m n p h = rw (add-one (2 * n)) (added h)
 
 -- noting keeps the length, which `marked-note` asks for at the scan's next note

@@ -1,24 +1,23 @@
 -- A scan going on: past a record, past four of the same header, at a bad record, at the end.
 use mathlib.Core.Path.{_≡_, refl, sym, ap, _∙_}
-use mathlib.Core.Bool.{true, false, _&&_, and-false}
+use mathlib.Core.Bool.{true, false, _&&_}
 use mathlib.Core.List.{List}
 use Prim.Native.Nat.{ℕ, _+_, _*_, _/_, _%_, _<_, _≤_}
 use native.Mathlib.Nat.{div-one, div-div-eq-div-mul, mod-eq-of-lt}
 use native.Mathlib.Omega.{arith}
 use lib.ListN.{length, drop}
-use borrow.Author.Tests.{le-leb, lt-leb}
 use Rattle.words.specs.Numbers.{le}
-use Rattle.records.specs.Records.{firstRecord, records, whole, allGood, wellFormedBy}
+use Rattle.records.specs.Records.{firstRecord, records, whole, allGood, sizeLimit}
 use Rattle.records.proofs.Choosing.{before-step, before-none, before-all}
-use Rattle.records.proofs.Steps.{good-step, bad-step, none-good}
+use Rattle.records.proofs.Steps.{good-step, bad-step, none-good, formed, not-formed}
 use Rattle.journal.specs.declared.scanning.Judgement.the-variants.{Malformed, Counted}
 use Rattle.journal.specs.declared.stride.Position.{Position}
 use Rattle.journal.specs.declared.stride.Step.{Step}
 use Rattle.journal.specs.declared.stride.Step.the-variants.{Bad, Upto}
 use Rattle.journal.specs.Journal.{goodRecord, wellFormed, entries}
 use Rattle.journal.specs.Reportable.{operation, reports, chosen, judgementOf}
-use Rattle.journal.specs.Marks.{count}
-use Rattle.journal.specs.Scanning.{Before, Reached, Went, Judged, fourHeaded, Known, unpacked}
+use Rattle.journal.specs.Marks.{countLimit, count}
+use Rattle.journal.specs.Scanning.{packedLimit, largestWeight, Before, Reached, Went, Judged, fourHeaded, Known, unpacked}
 use Rattle.journal.proofs.Opcodes.{each-code}
 use Rattle.journal.proofs.Entries.{each-entry}
 use Rattle.journal.proofs.Judging.{four-equal, judged-size, judged-fits, judged-light, judged-adds}
@@ -26,44 +25,44 @@ use Rattle.journal.proofs.Judging.{four-equal, judged-size, judged-fits
 -- ---- packed counts
 
 -- the lowest 21 bits of a sum, and the rest, where the lowest do not pass their width
-digit-sum : (p q : ℕ) → p % 2097152 + q % 2097152 < 2097152 → ((p + q) % 2097152 ≡ p % 2097152 + q % 2097152) × ((p + q) / 2097152 ≡ p / 2097152 + q / 2097152)
+digit-sum : (p q : ℕ) → p % countLimit + q % countLimit < countLimit → ((p + q) % countLimit ≡ p % countLimit + q % countLimit) × ((p + q) / countLimit ≡ p / countLimit + q / countLimit)
 digit-sum p q h = (omega arith, omega arith)
 
-third : (p : ℕ) → p / 4398046511104 ≡ p / 2097152 / 2097152
-third p = sym (div-div-eq-div-mul p 2097152 2097152)
+third : (p : ℕ) → p / largestWeight ≡ p / countLimit / countLimit
+third p = sym (div-div-eq-div-mul p countLimit countLimit)
 
 -- a sum of packed counts counts the sums, where no count passes its 21 bits
-module _ (p q : ℕ) (a : count 1 p + count 1 q < 2097152) (b : count 2 p + count 2 q < 2097152) (c : count 3 p + count 3 q < 2097152) where
-  low-bits : p % 2097152 + q % 2097152 < 2097152
+module _ (p q : ℕ) (a : count 1 p + count 1 q < countLimit) (b : count 2 p + count 2 q < countLimit) (c : count 3 p + count 3 q < countLimit) where
+  low-bits : p % countLimit + q % countLimit < countLimit
   low-bits = rw (div-one p, div-one q) at a
 
   count-first : count 1 (p + q) ≡ count 1 p + count 1 q
   count-first = rw (div-one (p + q), div-one p, div-one q) (digit-sum p q low-bits .0)
 
-  rest-first : (p + q) / 2097152 ≡ p / 2097152 + q / 2097152
+  rest-first : (p + q) / countLimit ≡ p / countLimit + q / countLimit
   rest-first = digit-sum p q low-bits .1
 
   count-second : count 2 (p + q) ≡ count 2 p + count 2 q
-  count-second = rw rest-first (digit-sum (p / 2097152) (q / 2097152) b .0)
+  count-second = rw rest-first (digit-sum (p / countLimit) (q / countLimit) b .0)
 
-  rest-second : (p + q) / 2097152 / 2097152 ≡ p / 2097152 / 2097152 + q / 2097152 / 2097152
-  rest-second = rw rest-first (digit-sum (p / 2097152) (q / 2097152) b .1)
+  rest-second : (p + q) / countLimit / countLimit ≡ p / countLimit / countLimit + q / countLimit / countLimit
+  rest-second = rw rest-first (digit-sum (p / countLimit) (q / countLimit) b .1)
 
   count-third : count 3 (p + q) ≡ count 3 p + count 3 q
-  count-third = rw (third (p + q), third p, third q, rest-second) (digit-sum (p / 2097152 / 2097152) (q / 2097152 / 2097152) (rw (third p, third q) at c) .0)
+  count-third = rw (third (p + q), third p, third q, rest-second) (digit-sum (p / countLimit / countLimit) (q / countLimit / countLimit) (rw (third p, third q) at c) .0)
 
   pub count-sum : (code : ℕ) → 1 ≤ code → code ≤ 3 → count code (p + q) ≡ count code p + count code q
   count-sum = each-code (λ (k : ℕ). count k (p + q) ≡ count k p + count k q) count-first count-second count-third
 
 -- packed counts of which the highest is small have room for one operation more
-packed-more : (p w n : ℕ) → p < 9223372036854775808 → count 3 p ≤ n → n ≤ 1048576 → w ≤ 4398046511104 → p + w < 9223372036854775808
+packed-more : (p w n : ℕ) → p < packedLimit → count 3 p ≤ n → n ≤ sizeLimit → w ≤ largestWeight → p + w < packedLimit
 packed-more p w n h c l k =
-    let top : p / 4398046511104 < 2097152 = omega arith in
-    let same : count 3 p ≡ p / 4398046511104 = mod-eq-of-lt top in
-    let low : p / 4398046511104 ≤ 1048576 = omega arith in
-    sum p w (p / 4398046511104) low (omega arith) k
+    let top : p / largestWeight < countLimit = omega arith in
+    let same : count 3 p ≡ p / largestWeight = mod-eq-of-lt top in
+    let low : p / largestWeight ≤ sizeLimit = omega arith in
+    sum p w (p / largestWeight) low (omega arith) k
   where
-    sum : (p w x : ℕ) → x ≤ 1048576 → p < (x + 1) * 4398046511104 → w ≤ 4398046511104 → p + w < 9223372036854775808
+    sum : (p w x : ℕ) → x ≤ sizeLimit → p < (x + 1) * largestWeight → w ≤ largestWeight → p + w < packedLimit
     sum p w x a b c = omega arith
 
 abbrev pub position : ℕ → ℕ → Position
@@ -80,7 +79,7 @@ reached-none row j =
       packed = omega arith;
     }
 
-module _ (row j : List ℕ) (at counts : ℕ) (small : length j ≤ 1048576) (t : Reached row j (position at counts)) where
+module _ (row j : List ℕ) (at counts : ℕ) (small : length j ≤ sizeLimit) (t : Reached row j (position at counts)) where
   -- past a good record
   pub reached-step : (size weight : ℕ) → at < length j → Judged row j at size weight → Reached row j (position (at + size) (counts + weight))
   reached-step size weight h g =
@@ -99,26 +98,22 @@ module _ (row j : List ℕ) (at counts : ℕ) (small : length j ≤ 1048576) (t 
 
   -- at a bad one
   pub reached-bad : at < length j → (whole (firstRecord (drop at j)) && goodRecord (firstRecord (drop at j))) ≡ false → wellFormed j ≡ false
-  unfolding wellFormed wellFormedBy
-  reached-bad h e = simp (t .good ∙ bad-step goodRecord j at h e, and-false)
+  unfolding wellFormed
+  reached-bad h e = not-formed sizeLimit goodRecord j (t .good ∙ bad-step goodRecord j at h e)
 
   -- at the end
   pub reached-end : length j ≤ at → Counted (unpacked counts) ≡ judgementOf row j
-  unfolding judgementOf wellFormed wellFormedBy
+  unfolding judgementOf wellFormed
   reached-end h =
       let all : (code : ℕ) → 1 ≤ code → code ≤ 3 → count code counts ≡ length (chosen row code (entries j)) = λ code a b. before-all (reports row code) operation each-entry j at (count code counts) (t .before code a b) h in
-      rw (le-leb (length j) 1048576 small, t .good, none-good goodRecord j at h, ← all 1 (omega arith) (omega arith), ← all 2 (omega arith) (omega arith), ← all 3 (omega arith) (omega arith))
-
-pub oversized : (row j : List ℕ) → 1048576 < length j → wellFormed j ≡ false
-unfolding wellFormed wellFormedBy
-oversized row j h = rw (lt-leb (length j) 1048576 h)
+      rw (formed sizeLimit goodRecord j small (t .good ∙ none-good goodRecord j at h), ← all 1 (omega arith) (omega arith), ← all 2 (omega arith) (omega arith), ← all 3 (omega arith) (omega arith))
 
 pub malformed : (row j : List ℕ) → wellFormed j ≡ false → Malformed ≡ judgementOf row j
 unfolding judgementOf
 malformed row j h = rw h
 
 -- past four records of a known header
-module _ (row j : List ℕ) (header size weight : ℕ) (small : length j ≤ 1048576) (k : Known row j header size weight) where
+module _ (row j : List ℕ) (header size weight : ℕ) (small : length j ≤ sizeLimit) (k : Known row j header size weight) where
   reached-same : (at counts : ℕ) → at + size ≤ length j → le 6 j at ≡ header → Reached row j (position at counts) → Reached row j (position (at + size) (counts + weight))
   reached-same at counts r e t = reached-step row j at counts small t size weight (omega (arith, k .large)) (k .here at r e)
 

@@ -4,13 +4,11 @@ use mathlib.Core.Bool.{true, _&&_}
 use mathlib.Core.List.{List, _∷_}
 use Prim.Native.Nat.{ℕ, _+_, _-_, _<_, _≤_}
 use native.Mathlib.Omega.{arith}
-use lib.Dec.{leb}
 use lib.ListN.{length, drop}
-use borrow.Author.Tests.{leb-true}
 use Rattle.words.specs.Numbers.{le}
-use Rattle.records.specs.Records.{kindOf, sizeOf, firstRecord, records, whole, allGood, wellFormedBy}
+use Rattle.records.specs.Records.{kindOf, sizeOf, firstRecord, records, whole, allGood, sizeLimit}
 use Rattle.records.proofs.Choosing.{one-if, one-if-le, chosen-length, chosen-skip}
-use Rattle.records.proofs.Steps.{judge-step, record-kind, field-at}
+use Rattle.records.proofs.Steps.{judge-step, formed-good, formed-within, record-kind, field-at}
 use Rattle.journal.specs.Journal.{goodRecord, wellFormed, operands, operationOf, Entry, entryOf, entries}
 use Rattle.journal.specs.Reportable.{operation, reports, chosen}
 use Rattle.journal.specs.Marks.{Resumes, operandsAt}
@@ -22,13 +20,13 @@ use Rattle.journal.proofs.Judging.{judged-size, judged-fits, judged-kin
 
 -- the records of a well-formed journal are good
 pub all-good : (j : List ℕ) → wellFormed j ≡ true → allGood goodRecord (records j) ≡ true
-unfolding wellFormed wellFormedBy
-all-good j w = and-right (leb (length j) 1048576) _ w
+unfolding wellFormed
+all-good j w = formed-good sizeLimit goodRecord j w
 
 -- and it is within the limit, so that counts of its operations are small
-pub within-limit : (j : List ℕ) → wellFormed j ≡ true → length j ≤ 1048576
-unfolding wellFormed wellFormedBy
-within-limit j w = leb-true (length j) 1048576 (and-left _ (allGood goodRecord (records j)) w)
+pub within-limit : (j : List ℕ) → wellFormed j ≡ true → length j ≤ sizeLimit
+unfolding wellFormed
+within-limit j w = formed-within sizeLimit goodRecord j w
 
 -- ---- a record of a walk
 

@@ -9,7 +9,9 @@ use lib.Dec.{eqb}
 use lib.ListN.{length, getD, set, length-set}
 use lib.Seq.{getD-set-same, getD-set-other}
 use borrow.Author.Count.{below-more}
+use Rattle.journal.specs.Journal.{largestType}
 use Rattle.journal.specs.Scope.{holds}
+use Rattle.journal.specs.Marks.{countLimit}
 use Rattle.journal.specs.Scanning.{weightOf, Weights}
 
 -- a weight times a bit is the choice by the bit
@@ -23,8 +25,8 @@ pub bit-is : (set code : ℕ) → set / 2 ^ (code - 1) % 2 ≡ cond (holds set c
 bit-is set code = sym (one-mul (set / 2 ^ (code - 1) % 2)) ∙ bit-chooses 1 (set / 2 ^ (code - 1) % 2) (omega arith)
 
 -- what `weight` computes, from the set's bit of the kind
-pub weight-is : (set kind w : ℕ) → w ≡ 2097152 ^ (kind - 1) * (set / 2 ^ (kind - 1) % 2) → w ≡ cond (holds set kind) (2097152 ^ (kind - 1)) 0
-weight-is set kind w e = e ∙ bit-chooses (2097152 ^ (kind - 1)) (set / 2 ^ (kind - 1) % 2) (omega arith)
+pub weight-is : (set kind w : ℕ) → w ≡ countLimit ^ (kind - 1) * (set / 2 ^ (kind - 1) % 2) → w ≡ cond (holds set kind) (countLimit ^ (kind - 1)) 0
+weight-is set kind w e = e ∙ bit-chooses (countLimit ^ (kind - 1)) (set / 2 ^ (kind - 1) % 2) (omega arith)
 
 -- the table, filled below a place: the invariant of `weights_of`
 pub record Filled (row table : List ℕ) (i : ℕ) : Type 0 where
@@ -46,7 +48,7 @@ filled-next row table i w f h e =
     }
 
 -- the table's entry of a good record
-pub weight-at : (row table : List ℕ) (kind node : ℕ) → Weights row table → 1 ≤ kind → kind ≤ 3 → node ≤ 14 → getD table (16 * kind + node) 0 ≡ weightOf row kind node
+pub weight-at : (row table : List ℕ) (kind node : ℕ) → Weights row table → 1 ≤ kind → kind ≤ 3 → node ≤ largestType → getD table (16 * kind + node) 0 ≡ weightOf row kind node
 weight-at row table kind node w l h n =
     let k : (16 * kind + node) / 16 ≡ kind = omega arith in
     let m : (16 * kind + node) % 16 ≡ node = omega arith in

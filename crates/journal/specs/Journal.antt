@@ -4,7 +4,7 @@ use mathlib.Core.Bool.{Bool, cond, _&&_, _||_}
 use mathlib.Core.List.{List, [], _∷_, map}
 use lib.Dec.{leb, eqb}
 use Rattle.words.specs.Numbers.{le16, le32}
-use Rattle.records.specs.Records.{lengthOf, kindOf, records, wellFormedBy}
+use Rattle.records.specs.Records.{lengthOf, kindOf, records, wellFormedBy, sizeLimit}
 use Rattle.journal.specs.declared.operation.Operation.{Operation}
 use Rattle.journal.specs.declared.operation.Operation.the-variants.{Delete, Update, Add}
 
@@ -18,13 +18,17 @@ goodFrame len kind = (eqb kind 1 && eqb len 8) || ((eqb kind 2 && eqb len 8) || 
 unfoldable pub nodeType : List ℕ → ℕ
 nodeType r = le16 r 4
 
--- 01: "Any other kind, length, node type or flag .. is malformed.", "Node types: 1 root, .. 14 memory-utilization instrumentation."
+-- 01: "Node types: 1 root, .. 14 memory-utilization instrumentation."
+abbrev pub largestType : ℕ
+largestType = 14
+
+-- 01: "Any other kind, length, node type or flag .. is malformed."
 unfoldable pub goodRecord : List ℕ → Bool
-goodRecord r = goodFrame (lengthOf r) (kindOf r) && within 1 14 (nodeType r)
+goodRecord r = goodFrame (lengthOf r) (kindOf r) && within 1 largestType (nodeType r)
 
 -- 01: "Journal, at most 1,048,576 bytes", "Records fill the buffer exactly."
 unfoldable pub wellFormed : List ℕ → Bool
-wellFormed j = wellFormedBy goodRecord j
+wellFormed j = wellFormedBy sizeLimit goodRecord j
 
 -- 01: "An operation is an opcode (1 delete, 2 update, 3 add) with its operands: the phandle, or for an addition the parent phandle and the drc-index."
 abbrev pub opcode : Operation → ℕ

@@ -12,8 +12,15 @@ use Rattle.journal.specs.Journal.{goodRecord, entries}
 use Rattle.journal.specs.Reportable.{chosen}
 
 -- Three counts in one number, 21 bits for each opcode.
+abbrev pub countLimit : ℕ
+countLimit = 2097152
+
 abbrev pub count : ℕ → ℕ → ℕ
-count code packed = packed / 2097152 ^ (code - 1) % 2097152
+count code packed = packed / countLimit ^ (code - 1) % countLimit
+
+-- A scan notes so many marks at most.
+abbrev pub markLimit : ℕ
+markLimit = 64
 
 -- From this place of the journal on, where a record begins, the list of an opcode holds after `skip` operations what it holds of
 -- the whole journal from number k on.
@@ -29,7 +36,7 @@ operandsAt j code at = cond (eqb code 3) (le32 j (at + 6) ∷ le32 j (at + 10) �
 
 -- A mark is two numbers, a place and the packed counts of what the row reports before it. Of n marks each resumes the list of every opcode.
 pub record Marked (row j marks : List ℕ) (n : ℕ) : Type 0 where
-  pub few : n ≤ 64
+  pub few : n ≤ markLimit
   pub each : (i code : ℕ) → i < n → 1 ≤ code → code ≤ 3 → Resumes row j code (count code (getD marks (2 * i + 1) 0)) (getD marks (2 * i) 0) 0
 
 -- Where to look for operation number k of an opcode: from the last of n marks with no more than k before it, or from the start.

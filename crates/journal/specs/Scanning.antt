@@ -15,18 +15,25 @@ use Rattle.journal.specs.declared.stride.Found.the-variants.{Bad, Good}
 use Rattle.journal.specs.declared.stride.Position.{Position}
 use Rattle.journal.specs.declared.stride.Step.{Step}
 use Rattle.journal.specs.declared.stride.Step.the-variants as step
-use Rattle.journal.specs.Journal.{within, goodFrame, goodRecord, wellFormed, entries}
+use Rattle.journal.specs.Journal.{within, largestType, goodFrame, goodRecord, wellFormed, entries}
 use Rattle.journal.specs.Scope.{holds}
 use Rattle.journal.specs.Reportable.{reports, operation}
-use Rattle.journal.specs.Marks.{count}
+use Rattle.journal.specs.Marks.{countLimit, count, markLimit}
 
 -- a record of this length, kind and node type is good where so many bytes are left
 abbrev pub goodAt : ℕ → ℕ → ℕ → ℕ → Bool
-goodAt left len kind node = leb (len + 2) left && (goodFrame len kind && within 1 14 node)
+goodAt left len kind node = leb (len + 2) left && (goodFrame len kind && within 1 largestType node)
 
 -- n operations of an opcode that a row reports stand before a place
 abbrev pub Before : List ℕ → List ℕ → ℕ → ℕ → ℕ → Type 0
 Before row j at code n = choosing.Before (reports row code) operation entries j at n
+
+-- packed counts are below this, and the largest that one operation adds is this
+abbrev pub packedLimit : ℕ
+packedLimit = 9223372036854775808
+
+abbrev pub largestWeight : ℕ
+largestWeight = 4398046511104
 
 -- a scan has come to a place over good records alone, and has counted what the row reports of them
 pub record Reached (row j : List ℕ) (p : Position) : Type 0 where
@@ -34,7 +41,7 @@ pub record Reached (row j : List ℕ) (p : Position) : Type 0 where
   pub good : allGood goodRecord (records j) ≡ allGood goodRecord (records (drop (p .at) j))
   pub before : (code : ℕ) → 1 ≤ code → code ≤ 3 → Before row j (p .at) code (count code (p .counts))
   pub few : count 1 (p .counts) + count 2 (p .counts) + count 3 (p .counts) ≤ p .at
-  pub packed : p .counts < 9223372036854775808
+  pub packed : p .counts < packedLimit
 
 -- what a step along the journal gives: a bad record, or a position at or behind an end
 abbrev pub Went : List ℕ → List ℕ → ℕ → Step → Type 0
@@ -43,7 +50,7 @@ Went row j end (step.Upto p) = Reached row j p × (end ≤ p .at)
 
 -- what a good record adds to the packed counts
 abbrev pub weightOf : List ℕ → ℕ → ℕ → ℕ
-weightOf row kind node = cond (holds (getD row node 0) kind) (2097152 ^ (kind - 1)) 0
+weightOf row kind node = cond (holds (getD row node 0) kind) (countLimit ^ (kind - 1)) 0
 
 abbrev pub Weights : List ℕ → List ℕ → Type 0
 Weights row table = (i : ℕ) → 16 ≤ i → i < 64 → getD table i 0 ≡ weightOf row (i / 16) (i % 16)
@@ -66,13 +73,13 @@ fourHeaded j header size at = eqb (le 6 j at) header && (eqb (le 6 j (at + size)
 pub record Known (row j : List ℕ) (header size weight : ℕ) : Type 0 where
   pub large : 10 ≤ size
   pub small : size ≤ 14
-  pub narrow : weight ≤ 4398046511104
+  pub narrow : weight ≤ largestWeight
   pub here : (at : ℕ) → at + size ≤ length j → le 6 j at ≡ header → Judged row j at size weight
 
 -- the marks after p was offered as the next one
 pub data Noted (marks : List ℕ) (n : ℕ) (p : Position) : List ℕ → ℕ → Type 0 where
   kept : Noted marks n p marks n
-  added : n < 64 → Noted marks n p (sets marks (2 * n) (p .at ∷ p .counts ∷ [])) (n + 1)
+  added : n < markLimit → Noted marks n p (sets marks (2 * n) (p .at ∷ p .counts ∷ [])) (n + 1)
 
 abbrev pub unpacked : ℕ → Counts
 unpacked packed = record { deletes = count 1 packed; updates = count 2 packed; additions = count 3 packed }

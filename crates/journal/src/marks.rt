@@ -1,9 +1,19 @@
 // Marks: places that a scan came to, with the packed counts of what stands before them.
 ghost use mathlib.Core.Path.{_≡_};
 ghost use Prim.Native.Nat.{_+_, _*_, _≤_};
-ghost use Rattle.journal.specs.Marks.{count, sought};
+ghost use Rattle.journal.specs.Marks.{count, markLimit, sought};
 ghost use Rattle.journal.specs.Scanning.{Noted};
 use crate::stride::Position;
+
+// Packed counts have 21 bits for each opcode: a delete adds 1, an update this, and an addition this times this.
+pub const COUNT_LIMIT: u64 = 2097152;
+
+pub const LARGEST_WEIGHT: u64 = 4398046511104;
+
+// How many marks there are at most, one for each so many bytes.
+const MARK_LIMIT: usize = 64;
+
+pub const MARK_SPAN: usize = 16384;
 
 // A place of the journal, and how many operations of an opcode are passed over from there.
 pub struct Place {
@@ -17,23 +27,23 @@ pub fn count_of(code: usize, packed: u64) -> usize
     ensures { λ r. ⌜ r ≡ count code packed ⌝ }
 {
     if code == 1 {
-        return (packed % 2097152) as usize;
+        return (packed % COUNT_LIMIT) as usize;
     }
     if code == 2 {
-        return (packed / 2097152 % 2097152) as usize;
+        return (packed / COUNT_LIMIT % COUNT_LIMIT) as usize;
     }
-    (packed / 4398046511104 % 2097152) as usize
+    (packed / LARGEST_WEIGHT % COUNT_LIMIT) as usize
 }
 
-// The next mark is stored where one is due: one for each 16,384 bytes, 64 at most. Gives the number of marks.
+// The next mark is stored where one is due: one for each span of the journal, up to the limit. Gives the number of marks.
 pub fn note(marks: &mut [u64; 128], noted: usize, p: Position) -> usize
-    requires { ⌜ noted ≤ 64 ⌝ }
+    requires { ⌜ noted ≤ markLimit ⌝ }
     ensures { λ r. ⌜ Noted (now (marks .entry)) noted p (now (marks .exit)) r ⌝ }
 {
-    if 64 <= noted {
+    if MARK_LIMIT <= noted {
         return noted;
     }
-    if p.at < 16384 * noted {
+    if p.at < MARK_SPAN * noted {
         return noted;
     }
     let i = 2 * noted;
@@ -44,7 +54,7 @@ pub fn note(marks: &mut [u64; 128], noted: usize, p: Position) -> usize
 
 // Where to look for operation number k of an opcode, by the marks.
 pub fn seek(marks: &[u64; 128], noted: usize, code: usize, k: usize) -> Place
-    requires { ⌜ (noted ≤ 64) × (1 ≤ code) × (code ≤ 3) ⌝ }
+    requires { ⌜ (noted ≤ markLimit) × (1 ≤ code) × (code ≤ 3) ⌝ }
     ensures { λ r. ⌜ r ≡ sought (now (marks .entry)) noted code k ⌝ }
 {
     let mut n = noted;

@@ -47,7 +47,7 @@ pub fn scan(j: &[u8], row: &[u8; 15]) -> Scanned
 {
     let mut marks: [u64; 128] = [0; 128];
     let mut noted: usize = 0;
-    if 1048576 < j.len() {
+    if records::SIZE_LIMIT < j.len() {
         return Scanned {
             judgement: Judgement::Malformed,
             noted,

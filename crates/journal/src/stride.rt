@@ -3,7 +3,9 @@ ghost use mathlib.Core.Path.{_≡_};
 ghost use Prim.Native.Nat.{_+_, _*_, _<_, _≤_};
 ghost use lib.ListN.{length};
 ghost use Rattle.words.specs.Numbers.{le};
+ghost use Rattle.records.specs.Records.{sizeLimit};
 ghost use Rattle.journal.specs.Scanning.{goodAt, fourHeaded, FoundAt, Reached, Known, Went, Weights};
+use crate::marks::MARK_SPAN;
 use records::Frame;
 
 // A place of the journal, and the packed counts of what stands before it.
@@ -18,6 +20,9 @@ pub enum Step {
     Upto(Position),
 }
 
+// Node types are 1 to this one.
+const LARGEST_TYPE: u16 = 14;
+
 // Whether a record of this frame and node type is good where `left` bytes are left.
 fn is_good(left: usize, frame: Frame, node: u16) -> bool
     requires { ⌜ 2 ≤ left ⌝ }
@@ -26,7 +31,7 @@ fn is_good(left: usize, frame: Frame, node: u16) -> bool
     if node < 1 {
         return false;
     }
-    if 14 < node {
+    if LARGEST_TYPE < node {
         return false;
     }
     let kind = frame.kind;
@@ -96,7 +101,7 @@ fn past_same(
     weight: u64,
     limit: usize,
 ) -> Position
-    requires { ⌜ Reached (now row) (now j) from × Known (now row) (now j) header size weight × (limit ≤ length (now j)) × (length (now j) ≤ 1048576) ⌝ }
+    requires { ⌜ Reached (now row) (now j) from × Known (now row) (now j) header size weight × (limit ≤ length (now j)) × (length (now j) ≤ sizeLimit) ⌝ }
     ensures { λ r. ⌜ Reached (now (row .entry)) (now (j .entry)) r × (from .at ≤ r .at) ⌝ }
 {
     let mut at = from.at;
@@ -114,7 +119,7 @@ fn past_same(
 
 // Past records one at a time, up to an end: the step is the record's own length, and one sum counts all three opcodes.
 fn past_each(j: &[u8], row: &[u8; 15], weights: &[u64; 64], from: Position, end: usize) -> Step
-    requires { ⌜ Reached (now row) (now j) from × Weights (now row) (now weights) × (end ≤ length (now j)) × (length (now j) ≤ 1048576) ⌝ }
+    requires { ⌜ Reached (now row) (now j) from × Weights (now row) (now weights) × (end ≤ length (now j)) × (length (now j) ≤ sizeLimit) ⌝ }
     ensures { λ r. ⌜ Went (now (row .entry)) (now (j .entry)) end r ⌝ }
 {
     let mut at = from.at;
@@ -147,7 +152,7 @@ fn near(at: usize, by: usize, end: usize) -> usize
 
 // Past a record and more: those of the same header behind it, then others one at a time.
 pub fn stride(j: &[u8], row: &[u8; 15], weights: &[u64; 64], from: Position) -> Step
-    requires { ⌜ Reached (now row) (now j) from × Weights (now row) (now weights) × (from .at < length (now j)) × (length (now j) ≤ 1048576) ⌝ }
+    requires { ⌜ Reached (now row) (now j) from × Weights (now row) (now weights) × (from .at < length (now j)) × (length (now j) ≤ sizeLimit) ⌝ }
     ensures { λ r. ⌜ Went (now (row .entry)) (now (j .entry)) (from .at + 1) r ⌝ }
 {
     let at = from.at;
@@ -156,7 +161,7 @@ pub fn stride(j: &[u8], row: &[u8; 15], weights: &[u64; 64], from: Position) -> 
         Found::Bad => Step::Bad,
         Found::Good(size, weight) => {
             let header = header_at(j, at);
-            let limit = near(at, 16384, j.len());
+            let limit = near(at, MARK_SPAN, j.len());
             let same = past_same(j, row, from, header, size, weight, limit);
             past_each(j, row, weights, same, near(at, 4096, j.len()))
         }

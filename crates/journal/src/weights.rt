@@ -4,7 +4,10 @@ ghost use mathlib.Core.Bool.{cond};
 ghost use Prim.Native.Nat.{_-_, _^_, _<_, _≤_};
 ghost use lib.ListN.{getD};
 ghost use Rattle.journal.specs.Scope.{holds};
+ghost use Rattle.journal.specs.Marks.{countLimit};
 ghost use Rattle.journal.specs.Scanning.{Weights};
+use crate::marks::COUNT_LIMIT;
+use crate::marks::LARGEST_WEIGHT;
 
 // The set of a node type; none past the row's end.
 fn set_of(row: &[u8], node: usize) -> u8
@@ -19,15 +22,15 @@ fn set_of(row: &[u8], node: usize) -> u8
 // One operation of a kind, where the set holds it.
 fn weight(set: u8, kind: usize) -> u64
     requires { ⌜ (1 ≤ kind) × (kind ≤ 3) ⌝ }
-    ensures { λ r. ⌜ r ≡ cond (holds set kind) (2097152 ^ (kind - 1)) 0 ⌝ }
+    ensures { λ r. ⌜ r ≡ cond (holds set kind) (countLimit ^ (kind - 1)) 0 ⌝ }
 {
     if kind == 1 {
         return (set % 2) as u64;
     }
     if kind == 2 {
-        return 2097152 * ((set / 2 % 2) as u64);
+        return COUNT_LIMIT * ((set / 2 % 2) as u64);
     }
-    4398046511104 * ((set / 4 % 2) as u64)
+    LARGEST_WEIGHT * ((set / 4 % 2) as u64)
 }
 
 // The weights of a row.

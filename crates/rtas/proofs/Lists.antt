@@ -8,8 +8,9 @@ use lib.Dec.{leb, ltb}
 use lib.ListN.{length, take, drop, length-drop}
 use borrow.Author.Tests.{leb-true, le-leb, lt-ltb, le-ltb}
 use Rattle.words.proofs.Choice.{and-left, and-right}
-use Rattle.records.specs.Records.{wellFormedBy}
-use Rattle.inventory.specs.Inventory.{wellFormed}
+use Rattle.records.specs.Records.{sizeLimit}
+use Rattle.records.proofs.Steps.{formed-good}
+use Rattle.inventory.specs.Inventory.{goodRecord, wellFormed}
 use Rattle.inventory.specs.Listing.{Entry, listed}
 use Rattle.inventory.specs.Scanning.{From}
 use Rattle.indices.specs.Area.{run, written, left}
@@ -33,9 +34,9 @@ pub among-is : (number count : ℕ) → (leb 1 number && leb number count) ≡ t
 among-is number count e = (leb-true 1 number (and-left _ _ e), leb-true number count (and-right (leb 1 number) _ e))
 
 pub due-is : {flag kind count from : ℕ} {i : List ℕ} (number : ℕ) → wellFormed i ≡ true → count ≡ length (listed flag kind i) → From flag kind i (number - 1) from → Due flag kind number i from (count - (number - 1))
-unfolding wellFormed wellFormedBy
+unfolding wellFormed
 due-is {flag} {kind} {i = i} number w n f = record {
-  onward = record { inside = f .inside; good = sym (f .sound) ∙ and-right (leb (length i) 1048576) _ w };
+  onward = record { inside = f .inside; good = sym (f .sound) ∙ formed-good sizeLimit goodRecord i w };
   rest = f .rest;
   counted = omega arith;
   few = omega (arith, listed-few flag kind i w);
@@ -95,7 +96,7 @@ pub record Ran (i : List ℕ) (q : Request) (area : List ℕ) (handed : ℕ) (af
 
 module _ {i : List ℕ} {q : Request} {area : List ℕ} {handed : ℕ} {after : List ℕ} (t : Ran i q area handed after) where
   -- small enough for the code's sums
-  pub ran-few : (numberIn q ≤ 1048576) × (handed ≤ 1048576)
+  pub ran-few : (numberIn q ≤ sizeLimit) × (handed ≤ sizeLimit)
   ran-few =
       let few = listed-few (q .flag) (q .kind) i (t .formed) in
       (omega arith, omega (arith, run-few (q .size) (numberIn q) (entriesFor i q)))

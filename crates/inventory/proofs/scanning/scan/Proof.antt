@@ -10,7 +10,7 @@ use denote.Ref.{now}
 use Rattle.inventory.specs.Claims.{WellFormedCases, SizeLimit}
 use Rattle.inventory.proofs.Claims.{well-formed-cases, size-limit}
 use Rattle.records.proofs.Choosing.{one-if, one-if-le}
-use Rattle.inventory.proofs.Entries.{oversized, from-bad, Scanned, scanned-start, found-here, found-before, scanned-step, scanned-end}
+use Rattle.inventory.proofs.Entries.{too-large, from-bad, Scanned, scanned-start, found-here, found-before, scanned-step, scanned-end}
 use Rattle.inventory.proofs.RecordLaws.{Stands, stands, none-stands}
 use Rattle.inventory.proofs.scanning.scan.Statement.{statement}
 use Rattle.inventory.proofs.scanning.scan.Tie as tie
@@ -25,7 +25,7 @@ abbrev μ-loop : tie.MeasureT-loop
 μ-loop inventory flag kind number at₀ count₀ due₀ at count due = length inventory - at
 
 returns : tie.Need-returns Inv-loop μ-loop
-returns c = (oversized (now (c .before .before .args .inventory)) (c .if1 .taken), rules)
+returns c = (too-large (now (c .before .before .args .inventory)) (c .if1 .taken), rules)
 
 loop-holds : tie.Need-loop-holds Inv-loop μ-loop
 loop-holds c = scanned-start _ _ _ _

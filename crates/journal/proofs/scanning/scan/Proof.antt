@@ -5,9 +5,9 @@ use native.Mathlib.Omega.{arith}
 use lib.ListN.{length}
 use borrow.Author.Needs.{needs}
 use denote.Ref.{now}
-use Rattle.journal.proofs.Claims.{well-formed-cases, size-limit}
+use Rattle.journal.proofs.Claims.{well-formed-cases, too-large, size-limit}
 use Rattle.journal.proofs.MarkLaws.{marked-none, marked-note, noted-length}
-use Rattle.journal.proofs.Reaching.{position, reached-none, reached-end, oversized, malformed, went-bad, went-upto}
+use Rattle.journal.proofs.Reaching.{position, reached-none, reached-end, malformed, went-bad, went-upto}
 use Rattle.journal.specs.Claims.{WellFormedCases, SizeLimit}
 use Rattle.journal.specs.Marks.{Marked}
 use Rattle.journal.specs.Scanning.{Reached}
@@ -25,7 +25,7 @@ abbrev μ-loop : tie.MeasureT-loop
 μ-loop j row marks₀ noted₀ weights at₀ counts₀ marks noted at counts = length j - at
 
 returns : tie.Need-returns Inv-loop μ-loop
-returns c = ((malformed _ _ (oversized (now (c .before .before .args .row)) (now (c .before .before .args .j)) (c .if1 .taken)), marked-none _ _ _), rules)
+returns c = ((malformed _ _ (too-large (now (c .before .before .args .j)) (c .if1 .taken)), marked-none _ _ _), rules)
 
 weights-of-requires : tie.Need-weights-of-requires Inv-loop μ-loop
 weights-of-requires c κs = search needs
