@@ -1,6 +1,9 @@
--- The operands of the entries of a journal of bytes fit 32-bit words.
+-- The operands of a record are inside where all of its opcode are, and those of the entries of a journal of bytes fit 32-bit words.
+use mathlib.Core.Path.{_≡_}
+use mathlib.Core.Bool.{Bool, true, false, cond}
 use mathlib.Core.List.{List, [], _∷_, map}
-use Prim.Native.Nat.{ℕ, _<_}
+use Prim.Native.Nat.{ℕ, _+_, _<_, _≤_}
+use native.Mathlib.Omega.{arith}
 use lib.Dec.{eqb}
 use Rattle.words.specs.Numbers.{Bytes, Small, le}
 use Rattle.words.proofs.Numbers.{le-below}
@@ -9,7 +12,19 @@ use Rattle.records.proofs.Steps.{EachBytes, records-bytes}
 use Rattle.journal.specs.declared.operation.Operation.{Operation}
 use Rattle.journal.specs.declared.operation.Operation.the-variants.{Delete, Update, Add}
 use Rattle.journal.specs.Journal.{Entry, operands, operationOf, entryOf, entries}
+use Rattle.journal.specs.Marks.{operandsEnd}
 use Rattle.words.proofs.Choice.{choose}
+
+-- where the operands of a record of an opcode's kind are inside, so is the first, and for an addition the second
+pub first-inside : (code at n : ℕ) → operandsEnd code at ≤ n → operandsEnd 1 at ≤ n
+first-inside code at n = go (eqb code 3)
+  where
+    go : (t : Bool) → at + cond t 14 10 ≤ n → at + 10 ≤ n
+    go true h = omega arith
+    go false h = h
+
+pub second-inside : (code at n : ℕ) → code ≡ 3 → operandsEnd code at ≤ n → operandsEnd 3 at ≤ n
+second-inside code at n e h = rw e at h
 
 abbrev SmallOne : Operation → Type 0
 SmallOne o = Small (operands o)

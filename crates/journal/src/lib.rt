@@ -16,4 +16,6 @@ pub use scope::Row;
 pub use scope::scope_row;
 pub use walking::Passed;
 pub use walking::find;
+pub use walking::first_operand;
 pub use walking::pass;
+pub use walking::second_operand;

@@ -8,7 +8,7 @@ ghost use Rattle.records.specs.Records.{sizeOf, firstRecord, records, allGood};
 ghost use Rattle.journal.specs.Journal.{goodRecord, entryOf, entries, wellFormed};
 ghost use Rattle.journal.specs.Scope.{holds};
 ghost use Rattle.journal.specs.Reportable.{reports, chosen};
-ghost use Rattle.journal.specs.Marks.{Resumes, Marked};
+ghost use Rattle.journal.specs.Marks.{firstOperand, secondOperand, operandsEnd, Resumes, Marked};
 use crate::marks::seek;
 
 // 1 where a set holds an opcode, else 0.
@@ -32,6 +32,22 @@ fn reported(set: u8, code: usize, kind: usize) -> usize
 {
     let bit = in_set(set, code);
     if kind == code { bit } else { 0 }
+}
+
+// The first operand of a record: the phandle, or an addition's parent.
+pub fn first_operand(j: &[u8], at: usize) -> u32
+    requires { ⌜ operandsEnd 1 at ≤ length (now j) ⌝ }
+    ensures { λ r. ⌜ r ≡ firstOperand (now (j .entry)) at ⌝ }
+{
+    words::read_le32(j, at + 6)
+}
+
+// The second operand of an addition's record: the drc-index.
+pub fn second_operand(j: &[u8], at: usize) -> u32
+    requires { ⌜ operandsEnd 3 at ≤ length (now j) ⌝ }
+    ensures { λ r. ⌜ r ≡ secondOperand (now (j .entry)) at ⌝ }
+{
+    words::read_le32(j, at + 10)
 }
 
 // A record that a walk passes: its size, and 1 where the row reports it under the opcode, else 0.

@@ -9,14 +9,14 @@ use lib.Dec.{eqb}
 use lib.ListN.{length, take, drop}
 use lib.Seq.{sets, length-sets, length-take-le}
 use borrow.Author.Tests.{eqb-true, eq-eqb, ne-eqb}
-use Rattle.words.specs.Numbers.{le, beBytes, wordBytes}
+use Rattle.words.specs.Numbers.{beBytes, wordBytes}
 use Rattle.words.proofs.Stores.{sets-over, length-wordBytes, words-behind, store-first}
 use Rattle.records.specs.Records.{sizeOf, firstRecord}
 use Rattle.records.proofs.Choosing.{one-if, chosen-here, chosen-later, still-inside}
 use Rattle.journal.specs.declared.operation.Operation.{Operation}
 use Rattle.journal.specs.Journal.{wellFormed, operationOf, entryOf, entries}
 use Rattle.journal.specs.Reportable.{operation, reports, chosen}
-use Rattle.journal.specs.Marks.{operandsAt, Resumes}
+use Rattle.journal.specs.Marks.{firstOperand, secondOperand, operandsAt, operandsEnd, Resumes}
 use Rattle.journal.proofs.Opcodes.{each-code}
 use Rattle.journal.proofs.Entries.{each-entry}
 use Rattle.journal.proofs.Judging.{judged-kind}
@@ -43,7 +43,7 @@ width-some code = go (eqb code 3)
     go false = omega arith
 
 length-operandsAt : (j : List ℕ) (code at : ℕ) → length (operandsAt j code at) ≡ width code
-length-operandsAt j code at = go (eqb code 3) (le 4 j (at + 6)) (le 4 j (at + 10))
+length-operandsAt j code at = go (eqb code 3) (firstOperand j at) (secondOperand j at)
   where
     go : (t : Bool) (p d : ℕ) → length (cond t (p ∷ d ∷ []) (p ∷ [])) ≡ cond t 2 1
     go true p d = refl
@@ -61,13 +61,13 @@ module _ (row j : List ℕ) (code at n : ℕ) (d : Due row j code at n) where
   pub due-inside : 0 < n → at < length j
   due-inside h = still-inside (reports row code) operation each-entry j at (omega (arith, d .enough))
 
-  pub due-record : 0 < n → at + (6 + 4 * width code) ≤ length j
+  pub due-record : 0 < n → operandsEnd code at ≤ length j
   due-record h = go (reports row code (entryOf (firstRecord (drop at j)))) (eqb code 3) refl refl
     where
       there : at < length j
       there = due-inside h
 
-      go : (t u : Bool) → reports row code (entryOf (firstRecord (drop at j))) ≡ t → eqb code 3 ≡ u → at + (6 + 4 * width code) ≤ length j
+      go : (t u : Bool) → reports row code (entryOf (firstRecord (drop at j))) ≡ t → eqb code 3 ≡ u → operandsEnd code at ≤ length j
       go t false e f = rw f (omega (arith, walked-fits row j at there (d .sound), walked-size row j at there (d .sound) .0))
       go true true e f =
           let k = judged-kind row j at _ _ (walked row j at there (d .sound)) code e ∙ eqb-true code 3 f in
@@ -173,10 +173,10 @@ writing-end aim row j code area at to left w h = rw h at (w .rest)
 pub width-three : (code : ℕ) → code ≡ 3 → width code ≡ 2
 width-three code h = rw (eq-eqb code 3 h)
 
-pub operands-three : (j : List ℕ) (code at : ℕ) → code ≡ 3 → operandsAt j code at ≡ le 4 j (at + 6) ∷ le 4 j (at + 10) ∷ []
+pub operands-three : (j : List ℕ) (code at : ℕ) → code ≡ 3 → operandsAt j code at ≡ firstOperand j at ∷ secondOperand j at ∷ []
 operands-three j code at h = rw (eq-eqb code 3 h)
 
-pub operands-other : (j : List ℕ) (code at : ℕ) → (code ≡ 3 → ⊥) → operandsAt j code at ≡ le 4 j (at + 6) ∷ []
+pub operands-other : (j : List ℕ) (code at : ℕ) → (code ≡ 3 → ⊥) → operandsAt j code at ≡ firstOperand j at ∷ []
 operands-other j code at h = rw (ne-eqb code 3 h)
 
 -- ---- one opcode's part

@@ -8,7 +8,7 @@ ghost use lib.Seq.{sets};
 ghost use Rattle.words.specs.Numbers.{wordBytes};
 ghost use Rattle.journal.specs.Journal.{wellFormed, entries};
 ghost use Rattle.journal.specs.Reportable.{chosen, reportable};
-ghost use Rattle.journal.specs.Marks.{operandsAt, Marked};
+ghost use Rattle.journal.specs.Marks.{operandsAt, operandsEnd, Marked};
 ghost use Rattle.nodes.specs.Run.{partWords, cut, total, remains};
 ghost use Rattle.nodes.specs.State.{passedOf, leftOf};
 ghost use Rattle.nodes.specs.Area.{written};
@@ -28,12 +28,12 @@ fn width_of(code: usize) -> usize
 
 // The operand words at a record's place, stored; every other byte of the area stays.
 fn store_operands(area: &mut [u8], to: usize, j: &[u8], at: usize, code: usize)
-    requires { ⌜ (to + 4 * width code ≤ length (now area)) × (at + (6 + 4 * width code) ≤ length (now j)) ⌝ }
+    requires { ⌜ (to + 4 * width code ≤ length (now area)) × (operandsEnd code at ≤ length (now j)) ⌝ }
     ensures { λ _. ⌜ now (area .exit) ≡ sets (now (area .entry)) to (wordBytes (operandsAt (now (j .entry)) code at)) ⌝ }
 {
-    words::store_be32(area, to, words::read_le32(j, at + 6));
+    words::store_be32(area, to, journal::first_operand(j, at));
     if code == 3 {
-        words::store_be32(area, to + 4, words::read_le32(j, at + 10));
+        words::store_be32(area, to + 4, journal::second_operand(j, at));
     }
 }
 

@@ -4,16 +4,14 @@ use mathlib.Core.Path.{refl, _∙_}
 use native.Mathlib.Omega.{arith}
 use borrow.Author.Needs.{needs}
 use denote.Ref.{now}
+use Rattle.journal.proofs.Operands.{first-inside, second-inside}
 use Rattle.nodes.proofs.Writes.{width-some, width-three, operands-three, operands-other}
 use Rattle.words.proofs.Stores.{store-first, store-next}
 use Rattle.nodes.proofs.writing.store_operands.Statement.{statement}
 use Rattle.nodes.proofs.writing.store_operands.Tie as tie
 
-add-read-le32 : tie.Need-add-read-le32
-add-read-le32 c = search needs
-
-read-le32-requires : tie.Need-read-le32-requires
-read-le32-requires c κs = omega (arith, c .before .before .before .pre, width-some (c .before .before .before .args .code))
+first-operand-requires : tie.Need-first-operand-requires
+first-operand-requires c κs = first-inside (c .before .before .before .args .code) (c .before .before .before .args .at) _ (c .before .before .before .pre .1)
 
 store-be32-requires : tie.Need-store-be32-requires
 store-be32-requires c κs = omega (arith, c .before .before .before .before .pre, width-some (c .before .before .before .before .args .code))
@@ -21,11 +19,8 @@ store-be32-requires c κs = omega (arith, c .before .before .before .before .pre
 add-store-be32 : tie.Need-add-store-be32
 add-store-be32 c = search needs
 
-add-read-le32-2 : tie.Need-add-read-le32-2
-add-read-le32-2 c = search needs
-
-read-le32-requires-2 : tie.Need-read-le32-requires-2
-read-le32-requires-2 c κs = omega (arith, c .before .before .before .before .before .before .before .before .before .pre, width-three (c .before .before .before .before .before .before .before .before .before .args .code) (c .before .if1 .taken))
+second-operand-requires : tie.Need-second-operand-requires
+second-operand-requires c κs = second-inside (c .before .before .before .before .before .before .before .before .before .args .code) (c .before .before .before .before .before .before .before .before .before .args .at) _ (c .before .if1 .taken) (c .before .before .before .before .before .before .before .before .before .pre .1)
 
 store-be32-requires-2 : tie.Need-store-be32-requires-2
 store-be32-requires-2 c κs = omega (arith, c .before .before .before .before .before .before .before .before .before .before .pre, width-three (c .before .before .before .before .before .before .before .before .before .before .args .code) (c .before .before .if1 .taken), c .before .before .before .before .before .store-be32 .kept .0)
@@ -34,27 +29,25 @@ same-length : tie.Need-same-length
 same-length c = search needs
 
 returns : tie.Need-returns
-returns c = store-next (now (c .before .before .before .before .before .before .before .before .before .before .before .before .before .args .area)) (c .before .before .before .before .before .before .before .before .store-be32 .last .0) (c .before .before .before .before .before .before .before .before .before .before .before .before .before .args .to) (c .before .before .before .read-le322 .result) (c .before .before .store-be322 .last .0) _ (c .before .before .before .before .before .before .before .before .before .read-le32 .result ∷ [])
-    (store-first (now (c .before .before .before .before .before .before .before .before .before .before .before .before .before .args .area)) (c .before .before .before .before .before .before .before .before .store-be32 .last .0) (c .before .before .before .before .before .before .before .before .before .before .before .before .before .args .to) (c .before .before .before .before .before .before .before .before .before .read-le32 .result) (c .before .before .before .before .before .before .before .before .store-be32 .ensures)) (c .before .before .store-be322 .ensures) refl
-    ∙ rw (operands-three (now (c .before .before .before .before .before .before .before .before .before .before .before .before .before .args .j)) (c .before .before .before .before .before .before .before .before .before .before .before .before .before .args .code) (c .before .before .before .before .before .before .before .before .before .before .before .before .before .args .at) (c .before .before .before .before .before .if1 .taken), c .before .before .before .before .before .before .before .before .before .read-le32 .ensures, c .before .before .before .read-le322 .ensures)
+returns c = store-next (now (c .before .before .before .before .before .before .before .before .before .before .before .before .before .args .area)) (c .before .before .before .before .before .before .before .before .store-be32 .last .0) (c .before .before .before .before .before .before .before .before .before .before .before .before .before .args .to) (c .before .before .before .second-operand .result) (c .before .before .store-be322 .last .0) _ (c .before .before .before .before .before .before .before .before .before .first-operand .result ∷ [])
+    (store-first (now (c .before .before .before .before .before .before .before .before .before .before .before .before .before .args .area)) (c .before .before .before .before .before .before .before .before .store-be32 .last .0) (c .before .before .before .before .before .before .before .before .before .before .before .before .before .args .to) (c .before .before .before .before .before .before .before .before .before .first-operand .result) (c .before .before .before .before .before .before .before .before .store-be32 .ensures)) (c .before .before .store-be322 .ensures) refl
+    ∙ rw (operands-three (now (c .before .before .before .before .before .before .before .before .before .before .before .before .before .args .j)) (c .before .before .before .before .before .before .before .before .before .before .before .before .before .args .code) (c .before .before .before .before .before .before .before .before .before .before .before .before .before .args .at) (c .before .before .before .before .before .if1 .taken), c .before .before .before .before .before .before .before .before .before .first-operand .ensures, c .before .before .before .second-operand .ensures)
 
 same-length-2 : tie.Need-same-length-2
 same-length-2 c = search needs
 
 returns-2 : tie.Need-returns-2
-returns-2 c = store-first (now (c .before .before .before .before .before .before .before .before .args .area)) (c .before .before .before .store-be32 .last .0) (c .before .before .before .before .before .before .before .before .args .to) (c .before .before .before .before .read-le32 .result) (c .before .before .before .store-be32 .ensures)
-    ∙ rw (operands-other (now (c .before .before .before .before .before .before .before .before .args .j)) (c .before .before .before .before .before .before .before .before .args .code) (c .before .before .before .before .before .before .before .before .args .at) (c .if1 .left), c .before .before .before .before .read-le32 .ensures)
+returns-2 c = store-first (now (c .before .before .before .before .before .before .before .before .args .area)) (c .before .before .before .store-be32 .last .0) (c .before .before .before .before .before .before .before .before .args .to) (c .before .before .before .before .first-operand .result) (c .before .before .before .store-be32 .ensures)
+    ∙ rw (operands-other (now (c .before .before .before .before .before .before .before .before .args .j)) (c .before .before .before .before .before .before .before .before .args .code) (c .before .before .before .before .before .before .before .before .args .at) (c .if1 .left), c .before .before .before .before .first-operand .ensures)
 
 pub store-operands-spec : {M : Type 1} → statement M
 store-operands-spec =
     tie.close
     (tie.spec
-    add-read-le32
-    read-le32-requires
+    first-operand-requires
     store-be32-requires
     add-store-be32
-    add-read-le32-2
-    read-le32-requires-2
+    second-operand-requires
     store-be32-requires-2
     same-length
     returns
