@@ -1,10 +1,10 @@
 -- Dump structures on both sides of each rule, cited by the contract of `is_structure`.
 use Prim.Native.Nat.{ℕ, zero, suc}
-use mathlib.Core.Bool.{Bool, true, false, _&&_, Bool·beq}
 use mathlib.Core.List.{List, [], _∷_, _++_}
 use lib.Dec.{T}
 use lib.ListN.{take, replicate}
 use Rattle.words.specs.Numbers.{beBytes}
+use Rattle.words.specs.Cases.{Case, yes, no, agree}
 use Rattle.dump.specs.Structure.{goodStructure}
 
 -- the numbers of a header, in its order; the milliseconds are 7
@@ -48,17 +48,7 @@ from offset h rest = take offset (headerBytes h ++ replicate 100 255) ++ rest
 abbrev pub letters : ℕ → List ℕ
 letters n = replicate n 65
 
-pub record Case : Type 0 where
-  pub structure : List ℕ
-  pub good : Bool
-
-abbrev pub yes : List ℕ → Case
-yes s = record { structure = s; good = true }
-
-abbrev pub no : List ℕ → Case
-no s = record { structure = s; good = false }
-
-abbrev pub headerCases : List Case
+abbrev pub headerCases : List (Case (List ℕ))
 headerCases =
     yes (from 40 (bare 1 40) (asked 1))
     ∷ no []
@@ -89,7 +79,7 @@ headerCases =
     ∷ no (from 113 (bare 10 113) (take 399 (times 10 (asked 1))))
     ∷ []
 
-abbrev pub diskCases : List Case
+abbrev pub diskCases : List (Case (List ℕ))
 diskCases =
     -- "first block, blocks and path offset are 0 and every section has request flag 1"
     no (from 40 (record { version = 1; sections = 1; statusFlags = 0; first = 40; blockSize = 0; firstBlock = 1; blocks = 0; path = 0 }) (asked 1))
@@ -119,7 +109,7 @@ diskCases =
     ∷ yes (from 40 (disk 1 40 81) (asked 1 ++ (7 ∷ letters 1 ++ (0 ∷ []))))
     ∷ []
 
-abbrev pub sectionCases : List Case
+abbrev pub sectionCases : List (Case (List ℕ))
 sectionCases =
     -- "request flags (4), 0 or 0x00000001"
     no (from 40 (disk 1 40 80) (section 2 1 0 0 ++ (letters 1 ++ (0 ∷ []))))
@@ -150,9 +140,5 @@ sectionCases =
     ∷ yes (from 40 (bare 10 40) (asked 1 ++ (asked 2 ++ (asked 256 ++ times 7 (asked 17)))))
     ∷ []
 
-abbrev pub agree : List Case → Bool
-agree [] = true
-agree (c ∷ cs) = Bool·beq (goodStructure (c .structure)) (c .good) && agree cs
-
 abbrev pub StructureCases : Type 0
-StructureCases = T (agree (headerCases ++ (diskCases ++ sectionCases)))
+StructureCases = T (agree goodStructure (headerCases ++ (diskCases ++ sectionCases)))

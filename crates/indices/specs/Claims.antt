@@ -6,6 +6,7 @@ use mathlib.Core.List.{List, [], _∷_, _++_}
 use lib.Dec.{T, eqb}
 use lib.ListN.{length, replicate}
 use Rattle.words.specs.Numbers.{Bytes, beBytes}
+use Rattle.words.specs.Cases.{all}
 use Rattle.inventory.specs.Inventory.{goodCode, wellFormed}
 use Rattle.inventory.specs.Listing.{Entry, listed}
 use Rattle.indices.specs.declared.reading.Check.{Check}
@@ -100,15 +101,14 @@ readingCases =
     ∷ case 2 (setOf 4 (lettersAndNuls 3 1) ++ setOf 8 (lettersAndNuls 3 5)) (refusal 33 16)
     ∷ []
 
-abbrev pub agrees : Check → Found → Bool
-agrees (Entries n) (entries m) = eqb n m
-agrees (Entries n) (refusal r at) = false
-agrees (Refused f k) (entries m) = false
-agrees (Refused f k) (refusal r at) = eqb (refusalNumber f) r && eqb k at
+abbrev pub matches : Check → Found → Bool
+matches (Entries n) (entries m) = eqb n m
+matches (Entries n) (refusal r at) = false
+matches (Refused f k) (entries m) = false
+matches (Refused f k) (refusal r at) = eqb (refusalNumber f) r && eqb k at
 
-abbrev pub allAgree : List ReadingCase → Bool
-allAgree [] = true
-allAgree (c ∷ cs) = agrees (checkOf (reading (c .area))) (c .finds) && allAgree cs
+abbrev pub agrees : ReadingCase → Bool
+agrees c = matches (checkOf (reading (c .area))) (c .finds)
 
 abbrev pub ReadingCases : Type 0
-ReadingCases = T (allAgree readingCases)
+ReadingCases = T (all agrees readingCases)

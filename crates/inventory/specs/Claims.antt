@@ -1,10 +1,11 @@
 -- Claims about the inventory's rules, cited by the contract of `scan`.
 use Prim.Native.Nat.{ℕ, _≤_, _<_}
 use mathlib.Core.Path.{_≡_}
-use mathlib.Core.Bool.{Bool, true, false, _&&_, Bool·beq}
+use mathlib.Core.Bool.{true, false}
 use mathlib.Core.List.{List, [], _∷_, _++_}
 use lib.Dec.{T}
 use lib.ListN.{length, replicate}
+use Rattle.words.specs.Cases.{Case, yes, no, agree}
 use Rattle.records.specs.Records.{records, allGood}
 use Rattle.inventory.specs.Inventory.{goodRecord, wellFormed}
 
@@ -20,17 +21,7 @@ abbrev pub bytes : ℕ → List ℕ
 bytes n = replicate n 85
 
 -- each rule of a well-formed inventory from both sides
-pub record Case : Type 0 where
-  pub inventory : List ℕ
-  pub good : Bool
-
-abbrev pub yes : List ℕ → Case
-yes i = record { inventory = i; good = true }
-
-abbrev pub no : List ℕ → Case
-no i = record { inventory = i; good = false }
-
-abbrev pub cases : List Case
+abbrev pub cases : List (Case (List ℕ))
 cases =
     -- "An empty buffer is well formed."
     yes []
@@ -63,12 +54,8 @@ cases =
     ∷ no (entry 15 16 2 three ++ entry 15 16 0 three)
     ∷ []
 
-abbrev pub agree : List Case → Bool
-agree [] = true
-agree (c ∷ cs) = Bool·beq (wellFormed (c .inventory)) (c .good) && agree cs
-
 abbrev pub WellFormedCases : Type 0
-WellFormedCases = T (agree cases)
+WellFormedCases = T (agree wellFormed cases)
 
 -- 01: "Inventory, same limit", ".. or an oversized buffer is malformed."
 abbrev pub SizeLimit : Type 0

@@ -1,10 +1,11 @@
 -- Claims about the journal's rules, cited by the contract of `scan`.
 use Prim.Native.Nat.{ℕ, _≤_, _<_}
 use mathlib.Core.Path.{_≡_}
-use mathlib.Core.Bool.{Bool, true, false, _&&_, Bool·beq}
+use mathlib.Core.Bool.{true, false}
 use mathlib.Core.List.{List, [], _∷_, _++_}
 use lib.Dec.{T}
 use lib.ListN.{length}
+use Rattle.words.specs.Cases.{Case, yes, no, agree}
 use Rattle.records.specs.Records.{records, allGood}
 use Rattle.journal.specs.Journal.{goodRecord, wellFormed}
 
@@ -16,17 +17,7 @@ abbrev pub long : ℕ → ℕ → ℕ → List ℕ
 long len kind node = short len kind node ++ (5 ∷ 0 ∷ 0 ∷ 16 ∷ [])
 
 -- each rule of a well-formed journal from both sides
-pub record Case : Type 0 where
-  pub journal : List ℕ
-  pub good : Bool
-
-abbrev pub yes : List ℕ → Case
-yes j = record { journal = j; good = true }
-
-abbrev pub no : List ℕ → Case
-no j = record { journal = j; good = false }
-
-abbrev pub cases : List Case
+abbrev pub cases : List (Case (List ℕ))
 cases =
     -- "An empty buffer is well formed."
     yes []
@@ -60,12 +51,8 @@ cases =
     ∷ no (short 8 9 10 ++ short 8 1 10)
     ∷ []
 
-abbrev pub agree : List Case → Bool
-agree [] = true
-agree (c ∷ cs) = Bool·beq (wellFormed (c .journal)) (c .good) && agree cs
-
 abbrev pub WellFormedCases : Type 0
-WellFormedCases = T (agree cases)
+WellFormedCases = T (agree wellFormed cases)
 
 -- 01: "Journal, at most 1,048,576 bytes", ".. or an oversized buffer is malformed."
 abbrev pub SizeLimit : Type 0

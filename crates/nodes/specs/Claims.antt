@@ -1,11 +1,12 @@
 -- Claims about node areas, cited by the contract of `write_answer`.
 use Prim.Native.Nat.{ℕ, _≤_, _<_}
 use mathlib.Core.Path.{_≡_}
-use mathlib.Core.Bool.{Bool, true, _&&_}
+use mathlib.Core.Bool.{Bool, true}
 use mathlib.Core.List.{List, [], _∷_, _++_}
 use lib.Dec.{T, eqb}
 use lib.ListN.{length, replicate}
 use Rattle.words.specs.Numbers.{Bytes, Small}
+use Rattle.words.specs.Cases.{all}
 use Rattle.journal.specs.declared.operation.Operation.{Operation}
 use Rattle.journal.specs.declared.operation.Operation.the-variants.{Delete, Update, Add}
 use Rattle.journal.specs.Journal.{opcode, operands, wellFormed}
@@ -77,12 +78,8 @@ agrees c =
     let os = replicate (c .deletes) (Delete 42) ++ (replicate (c .updates) (Update 42) ++ replicate (c .additions) (Add 42 5)) in
     eqb (nextState os (c .state)) (c .left)
 
-abbrev pub allAgree : List RunCase → Bool
-allAgree [] = true
-allAgree (c ∷ cs) = agrees c && allAgree cs
-
 abbrev pub RunCases : Type 0
-RunCases = T (allAgree runCases)
+RunCases = T (all agrees runCases)
 
 -- all of them
 pub record AreaClaims : Type 0 where
