@@ -1,7 +1,7 @@
 // The readers over the C boundary: all entries of an area, into a buffer that the caller lends.
 ghost use mathlib.Core.Path.{_≡_};
 ghost use mathlib.Core.List.{[], _∷_};
-ghost use Prim.Native.Nat.{_+_, _*_, _≤_, min};
+ghost use Prim.Native.Nat.{_+_, _*_, _≤_};
 ghost use lib.ListN.{length, take};
 ghost use lib.Seq.{sets};
 ghost use Rattle.nodes.specs.Reading as nodes_reading;
@@ -26,15 +26,6 @@ pub struct IndexReading {
     pub refusal: u32,
     pub offset: usize,
     pub entries: usize,
-}
-
-fn least(a: usize, b: usize) -> usize
-    ensures { λ r. ⌜ r ≡ min a b ⌝ }
-{
-    if a < b {
-        return a;
-    }
-    b
 }
 
 // ---- node areas
@@ -112,7 +103,7 @@ pub extern "C" fn draugsten_read_nodes(area: &[u8], out: &mut [u32]) -> NodeRead
             entries: 0,
         },
         nodes::Check::Entries(entries) => {
-            store_operations(area, out, least(entries, out.len() / 3));
+            store_operations(area, out, words::least(entries, out.len() / 3));
             NodeReading {
                 refusal: 0,
                 state: words::read_be32(area, 0),
@@ -183,7 +174,7 @@ pub extern "C" fn draugsten_read_indices(area: &[u8], out: &mut [u64]) -> IndexR
             entries: 0,
         },
         indices::Check::Entries(entries) => {
-            store_sets(area, out, least(entries, out.len() / 3));
+            store_sets(area, out, words::least(entries, out.len() / 3));
             IndexReading {
                 refusal: 0,
                 offset: 0,

@@ -4,6 +4,7 @@ use mathlib.Core.Bool.{Bool, true, false, _&&_, _||_, and-false}
 use mathlib.Core.List.{List}
 use Prim.Native.Nat.{ℕ, zero, suc, _+_, _-_, _<_, _≤_}
 use native.Mathlib.Nat.{add-zero}
+use native.Mathlib.Numerals.{sub-one}
 use native.Mathlib.Omega.{arith}
 use lib.Dec.{leb, ltb, eqb}
 use lib.ListN.{length, drop-of-length-le}
@@ -26,7 +27,7 @@ module _ (test : ℕ → Bool) where
   each-step : (n at : ℕ) → 0 < n → eachSection test n at ≡ (test at && eachSection test (n - 1) (at + 40))
   unfolding eachSection
   each-step zero at h = absurd (omega arith)
-  each-step (suc n) at h = let less : suc n - 1 ≡ n = omega arith in rw less
+  each-step (suc n) at h = rw (sub-one (suc n))
 
   module _ (n at : ℕ) (more : 0 < n) where
     pub each-bad : test at ≡ false → eachSection test n at ≡ false

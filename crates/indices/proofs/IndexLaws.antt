@@ -4,6 +4,7 @@ use mathlib.Core.Bool.{Bool, true, false, cond, not, or-true}
 use mathlib.Core.List.{List, [], _∷_}
 use Prim.Native.Nat.{ℕ, zero, suc, _+_, _-_, _<_, _≤_, min}
 use native.Mathlib.Nat.{zero-add, add-assoc}
+use native.Mathlib.Numerals.{sub-one}
 use native.Mathlib.Omega.{arith}
 use lib.Dec.{leb, ltb, eqb, eqb·suc-zero}
 use lib.ListN.{length, take, drop, length-take, length-drop}
@@ -117,14 +118,11 @@ pub fine-inside : (area : List ℕ) (at : ℕ) → faultAt area at ≡ Fine → 
 unfolding faultAt
 fine-inside area at e = ltb-false (length area - at) (8 + lengthAt area at) (fault-none (ltb (length area - at) 8) (goodLength (lengthAt area at)) (ltb (length area - at) (8 + lengthAt area at)) (goodField (fieldAt area at)) e)
 
-one-less : (n : ℕ) → suc n - 1 ≡ n
-one-less n = omega arith
-
 -- the sets that are left, by the first of them
 read-next : (n : ℕ) (area : List ℕ) (at : ℕ) → 0 < n → readFrom n area at ≡ judgedBy (faultAt area at) at (withEntry (entryAt area at) (readFrom (n - 1) area (at + (8 + lengthAt area at))))
 unfolding readFrom
 read-next zero area at h = absurd (omega arith)
-read-next (suc n) area at h = rw (one-less n)
+read-next (suc n) area at h = rw (sub-one (suc n))
 
 -- what a check tells that has passed so many sets
 abbrev counted : ℕ → Reading Entry Refusal → Check
@@ -209,7 +207,7 @@ step-gives area at (suc n) = rw (eqb·suc-zero n) (go (ltb (length area - at) 8)
     go : (t : Bool) → Gives area (cond t [] (entryAt area at ∷ entriesFrom n area (at + (8 + lengthAt area at))))
         (cond t End (Found (record { index = be32 area at; start = at + 8; length = length (untilNul (fieldAt area at)) }) (record { at = at + (8 + lengthAt area at); left = suc n - 1 })))
     go true = refl
-    go false = rw (one-less n, ← code-part area at)
+    go false = rw (sub-one (suc n), ← code-part area at)
 
 pub steps-give : StepsGive
 unfolding remaining

@@ -1,6 +1,6 @@
 // Reading an index work area: a check of the whole, and a cursor that gives its entries one at a time.
 ghost use mathlib.Core.Path.{_≡_};
-ghost use Prim.Native.Nat.{_≤_, min};
+ghost use Prim.Native.Nat.{_≤_};
 ghost use lib.ListN.{length};
 ghost use lib.Seq.{slice};
 ghost use Rattle.indices.specs.Reading.{goodLength, goodField, faultAt, reading, checkOf};
@@ -123,15 +123,6 @@ pub enum Next {
     End,
 }
 
-fn least(a: usize, b: usize) -> usize
-    ensures { λ r. ⌜ r ≡ min a b ⌝ }
-{
-    if a < b {
-        return a;
-    }
-    b
-}
-
 impl Cursor {
     // Before the first set; an area of under 4 bytes has none.
     pub fn start(area: &[u8]) -> Cursor
@@ -164,7 +155,7 @@ impl Cursor {
         }
         let n = words::read_be32(area, at + 4) as usize;
         let start = at + 8;
-        let end = words::find_nul(area, start, start + least(n, rest - 8));
+        let end = words::find_nul(area, start, start + words::least(n, rest - 8));
         Next::Found(
             Set {
                 index: words::read_be32(area, at),

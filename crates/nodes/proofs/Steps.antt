@@ -3,6 +3,7 @@ use mathlib.Core.Path.{_≡_, refl, sym, ap, _∙_}
 use mathlib.Core.Bool.{Bool, true, false, cond, not}
 use mathlib.Core.List.{List, [], _∷_}
 use Prim.Native.Nat.{ℕ, zero, suc, _+_, _-_, _<_, _≤_}
+use native.Mathlib.Numerals.{sub-one}
 use native.Mathlib.Omega.{arith}
 use lib.Dec.{leb, eqb}
 use lib.ListN.{length, drop}
@@ -15,7 +16,6 @@ use Rattle.nodes.specs.declared.reading.Next.{Next}
 use Rattle.nodes.specs.declared.reading.Next.the-variants.{Entry, End}
 use Rattle.nodes.specs.Reading.{opcodeIn, countIn, single, operationsAt}
 use Rattle.nodes.specs.Cursor.{remaining, Gives, stepAt, nextOf, StepsGive}
-use Rattle.nodes.proofs.Verdicts.{one-less}
 
 -- the code's test of a place
 pub room : (n at : ℕ) (t : Bool) → t ≡ leb 4 (n - at) → not t ≡ false → at + 4 ≤ n
@@ -30,8 +30,8 @@ module _ (w at code : ℕ) where
   step-single : (ws : List ℕ) (n : ℕ) → (code ≡ 3 → ⊥) → 0 < n → Entry (single code w) (record { at = at + 4; code = code; left = n - 1 }) ≡ stepAt (w ∷ ws) at code n
   unfolding stepAt
   step-single ws zero h l = absurd (omega arith)
-  step-single [] (suc n) h l = rw (one-less n, ne-eqb code 3 h)
-  step-single (v ∷ ws) (suc n) h l = rw (one-less n, ne-eqb code 3 h)
+  step-single [] (suc n) h l = rw (sub-one (suc n), ne-eqb code 3 h)
+  step-single (v ∷ ws) (suc n) h l = rw (sub-one (suc n), ne-eqb code 3 h)
 
   step-half : (n : ℕ) → code ≡ 3 → 0 < n → End ≡ stepAt (w ∷ []) at code n
   unfolding stepAt
@@ -41,7 +41,7 @@ module _ (w at code : ℕ) where
   step-pair : (v : ℕ) (ws : List ℕ) (n : ℕ) → code ≡ 3 → 0 < n → Entry (Add w v) (record { at = at + 4 + 4; code = code; left = n - 1 - 1 }) ≡ stepAt (w ∷ v ∷ ws) at code n
   unfolding stepAt
   step-pair v ws zero e l = absurd (omega arith)
-  step-pair v ws (suc n) e l = let behind : at + 4 + 4 ≡ at + 8 = omega arith in rw (one-less n, behind, eq-eqb code 3 e)
+  step-pair v ws (suc n) e l = let behind : at + 4 + 4 ≡ at + 8 = omega arith in rw (sub-one (suc n), behind, eq-eqb code 3 e)
 
 -- ---- the step from a place of an area on
 

@@ -4,6 +4,7 @@ use mathlib.Core.Bool.{Bool, true, false, cond, _&&_, not}
 use mathlib.Core.List.{List, [], _∷_}
 use Prim.Native.Nat.{ℕ, zero, suc, _+_, _*_, _-_, _/_, _%_, _<_, _≤_}
 use native.Mathlib.Nat.{zero-add, add-zero, add-assoc}
+use native.Mathlib.Numerals.{sub-one}
 use native.Mathlib.Omega.{arith}
 use lib.Dec.{leb, ltb, eqb}
 use lib.ListN.{length, drop, length-drop}
@@ -61,26 +62,23 @@ module _ (code w : ℕ) (ws : List ℕ) where
   unfolding operationsAt
   operations-more h = rw (ne-eqb w 0 h)
 
-pub one-less : (n : ℕ) → suc n - 1 ≡ n
-one-less n = omega arith
-
 -- at the operands of an operation
 pub operations-single : (code w : ℕ) (ws : List ℕ) (n : ℕ) → (code ≡ 3 → ⊥) → 0 < n → operationsAt (w ∷ ws) code n ≡ single code w ∷ operationsAt ws code (n - 1)
 unfolding operationsAt
 operations-single code w ws zero h l = absurd (omega arith)
 operations-single code w [] (suc n) h l = rw (ne-eqb code 3 h)
-operations-single code w (v ∷ ws) (suc n) h l = rw (one-less n, ne-eqb code 3 h)
+operations-single code w (v ∷ ws) (suc n) h l = rw (sub-one (suc n), ne-eqb code 3 h)
 
 pub operations-pair : (code w v : ℕ) (ws : List ℕ) (n : ℕ) → code ≡ 3 → 0 < n → operationsAt (w ∷ v ∷ ws) code n ≡ Add w v ∷ operationsAt ws code (n - 1 - 1)
 unfolding operationsAt
 operations-pair code w v ws zero e l = absurd (omega arith)
-operations-pair code w v ws (suc n) e l = rw (one-less n, eq-eqb code 3 e)
+operations-pair code w v ws (suc n) e l = rw (sub-one (suc n), eq-eqb code 3 e)
 
 -- past operand words
 operations-singles : (code n : ℕ) (ws : List ℕ) → (code ≡ 3 → ⊥) → n ≤ length ws → length (operationsAt ws code n) ≡ n + length (operationsAt (drop n ws) code 0)
 operations-singles code zero ws h l = sym (zero-add _)
 operations-singles code (suc n) [] h l = absurd (omega arith)
-operations-singles code (suc n) (w ∷ ws) h l = rw (operations-single code w ws (suc n) h (omega arith), one-less n, operations-singles code n ws h (omega arith)) (omega arith)
+operations-singles code (suc n) (w ∷ ws) h l = rw (operations-single code w ws (suc n) h (omega arith), sub-one (suc n), operations-singles code n ws h (omega arith)) (omega arith)
 
 operations-pairs : (code n : ℕ) (ws : List ℕ) → code ≡ 3 → n + n ≤ length ws → length (operationsAt ws code (n + n)) ≡ n + length (operationsAt (drop (n + n) ws) code 0)
 operations-pairs code zero ws h l = sym (zero-add _)
@@ -88,7 +86,7 @@ operations-pairs code (suc n) [] h l = absurd (omega arith)
 operations-pairs code (suc n) (w ∷ []) h l = absurd (omega arith)
 operations-pairs code (suc n) (w ∷ v ∷ ws) h l =
     let two : suc n + suc n ≡ suc (suc (n + n)) = omega arith in
-    rw (two, operations-pair code w v ws (suc (suc (n + n))) h (omega arith), one-less (suc (n + n)), one-less (n + n), operations-pairs code n ws h (omega arith)) (omega arith)
+    rw (two, operations-pair code w v ws (suc (suc (n + n))) h (omega arith), sub-one (suc (suc (n + n))), sub-one (suc (n + n)), operations-pairs code n ws h (omega arith)) (omega arith)
 
 pub operations-passed : (code n : ℕ) (ws : List ℕ) → n ≤ length ws → (code ≡ 3 → n % 2 ≡ 0)
     → length (operationsAt ws code n) ≡ cond (eqb code 3) (n / 2) n + length (operationsAt (drop n ws) code 0)

@@ -4,6 +4,7 @@ use mathlib.Core.Bool.{Bool, true, false, cond}
 use mathlib.Core.List.{List, [], _∷_, _++_}
 use Prim.Native.Nat.{ℕ, zero, suc, _+_, _-_, _*_, _<_, _≤_}
 use native.Mathlib.Nat.{mul-zero, mul-one, mul-le-mul-left, mul-le-mul}
+use native.Mathlib.Numerals.{sub-one}
 use native.Mathlib.Omega.{arith}
 use lib.Dec.{eqb}
 use lib.ListN.{length, take, drop}
@@ -133,11 +134,11 @@ module _ (aim row j : List ℕ) (code : ℕ) (area : List ℕ) (at to left : ℕ
     where
       take-one : (n : ℕ) (o : Operation) (os : List Operation) → 0 < n → take n (o ∷ os) ≡ o ∷ take (n - 1) os
       take-one zero o os p = absurd (omega arith)
-      take-one (suc n) o os p = let e : suc n - 1 ≡ n = omega arith in rw e
+      take-one (suc n) o os p = rw (sub-one (suc n))
 
       pred-mul : (a n : ℕ) → 0 < n → a * n ≡ a + a * (n - 1)
       pred-mul a zero p = absurd (omega arith)
-      pred-mul a (suc n) p = let e : suc n - 1 ≡ n = omega arith in rw e (omega arith)
+      pred-mul a (suc n) p = rw (sub-one (suc n)) (omega arith)
 
   -- a record that is passed over: what was stored is stored over
   passes : shown ≡ false → Writing aim row j code stored past to left

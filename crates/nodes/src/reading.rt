@@ -8,7 +8,6 @@ ghost use Rattle.words.specs.Numbers.{words};
 ghost use Rattle.nodes.specs.Reading.{faultOf, operationsIn, verdict, operationsAt, single, readBy, reading, checkOf};
 ghost use Rattle.nodes.specs.ReadingCases.{ReadingCases};
 ghost use Rattle.nodes.specs.Cursor.{stepAt, nextOf, StepsGive, startOf, EntriesInOrder};
-use crate::run::less;
 use journal::Operation;
 
 // Why an area is refused.
@@ -137,7 +136,7 @@ pub enum Next {
 fn has_word(area: &[u8], at: usize) -> bool
     ensures { λ r. ⌜ r ≡ leb 4 (length (now (area .entry)) - at) ⌝ }
 {
-    4 <= less(area.len(), at)
+    4 <= words::saturating_sub(area.len(), at)
 }
 
 // The operation whose operands stand at a place, of an opcode with operand words left.
@@ -160,7 +159,7 @@ fn operation_at(area: &[u8], at: usize, code: u32, left: usize) -> Next
             Cursor {
                 at: behind + 4,
                 code,
-                left: less(left - 1, 1),
+                left: words::saturating_sub(left - 1, 1),
             },
         );
     }

@@ -9,7 +9,6 @@ ghost use lib.Seq.{sets};
 ghost use Rattle.words.specs.Numbers.{be32, wordBytes};
 ghost use Rattle.nodes.specs.Run.{total};
 ghost use Rattle.nodes.specs.State.{passedOf, leftOf};
-use crate::run::less;
 use journal::Counts;
 
 // The State Variable: how many operations were reported before. It counts from 0.
@@ -53,8 +52,8 @@ impl StateVariable {
         ensures { λ r. ⌜ r ≡ passedOf all (self .0) ⌝ }
     {
         let deletes = self.0 as usize;
-        let updates = less(deletes, all.deletes);
-        let additions = less(updates, all.updates);
+        let updates = words::saturating_sub(deletes, all.deletes);
+        let additions = words::saturating_sub(updates, all.updates);
         Counts {
             deletes,
             updates,
@@ -68,9 +67,9 @@ impl StateVariable {
     {
         let passed = self.passed(all);
         Counts {
-            deletes: less(all.deletes, passed.deletes),
-            updates: less(all.updates, passed.updates),
-            additions: less(all.additions, passed.additions),
+            deletes: words::saturating_sub(all.deletes, passed.deletes),
+            updates: words::saturating_sub(all.updates, passed.updates),
+            additions: words::saturating_sub(all.additions, passed.additions),
         }
     }
 

@@ -4,6 +4,7 @@ use mathlib.Core.Bool.{Bool, true, false}
 use mathlib.Core.List.{[], _∷_}
 use Prim.Native.Nat.{ℕ, zero, suc, _+_, _-_, _/_, _%_, _^_, _≤_, _<_}
 use native.Mathlib.Nat.{mod-eq-of-lt, pow-suc, one-le-pow, pow-le-pow-right}
+use native.Mathlib.Numerals.{sub-one}
 use native.Mathlib.Omega.{arith}
 use lib.Dec.{ltb}
 use borrow.Author.Tests.{lt-ltb, le-ltb, ltb-true, ltb-false}
@@ -14,19 +15,16 @@ use Rattle.print_nodes.specs.Text.{digits, decimal, hexDigits, hex}
 last : (v : ℕ) → io·digits 10 1 v ≡ (48 + v % 10) ∷ []
 last v = rw (lt-ltb (v % 10) 10 (omega arith))
 
-one-less : (n : ℕ) → suc n - 1 ≡ n
-one-less n = omega arith
-
 fewest : (f k v : ℕ) → k ≤ f → Fewest 10 1 v k → io·digits 10 k v ≡ digits f v
 unfolding digits
 fewest f zero v h w = absurd (omega (arith, w .0))
 fewest zero (suc k) v h w = absurd (omega arith)
 fewest (suc f) (suc zero) v h w = let l : v < 10 = w .1 in rw (last v, mod-eq-of-lt l, lt-ltb v 10 l)
 fewest (suc f) (suc (suc k)) v h w =
-    let low : 10 ^ suc k ≤ v = rw one-less at (w .2 (omega arith)) in
+    let low : 10 ^ suc k ≤ v = rw sub-one at (w .2 (omega arith)) in
     let powers = pow-suc 10 k in
     let more : 10 ≤ v = omega (arith, one-le-pow k 10 (omega arith)) in
-    let rest : Fewest 10 1 (v / 10) (suc k) = (omega arith, omega (arith, w .1, pow-suc 10 (suc k)), λ _. rw one-less (omega arith)) in
+    let rest : Fewest 10 1 (v / 10) (suc k) = (omega arith, omega (arith, w .1, pow-suc 10 (suc k)), λ _. rw sub-one (omega arith)) in
     rw (le-ltb v 10 more, fewest f (suc k) (v / 10) (omega arith) rest, lt-ltb (v % 10) 10 (omega arith))
 
 -- a number below the n-th power has no more than n digits, or the least that is asked

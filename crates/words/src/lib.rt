@@ -1,10 +1,13 @@
-// Numbers in bytes: big-endian 16, 32 and 64 bits, little-endian 16, 32 and 64 bits.
+// Numbers in bytes: big-endian 16, 32 and 64 bits, little-endian 16, 32 and 64 bits; and arithmetic that never wraps.
+mod arithmetic;
 mod join;
 mod nul;
 mod reading;
 mod storing;
 mod zero;
 
+pub use arithmetic::least;
+pub use arithmetic::saturating_sub;
 pub use nul::find_nul;
 pub use reading::read_be16;
 pub use reading::read_be32;

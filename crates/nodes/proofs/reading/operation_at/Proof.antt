@@ -40,14 +40,14 @@ read-be32-requires-2 c κs = fits-two c
 add-t13 : tie.Need-add-t13
 add-t13 c = omega (arith, fits-two (c .before))
 
-sub-less : tie.Need-sub-less
-sub-less c = search needs
+sub-saturating-sub : tie.Need-sub-saturating-sub
+sub-saturating-sub c = search needs
 
-less-requires : tie.Need-less-requires
-less-requires c κs = search needs
+saturating-sub-requires : tie.Need-saturating-sub-requires
+saturating-sub-requires c κs = search needs
 
 returns-3 : tie.Need-returns-3
-returns-3 c = rw (c .less .ensures, c .before .read-be322 .ensures, c .before .before .before .before .before .read-be32 .ensures) (gives-pair (now (c .before .before .before .before .before .before .before .before .before .args .area)) (c .before .before .before .before .before .before .before .before .before .args .at) (c .before .before .before .before .before .before .before .before .before .args .code) (c .before .before .before .before .before .before .before .before .before .args .left) (fits (c .before .before .before .before .before .before)) (c .before .before .before .before .before .before .before .before .before .pre) (c .before .before .before .before .if2 .taken) (fits-two (c .before .before)))
+returns-3 c = rw (c .saturating-sub .ensures, c .before .read-be322 .ensures, c .before .before .before .before .before .read-be32 .ensures) (gives-pair (now (c .before .before .before .before .before .before .before .before .before .args .area)) (c .before .before .before .before .before .before .before .before .before .args .at) (c .before .before .before .before .before .before .before .before .before .args .code) (c .before .before .before .before .before .before .before .before .before .args .left) (fits (c .before .before .before .before .before .before)) (c .before .before .before .before .before .before .before .before .before .pre) (c .before .before .before .before .if2 .taken) (fits-two (c .before .before)))
 
 single-of-requires : tie.Need-single-of-requires
 single-of-requires c κs = search needs
@@ -70,8 +70,8 @@ operation-at-spec =
     returns-2
     read-be32-requires-2
     add-t13
-    sub-less
-    less-requires
+    sub-saturating-sub
+    saturating-sub-requires
     returns-3
     single-of-requires
     sub-t18

@@ -11,8 +11,8 @@ least-requires c κs = search needs
 room-after-requires : tie.Need-room-after-requires
 room-after-requires c κs = search needs
 
-less-requires : tie.Need-less-requires
-less-requires c κs = search needs
+saturating-sub-requires : tie.Need-saturating-sub-requires
+saturating-sub-requires c κs = search needs
 
 least-requires-2 : tie.Need-least-requires-2
 least-requires-2 c κs = search needs
@@ -20,8 +20,8 @@ least-requires-2 c κs = search needs
 room-after-requires-2 : tie.Need-room-after-requires-2
 room-after-requires-2 c κs = search needs
 
-less-requires-2 : tie.Need-less-requires-2
-less-requires-2 c κs = search needs
+saturating-sub-requires-2 : tie.Need-saturating-sub-requires-2
+saturating-sub-requires-2 c κs = search needs
 
 least-requires-3 : tie.Need-least-requires-3
 least-requires-3 c κs = search needs
@@ -36,9 +36,9 @@ longest-run-spec =
     (tie.spec
     least-requires
     room-after-requires
-    less-requires
+    saturating-sub-requires
     least-requires-2
     room-after-requires-2
-    less-requires-2
+    saturating-sub-requires-2
     least-requires-3
     returns)

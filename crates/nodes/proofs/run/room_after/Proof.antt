@@ -8,14 +8,14 @@ use Rattle.nodes.proofs.run.room_after.Tie as tie
 returns : tie.Need-returns
 returns c = omega (arith, operator-zero _ (c .if1 .taken))
 
-less-requires : tie.Need-less-requires
-less-requires c κs = search needs
+saturating-sub-requires : tie.Need-saturating-sub-requires
+saturating-sub-requires c κs = search needs
 
-less-requires-2 : tie.Need-less-requires-2
-less-requires-2 c κs = search needs
+saturating-sub-requires-2 : tie.Need-saturating-sub-requires-2
+saturating-sub-requires-2 c κs = search needs
 
 returns-2 : tie.Need-returns-2
 returns-2 c = omega (arith, operator-pos (c .before .before .before .args .n) (omega arith))
 
 pub room-after-spec : {M : Type 1} → statement M
-room-after-spec = tie.close (tie.spec returns less-requires less-requires-2 returns-2)
+room-after-spec = tie.close (tie.spec returns saturating-sub-requires saturating-sub-requires-2 returns-2)

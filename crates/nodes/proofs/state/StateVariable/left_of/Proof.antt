@@ -6,17 +6,17 @@ use Rattle.nodes.proofs.state.StateVariable.left_of.Tie as tie
 passed-requires : tie.Need-passed-requires
 passed-requires c κs = search needs
 
-less-requires : tie.Need-less-requires
-less-requires c κs = search needs
+saturating-sub-requires : tie.Need-saturating-sub-requires
+saturating-sub-requires c κs = search needs
 
-less-requires-2 : tie.Need-less-requires-2
-less-requires-2 c κs = search needs
+saturating-sub-requires-2 : tie.Need-saturating-sub-requires-2
+saturating-sub-requires-2 c κs = search needs
 
-less-requires-3 : tie.Need-less-requires-3
-less-requires-3 c κs = search needs
+saturating-sub-requires-3 : tie.Need-saturating-sub-requires-3
+saturating-sub-requires-3 c κs = search needs
 
 returns : tie.Need-returns
 returns c = cc
 
 pub left-of-spec : {M : Type 1} → statement M
-left-of-spec = tie.close (tie.spec passed-requires less-requires less-requires-2 less-requires-3 returns)
+left-of-spec = tie.close (tie.spec passed-requires saturating-sub-requires saturating-sub-requires-2 saturating-sub-requires-3 returns)
