@@ -15,7 +15,7 @@ use Rattle.journal.specs.Scope.{negative, valid, rowOf}
 use Rattle.journal.specs.Reportable.{reports, reportable, operandWords}
 use Rattle.nodes.specs.Run.{present, cost, longest, run, remains, nextState}
 use Rattle.nodes.specs.Area.{operandsOf, body, answer, written}
-use Rattle.inventory.specs.Inventory.{flagOf, typeOf, indexOf, codeOf, nonZero, goodCode}
+use Rattle.inventory.specs.Inventory.{codeLimit, flagOf, typeOf, indexOf, codeOf, nonZero, goodHead, goodCode}
 use Rattle.inventory.specs.Inventory as inventory
 use Rattle.inventory.specs.Listing as listing
 use Rattle.indices.specs.Area.{codeField, entryBytes, entriesBytes, fitting}
@@ -62,7 +62,7 @@ nodes-witness =
     }
 
 pub indices-witness : IndicesWitness
-unfolding be le beBytes wordBytes zeros records recordsFrom whole allGood wellFormedBy lengthOf kindOf flagOf typeOf indexOf codeOf nonZero goodCode inventory.goodRecord inventory.wellFormed listing.matches listing.chosen listing.listed codeField entryBytes entriesBytes fitting index-area.run index-area.answer index-area.written partAt withPart askable lendable goodNumber dueFits moreEntries listStatus indicesStatus indicesMemory nextNumber numberFor asks indicesOutcome outcome callOf answered afterCall chosenBy
+unfolding be le beBytes wordBytes zeros records recordsFrom whole allGood wellFormedBy lengthOf kindOf flagOf typeOf indexOf codeOf nonZero goodCode inventory.goodRecord inventory.wellFormed listing.matches listing.chosen listing.listed codeField entryBytes entriesBytes fitting index-area.run index-area.answer index-area.written partAt withPart askable lendable goodNumber dueFits moreEntries listStatus indicesStatus indicesMemory nextNumber numberFor asks indicesOutcome outcome callOf answered afterCall chosenBy codeLimit goodHead
 indices-witness =
     record {
       bytes = bytes-by sensors refl;

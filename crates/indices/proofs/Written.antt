@@ -13,11 +13,11 @@ use Rattle.words.specs.Numbers.{Bytes, be, be32, beBytes, zeros}
 use Rattle.words.specs.Nul.{untilNul}
 use Rattle.words.proofs.Choice.{choose, and-left, and-right}
 use Rattle.words.proofs.Numbers.{be-drop, be-bytes, length-beBytes, le-below}
-use Rattle.records.specs.Records.{kindOf, whole, recordsFrom, records, allGood, sizeLimit}
+use Rattle.records.specs.Records.{kindOf, whole, recordsFrom, records, allGood, sizeLimit, wellFormedBy}
 use Rattle.records.specs.Choosing.{chosenBy}
 use Rattle.records.proofs.Choosing.{chosen-few}
 use Rattle.records.proofs.Steps.{formed-good, formed-within, EachBytes, records-bytes, records-few}
-use Rattle.inventory.specs.Inventory.{flagOf, indexOf, nonZero, goodCode, goodRecord, wellFormed}
+use Rattle.inventory.specs.Inventory.{flagOf, indexOf, nonZero, goodCode, goodRecord, wellFormed, codeLimit, goodHead}
 use Rattle.inventory.specs.Listing.{Entry, entryOf, matches, chosen, listed}
 use Rattle.indices.specs.declared.reading.Fault.the-variants.{Fine}
 use Rattle.indices.specs.Area.{filled, entrySize, codeField, entryBytes, entriesBytes, fitting, run, answer, written}
@@ -57,13 +57,13 @@ module _ (code : List ℕ) (good : goodCode code ≡ true) where
   unfolding goodCode
   some = leb-true 1 (length code) (and-left _ _ good)
 
-  few : length code ≤ 79
+  few : length code ≤ codeLimit
   unfolding goodCode
-  few = leb-true (length code) 79 (and-left _ _ (and-right (leb 1 (length code)) _ good))
+  few = leb-true (length code) codeLimit (and-left _ _ (and-right (leb 1 (length code)) _ good))
 
   whole-code : nonZero code ≡ true
   unfolding goodCode
-  whole-code = and-right (leb (length code) 79) _ (and-right (leb 1 (length code)) _ good)
+  whole-code = and-right (leb (length code) codeLimit) _ (and-right (leb 1 (length code)) _ good)
 
   field-length : length (codeField code) ≡ filled (length code)
   unfolding codeField
@@ -74,7 +74,7 @@ module _ (code : List ℕ) (good : goodCode code ≡ true) where
   field-code = code-back code (filled (length code) - length code) whole-code (omega arith)
 
   length-good : goodLength (filled (length code)) ≡ true
-  unfolding goodLength
+  unfolding goodLength codeLimit
   length-good = rw (le-leb 1 (filled (length code)) (omega arith), le-leb (filled (length code)) 80 (omega (arith, few)), eq-eqb (filled (length code) % 4) 0 (omega arith))
 
   nuls : zeros (drop (length code) (codeField code)) ≡ true
@@ -89,6 +89,7 @@ module _ (code : List ℕ) (good : goodCode code ≡ true) where
 
 module _ (area : List ℕ) (at : ℕ) (e : Entry) (r : List ℕ) (stands : drop at area ≡ entryBytes e ++ r) (small : e .index < 4294967296) (good : goodCode (e .code) ≡ true) where
   size : filled (length (e .code)) < 4294967296
+  unfolding codeLimit
   size = omega (arith, few (e .code) good)
 
   index-first : drop at area ≡ beBytes 4 (e .index) ++ (beBytes 4 (filled (length (e .code))) ++ (codeField (e .code) ++ r))
@@ -184,7 +185,7 @@ chosen-sound flag type (r ∷ rs) h g = go (matches flag type r) (chosen-sound f
     good = and-right (whole r) _ (and-left (whole r && goodRecord r) _ g)
 
     go : (t : Bool) → Sound (chosen flag type rs) → Sound (cond t (entryOf r ∷ chosen flag type rs) (chosen flag type rs))
-    go true k = (le-below r (h .0) 4 10, and-right (leb (flagOf r) 1) _ (and-right (eqb (kindOf r) 16) _ good), k)
+    go true k = (le-below r (h .0) 4 10, and-right (goodHead r) _ good, k)
     go false k = k
 
 module _ (flag type : ℕ) (inventory : List ℕ) (formed : wellFormed inventory ≡ true) where
@@ -208,7 +209,7 @@ reads-back area inventory flag type size number bytes formed =
 -- ---- an area holds the entry due
 
 first-fits : (room : ℕ) (es : List Entry) → Sound es → 1 ≤ length es → 88 ≤ room → 1 ≤ length (fitting room es)
-unfolding fitting Sound
+unfolding fitting Sound codeLimit
 first-fits room [] h p q = absurd (omega arith)
 first-fits room (e ∷ es) h p q = rw (le-leb (entrySize (length (e .code))) room (omega (arith, few (e .code) (h .1)))) (omega arith)
 

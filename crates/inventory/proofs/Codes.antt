@@ -11,7 +11,13 @@ use lib.ListN.{length, getD, take, drop}
 use lib.Seq.{slice, slice-cons, slice-empty, take-add, drop-append-add, length-take-le}
 use borrow.Author.Tests.{ne-eqb}
 use Rattle.records.proofs.Choosing.{one-if}
-use Rattle.inventory.specs.Inventory.{nonZero, zeroCount}
+use Rattle.inventory.specs.Inventory.{codeLimit, nonZero}
+use Rattle.inventory.specs.Judging.{zeroCount}
+
+-- the zero bytes of a code can be counted in a byte
+pub code-in-byte : codeLimit ≤ 255
+unfolding codeLimit
+code-in-byte = omega arith
 
 -- one byte more of a part
 pub zero-count-next : (s : List ℕ) (i to : ℕ) → i < to → to ≤ length s → zeroCount (slice i to s) ≡ one-if (eqb (getD s i 0) 0) + zeroCount (slice (i + 1) to s)

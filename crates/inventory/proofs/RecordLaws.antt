@@ -1,6 +1,6 @@
 -- What is known of the record at a place by its size, kind, flag and zero bytes.
 use mathlib.Core.Path.{_≡_, refl, sym, ap, _∙_}
-use mathlib.Core.Bool.{Bool, true, false, cond, _&&_, and-false, and-true}
+use mathlib.Core.Bool.{Bool, true, false, cond, _&&_, and-false, and-assoc}
 use mathlib.Core.List.{List}
 use Prim.Native.Nat.{ℕ, _+_, _-_, _<_, _≤_}
 use native.Mathlib.Omega.{arith}
@@ -11,24 +11,17 @@ use borrow.Author.Tests.{le-leb, lt-leb, leb-true, leb-false}
 use Rattle.words.specs.Numbers.{le}
 use Rattle.words.proofs.Choice.{and-left, and-right}
 use Rattle.records.specs.Records.{lengthOf, kindOf, sizeOf, firstRecord, whole}
-use Rattle.records.proofs.Steps.{field-at, record-kind, whole-at}
-use Rattle.inventory.specs.Inventory.{flagOf, typeOf, codeOf, zeroCount, goodCode, goodRecord, framedAt, goodSize}
+use Rattle.records.proofs.Steps.{field-at, record-length, record-kind, whole-at}
+use Rattle.inventory.specs.Inventory.{codeLimit, headSize, flagOf, typeOf, codeOf, goodNumbers, goodHead, goodCode, goodRecord}
+use Rattle.inventory.specs.Judging.{zeroCount, framedAt, goodSize, Readable}
 use Rattle.inventory.specs.Listing.{matches}
 use Rattle.inventory.proofs.Codes.{non-zero-is, drop-part}
 
 -- what the code's test of the numbers tells
-pub framed-bounds : (left n kind flag : ℕ) → framedAt left n kind flag ≡ true → (15 ≤ n) × (n ≤ 93) × (n ≤ left)
+pub framed-bounds : (left n kind flag : ℕ) → framedAt left n kind flag ≡ true → (headSize + 1 ≤ n) × (n ≤ headSize + codeLimit) × (n ≤ left)
 framed-bounds left n kind flag e =
-    let more = and-right (leb 15 n) _ e in
-    (leb-true 15 n (and-left _ _ e), leb-true n 93 (and-left _ _ more), leb-true n left (and-left _ _ (and-right (leb n 93) _ more)))
-
--- the tests of a whole record, in the definition's order and in the code's
-reorder : (k f z n : Bool) → (k && (f && (z && n))) ≡ ((z && (k && f)) && n)
-reorder true true z n = rw and-true
-reorder true false true n = refl
-reorder true false false n = refl
-reorder false f true n = refl
-reorder false f false n = refl
+    let numbers = and-right (leb n left) _ e in
+    (leb-true (headSize + 1) n (and-left _ _ numbers), leb-true n (headSize + codeLimit) (and-left _ _ (and-right (leb (headSize + 1) n) _ numbers)), leb-true n left (and-left _ _ e))
 
 module _ (s : List ℕ) (at : ℕ) where
   abbrev here : List ℕ
@@ -46,55 +39,46 @@ module _ (s : List ℕ) (at : ℕ) where
   framedHere = framedAt (length s - at) size (kindOf (drop at s)) (le 2 s (at + 4))
 
   abbrev zerosHere : ℕ
-  zerosHere = zeroCount (slice (at + 14) (at + size) s)
+  zerosHere = zeroCount (slice (at + headSize) (at + size) s)
 
-  -- too short for a code
-  short-code : size < 15 → goodRecord here ≡ false
-  unfolding goodRecord goodCode codeOf
-  short-code h =
-      let l : length (drop 14 here) < 1 = simp (length-drop, length-take) (omega arith) in
-      simp (lt-leb 1 (length (drop 14 here)) l, and-false)
-
-  -- of a whole record that has a code
-  module _ (large : 15 ≤ size) (fits : size ≤ length s - at) where
-    code-length : length (codeOf here) ≡ size - 14
-    unfolding codeOf
-    code-length = length-drop 14 here ∙ ap (λ (n : ℕ). n - 14) (length-take-le size (drop at s) (rw length-drop fits))
-
-    code-is : codeOf here ≡ slice (at + 14) (at + size) s
-    unfolding codeOf
-    code-is = drop-part s at 14 size (omega arith)
-
-    code-fits : leb (size - 14) 79 ≡ leb size 93
-    code-fits = go (leb size 93) refl
-      where
-        go : (t : Bool) → leb size 93 ≡ t → leb (size - 14) 79 ≡ t
-        go true e = le-leb (size - 14) 79 (omega (arith, leb-true size 93 e))
-        go false e = lt-leb (size - 14) 79 (omega (arith, leb-false size 93 e))
-
-    code-good : goodCode (codeOf here) ≡ (leb size 93 && eqb zerosHere 0)
-    unfolding goodCode
-    code-good = rw (code-length, le-leb 1 (size - 14) (omega arith), code-fits, non-zero-is (codeOf here), code-is)
-
-    whole-good : goodHere ≡ (framedHere && eqb zerosHere 0)
-    unfolding goodRecord flagOf
-    whole-good =
-        rw (whole-at s at, record-kind s at (omega arith), field-at s at 2 4 (omega arith), code-good, le-leb 2 (lengthOf (drop at s)) (omega arith), le-leb size (length s - at) fits, le-leb 15 size large)
-        (reorder (eqb (kindOf (drop at s)) 16) (leb (le 2 s (at + 4)) 1) (leb size 93) (eqb zerosHere 0))
-
-  good-here : goodHere ≡ (framedHere && eqb zerosHere 0)
-  good-here = go (leb 15 size) (leb size (length s - at)) refl refl
+  -- the head
+  pub head-here : (whole here && goodHead here) ≡ framedHere
+  unfolding goodHead flagOf
+  head-here = rw record-length (go (leb (headSize + 1) size) refl)
     where
-      go : (t u : Bool) → leb 15 size ≡ t → leb size (length s - at) ≡ u → goodHere ≡ (framedHere && eqb zerosHere 0)
-      go true true p q = whole-good (leb-true 15 size p) (leb-true size (length s - at) q)
-      go true false p q = rw (whole-at s at) (simp (q, and-false))
-      go false u p q = rw p (simp (short-code (leb-false 15 size p), and-false))
+      go : (t : Bool) → leb (headSize + 1) size ≡ t → (whole here && goodNumbers size (kindOf here) (le 2 here 4)) ≡ framedHere
+      go true e =
+          let large = leb-true (headSize + 1) size e in
+          rw (whole-at s at, le-leb 2 (lengthOf (drop at s)) (omega arith), record-kind s at (omega arith), field-at s at 2 4 (omega arith))
+      go false e = rw e (simp and-false)
 
-  bounds : framedHere ≡ true → (15 ≤ size) × (size ≤ 93) × (size ≤ length s - at)
+  bounds : framedHere ≡ true → (headSize + 1 ≤ size) × (size ≤ headSize + codeLimit) × (size ≤ length s - at)
   bounds e = framed-bounds (length s - at) size (kindOf (drop at s)) (le 2 s (at + 4)) e
 
+  -- the code behind a good head
+  module _ (framed : framedHere ≡ true) where
+    code-length : length (codeOf here) ≡ size - headSize
+    unfolding codeOf
+    code-length = length-drop headSize here ∙ ap (λ (n : ℕ). n - headSize) (length-take-le size (drop at s) (rw length-drop (bounds framed .2)))
+
+    code-is : codeOf here ≡ slice (at + headSize) (at + size) s
+    unfolding codeOf
+    code-is = drop-part s at headSize size (omega (arith, bounds framed))
+
+    code-good : goodCode (codeOf here) ≡ eqb zerosHere 0
+    unfolding goodCode
+    code-good = rw (code-length, le-leb 1 (size - headSize) (omega (arith, bounds framed)), le-leb (size - headSize) codeLimit (omega (arith, bounds framed)), non-zero-is (codeOf here), code-is)
+
+  good-here : goodHere ≡ (framedHere && eqb zerosHere 0)
+  unfolding goodRecord
+  good-here = sym (and-assoc (whole here) (goodHead here) (goodCode (codeOf here))) ∙ rw head-here (go framedHere refl)
+    where
+      go : (t : Bool) → framedHere ≡ t → (t && goodCode (codeOf here)) ≡ (t && eqb zerosHere 0)
+      go true e = code-good e
+      go false e = refl
+
   -- too few bytes for any record
-  pub short-bad : length s - at < 15 → goodHere ≡ false
+  pub short-bad : length s - at < headSize + 1 → goodHere ≡ false
   short-bad h = good-here ∙ go framedHere refl
     where
       go : (t : Bool) → framedHere ≡ t → (t && eqb zerosHere 0) ≡ false
@@ -103,7 +87,7 @@ module _ (s : List ℕ) (at : ℕ) where
 
   -- by the numbers that the code read, its test of them, and the zero bytes that it counted
   pub good-read : (n kind flag zeros : ℕ) (t : Bool) → n ≡ size → kind ≡ kindOf (drop at s) → flag ≡ le 2 s (at + 4)
-      → t ≡ framedAt (length s - at) n kind flag → zeros ≡ zeroCount (slice (at + 14) (at + n) s) → goodHere ≡ (t && eqb zeros 0)
+      → t ≡ framedAt (length s - at) n kind flag → zeros ≡ zeroCount (slice (at + headSize) (at + n) s) → goodHere ≡ (t && eqb zeros 0)
   good-read n kind flag zeros t p q r e z = rw (e, z, p, q, r) good-here
 
   -- the size that the code gives
@@ -130,14 +114,17 @@ module _ (s : List ℕ) (at : ℕ) where
 pub record Stands (s : List ℕ) (at n : ℕ) : Type 0 where
   pub good : goodHere s at ≡ true
   pub size-is : n ≡ sizeOf (drop at s)
-  pub large : 15 ≤ n
-  pub small : n ≤ 93
+  pub large : headSize + 1 ≤ n
+  pub small : n ≤ headSize + codeLimit
   pub fits : at + n ≤ length s
 
 pub good-stands : {s : List ℕ} {at n : ℕ} → goodHere s at ≡ true → n ≡ sizeOf (drop at s) → Stands s at n
 good-stands {s} {at} g p =
     let b = bounds s at (and-left (framedHere s at) _ (sym (good-here s at) ∙ g)) in
     record { good = g; size-is = p; large = omega arith; small = omega arith; fits = omega arith }
+
+pub readable : {s : List ℕ} {at n : ℕ} → Stands s at n → Readable s at
+readable g = record { large = omega arith; small = omega arith; inside = omega arith }
 
 pub stands : {s : List ℕ} {at n : ℕ} → n ≡ goodSize (drop at s) → (n ≡ 0 → ⊥) → Stands s at n
 stands {s} {at} {n} e z = go (goodHere s at) refl

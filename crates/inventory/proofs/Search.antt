@@ -11,7 +11,8 @@ use Rattle.records.proofs.Steps.{judge-step}
 use Rattle.inventory.specs.Inventory.{goodRecord}
 use Rattle.inventory.specs.Listing.{entryOf, matches, chosen}
 use Rattle.inventory.specs.Scanning.{Onward, Next}
-use Rattle.inventory.proofs.RecordLaws.{goodHere, Stands, good-stands}
+use Rattle.inventory.proofs.RecordLaws.{goodHere, Stands, good-stands, readable}
+use Rattle.inventory.proofs.Entries.{chosen-yes, chosen-no, chosen-none}
 
 -- A search has come from a place to another: good records stand from there on, and their entries are those from where it began, at least one.
 pub record Sought (flag type : ℕ) (inventory : List ℕ) (from at : ℕ) : Type 0 where
@@ -40,4 +41,4 @@ module _ {flag type from at : ℕ} {inventory : List ℕ} (t : Sought flag type 
 
   -- at a record of the flag and type
   pub sought-found : matches flag type (firstRecord (drop at inventory)) ≡ true → Next flag type inventory from at
-  sought-found h = record { of-type = h; large = record-sought .large; small = record-sought .small; onward = behind; first = t .same ∙ chosen-here (matches flag type) entryOf each-record inventory at at-record h }
+  sought-found h = record { of-type = h; readable = readable record-sought; onward = behind; first = t .same ∙ chosen-here (matches flag type) entryOf each-record inventory at at-record h }

@@ -8,6 +8,7 @@ use Rattle.records.specs.Records.{sizeOf, firstRecord, records, allGood}
 use Rattle.inventory.specs.declared.scanning.Judgement.{Judgement}
 use Rattle.inventory.specs.declared.scanning.Judgement.the-variants.{Malformed, Counted}
 use Rattle.inventory.specs.Inventory.{goodRecord, wellFormed}
+use Rattle.inventory.specs.Judging.{Readable}
 use Rattle.inventory.specs.Listing.{entryOf, matches, chosen, listed}
 
 -- Cut into records from this place on, the inventory is as good as the whole, and its list is that of the whole from an entry on.
@@ -28,10 +29,9 @@ pub record Onward (inventory : List ℕ) (at : ℕ) : Type 0 where
   pub inside : at ≤ length inventory
   pub good : allGood goodRecord (records (drop at inventory)) ≡ true
 
--- The record here is the next one of the flag and type from a place on: its size, the good records behind it, and the entries from that place on, its own first.
+-- The record here is the next one of the flag and type from a place on: it can be read, the good records behind it, and the entries from that place on, its own first.
 pub record Next (flag type : ℕ) (inventory : List ℕ) (from at : ℕ) : Type 0 where
   pub of-type : matches flag type (firstRecord (drop at inventory)) ≡ true
-  pub large : 15 ≤ sizeOf (drop at inventory)
-  pub small : sizeOf (drop at inventory) ≤ 93
+  pub readable : Readable inventory at
   pub onward : Onward inventory (at + sizeOf (drop at inventory))
   pub first : chosen flag type (records (drop from inventory)) ≡ entryOf (firstRecord (drop at inventory)) ∷ chosen flag type (records (drop (at + sizeOf (drop at inventory)) inventory))

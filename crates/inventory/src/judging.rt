@@ -4,9 +4,23 @@ ghost use mathlib.Core.Bool.{cond};
 ghost use Prim.Native.Nat.{_+_, _≤_, _<_};
 ghost use lib.ListN.{length, drop};
 ghost use lib.Seq.{slice};
-ghost use Rattle.records.specs.Records.{sizeOf, firstRecord};
-ghost use Rattle.inventory.specs.Inventory.{zeroCount, framedAt, goodSize};
+ghost use Rattle.records.specs.Records.{firstRecord};
+ghost use Rattle.inventory.specs.Judging.{zeroCount, framedAt, goodSize, Readable};
 ghost use Rattle.inventory.specs.Listing.{matches};
+
+// The kind of every record.
+const ITEM_KIND: u16 = 16;
+
+// The bytes of a record before its code.
+const HEAD_SIZE: usize = 14;
+
+// The most bytes of a code.
+pub const CODE_LIMIT: usize = 79;
+
+// The sizes of a record with the shortest and the longest code.
+const LEAST_SIZE: usize = HEAD_SIZE + 1;
+
+const MOST_SIZE: usize = HEAD_SIZE + CODE_LIMIT;
 
 // A test as a number, to be added.
 pub fn one_if(b: bool) -> u8
@@ -35,7 +49,7 @@ pub fn record_at(s: &[u8], at: usize) -> usize
     ensures { λ r. ⌜ r ≡ goodSize (drop at (now (s .entry))) ⌝ }
 {
     let left = s.len() - at;
-    if left < 15 {
+    if left < LEAST_SIZE {
         return 0;
     }
     let frame = records::read_frame(s, at);
@@ -43,7 +57,7 @@ pub fn record_at(s: &[u8], at: usize) -> usize
     if !is_framed(left, size, frame.kind, words::read_le16(s, at + 4)) {
         return 0;
     }
-    if 0 < zero_bytes(s, at + 14, at + size) {
+    if 0 < zero_bytes(s, at + HEAD_SIZE, at + size) {
         return 0;
     }
     size
@@ -53,16 +67,16 @@ pub fn record_at(s: &[u8], at: usize) -> usize
 fn is_framed(left: usize, size: usize, kind: u16, flag: u16) -> bool
     ensures { λ r. ⌜ r ≡ framedAt left size kind flag ⌝ }
 {
-    if size < 15 {
+    if size < LEAST_SIZE {
         return false;
     }
-    if 93 < size {
+    if MOST_SIZE < size {
         return false;
     }
     if left < size {
         return false;
     }
-    if kind != 16 {
+    if kind != ITEM_KIND {
         return false;
     }
     flag <= 1
@@ -70,7 +84,7 @@ fn is_framed(left: usize, size: usize, kind: u16, flag: u16) -> bool
 
 // Whether a record at a place has this flag and type.
 pub fn has_type(s: &[u8], at: usize, flag: u32, kind: u32) -> bool
-    requires { ⌜ (14 ≤ sizeOf (drop at (now s))) × (at + sizeOf (drop at (now s)) ≤ length (now s)) ⌝ }
+    requires { ⌜ Readable (now s) at ⌝ }
     ensures { λ r. ⌜ r ≡ matches flag kind (firstRecord (drop at (now (s .entry)))) ⌝ }
 {
     words::read_le16(s, at + 4) as u32 == flag && words::read_le32(s, at + 6) == kind

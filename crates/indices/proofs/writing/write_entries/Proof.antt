@@ -6,6 +6,7 @@ use lib.ListN.{length, drop}
 use borrow.Author.Needs.{needs}
 use denote.Ref.{now}
 use Rattle.records.specs.Records.{sizeOf}
+use Rattle.inventory.specs.Inventory.{codeLimit, headSize}
 use Rattle.indices.specs.Area.{fitting}
 use Rattle.indices.specs.Writing.{ahead}
 use Rattle.indices.proofs.Writes.{Writing, writing-start, writing-full, writing-next, writing-end}
@@ -34,13 +35,14 @@ record-size-requires c κs = search needs
 size-is : (c : tie.After-record-size Inv-loop μ-loop) → c .record-size .result ≡ sizeOf (drop (c .before .before .next-entry .result) (now (c .before .before .before .before .before .before .before .args .inventory)))
 size-is c = c .record-size .ensures ∙ rw (c .before .read-frame .ensures)
 
-bounds : (c : tie.After-record-size Inv-loop μ-loop) → (15 ≤ c .record-size .result) × (c .record-size .result ≤ 93) × (c .before .before .next-entry .result + c .record-size .result ≤ length (now (c .before .before .before .before .before .before .before .args .inventory)))
-bounds c = rw (size-is c) (c .before .before .next-entry .ensures .large, c .before .before .next-entry .ensures .small, c .before .before .next-entry .ensures .onward .inside)
+bounds : (c : tie.After-record-size Inv-loop μ-loop) → (headSize + 1 ≤ c .record-size .result) × (c .record-size .result ≤ headSize + codeLimit) × (c .before .before .next-entry .result + c .record-size .result ≤ length (now (c .before .before .before .before .before .before .before .args .inventory)))
+bounds c = rw (size-is c) (c .before .before .next-entry .ensures .readable .large, c .before .before .next-entry .ensures .readable .small, c .before .before .next-entry .ensures .onward .inside)
 
 sub-filled-size : tie.Need-sub-filled-size Inv-loop μ-loop
 sub-filled-size c = omega (arith, bounds c)
 
 filled-size-requires : tie.Need-filled-size-requires Inv-loop μ-loop
+unfolding codeLimit
 filled-size-requires c κs = omega (arith, bounds c)
 
 add-taken : tie.Need-add-taken Inv-loop μ-loop
@@ -59,6 +61,7 @@ sub-store-entry : tie.Need-sub-store-entry Inv-loop μ-loop
 sub-store-entry c = omega (arith, bounds (c .before .before .before))
 
 store-entry-requires : tie.Need-store-entry-requires Inv-loop μ-loop
+unfolding codeLimit
 store-entry-requires c κs = omega (arith, bounds (c .before .before .before))
 
 add-at : tie.Need-add-at Inv-loop μ-loop

@@ -11,7 +11,9 @@ use borrow.Author.Tests.{eq-eqb, ne-eqb, not-true, not-false}
 use denote.Ref.{now}
 use Rattle.records.specs.Records.{sizeOf}
 use Rattle.records.specs.declared.framing.Frame.{Frame}
-use Rattle.inventory.specs.Inventory.{zeroCount}
+use Rattle.inventory.specs.Inventory.{codeLimit, headSize}
+use Rattle.inventory.specs.Judging.{zeroCount}
+use Rattle.inventory.proofs.Codes.{code-in-byte}
 use Rattle.inventory.proofs.RecordLaws.{goodHere, framed-bounds, good-read, short-bad, none-given, size-given}
 use Rattle.inventory.proofs.judging.record_at.Statement.{statement}
 use Rattle.inventory.proofs.judging.record_at.Tie as tie
@@ -41,14 +43,14 @@ is-framed-requires c κs = search needs
 size-is : (c : tie.After-is-framed) → c .before .before .record-size .result ≡ sizeOf (drop (c .before .before .before .before .before .before .args .at) (now (c .before .before .before .before .before .before .args .s)))
 size-is c = c .before .before .record-size .ensures ∙ ap (λ (f : Frame). f .length + 2) (c .before .before .before .read-frame .ensures)
 
-judged : (c : tie.After-is-framed) (zeros : ℕ) → zeros ≡ zeroCount (slice (c .before .before .before .before .before .before .args .at + 14) (c .before .before .before .before .before .before .args .at + c .before .before .record-size .result) (now (c .before .before .before .before .before .before .args .s))) → goodHere (now (c .before .before .before .before .before .before .args .s)) (c .before .before .before .before .before .before .args .at) ≡ (c .is-framed .result && eqb zeros 0)
+judged : (c : tie.After-is-framed) (zeros : ℕ) → zeros ≡ zeroCount (slice (c .before .before .before .before .before .before .args .at + headSize) (c .before .before .before .before .before .before .args .at + c .before .before .record-size .result) (now (c .before .before .before .before .before .before .args .s))) → goodHere (now (c .before .before .before .before .before .before .args .s)) (c .before .before .before .before .before .before .args .at) ≡ (c .is-framed .result && eqb zeros 0)
 judged c zeros z =
     good-read (now (c .before .before .before .before .before .before .args .s)) (c .before .before .before .before .before .before .args .at) _ _ _ zeros _ (size-is c) (ap (λ (f : Frame). f .kind) (c .before .before .before .read-frame .ensures)) (c .before .read-le16 .ensures) (c .is-framed .ensures) z
 
 returns-2 : tie.Need-returns-2
 returns-2 c = none-given (now (c .before .before .before .before .before .before .before .args .s)) (c .before .before .before .before .before .before .before .args .at) (judged (c .before) _ refl ∙ rw (not-true (c .before .is-framed .result) (c .if2 .taken)))
 
-fits : (c : tie.Else2) → (15 ≤ c .before .before .before .record-size .result) × (c .before .before .before .record-size .result ≤ 93) × (c .before .before .before .record-size .result ≤ length (now (c .before .before .before .before .before .before .before .args .s)) - c .before .before .before .before .before .before .before .args .at)
+fits : (c : tie.Else2) → (headSize + 1 ≤ c .before .before .before .record-size .result) × (c .before .before .before .record-size .result ≤ headSize + codeLimit) × (c .before .before .before .record-size .result ≤ length (now (c .before .before .before .before .before .before .before .args .s)) - c .before .before .before .before .before .before .before .args .at)
 fits c = framed-bounds _ _ (c .before .before .before .before .read-frame .result .kind) (c .before .before .read-le16 .result) (sym (c .before .is-framed .ensures) ∙ not-false _ (c .if2 .left))
 
 add-zero-bytes : tie.Need-add-zero-bytes
@@ -58,7 +60,7 @@ add-zero-bytes-2 : tie.Need-add-zero-bytes-2
 add-zero-bytes-2 c = omega (arith, fits c)
 
 zero-bytes-requires : tie.Need-zero-bytes-requires
-zero-bytes-requires c κs = omega (arith, fits c)
+zero-bytes-requires c κs = omega (arith, fits c, code-in-byte)
 
 returns-3 : tie.Need-returns-3
 returns-3 c = none-given (now (c .before .before .before .before .before .before .before .before .before .args .s)) (c .before .before .before .before .before .before .before .before .before .args .at) (judged (c .before .before .before) _ (c .before .zero-bytes .ensures) ∙ rw (ne-eqb (c .before .zero-bytes .result) 0 (λ e. omega arith), and-false))

@@ -10,8 +10,9 @@ use denote.Ref.{now}
 use Rattle.inventory.specs.Claims.{WellFormedCases, SizeLimit}
 use Rattle.inventory.proofs.Claims.{well-formed-cases, size-limit}
 use Rattle.records.proofs.Choosing.{one-if, one-if-le}
-use Rattle.inventory.proofs.Entries.{too-large, from-bad, Scanned, scanned-start, found-here, found-before, scanned-step, scanned-end}
-use Rattle.inventory.proofs.RecordLaws.{Stands, stands, none-stands}
+use Rattle.inventory.proofs.Entries.{too-large, from-bad, Scanned, scanned-start, found-here, found-before, scanned-step, scanned-end, oversized}
+use Rattle.inventory.proofs.RecordLaws.{Stands, stands, none-stands, readable}
+use Rattle.inventory.proofs.Codes.{one-if, one-if-le}
 use Rattle.inventory.proofs.scanning.scan.Statement.{statement}
 use Rattle.inventory.proofs.scanning.scan.Tie as tie
 
@@ -44,7 +45,7 @@ is-next-requires : tie.Need-is-next-requires Inv-loop μ-loop
 is-next-requires c κs = search needs
 
 has-type-requires : tie.Need-has-type-requires Inv-loop μ-loop
-has-type-requires c κs = let g = standing (c .before .before) in (omega (arith, g .large, g .size-is), omega (arith, g .fits, g .size-is))
+has-type-requires c κs = readable (standing (c .before .before))
 
 one-if-requires : tie.Need-one-if-requires Inv-loop μ-loop
 one-if-requires c κs = search needs

@@ -8,6 +8,7 @@ use borrow.Author.Tests.{not-true, not-false}
 use denote.Ref.{now}
 use Rattle.records.specs.Records.{sizeOf}
 use Rattle.records.specs.declared.framing.Frame.{Frame}
+use Rattle.inventory.proofs.RecordLaws.{readable}
 use Rattle.inventory.proofs.Search.{Sought, record-sought, sought-step, sought-found}
 use Rattle.inventory.proofs.searching.next_entry.Statement.{statement}
 use Rattle.inventory.proofs.searching.next_entry.Tie as tie
@@ -22,7 +23,7 @@ loop-holds : tie.Need-loop-holds Inv-loop μ-loop
 loop-holds c = record { onward = c .before .pre .0; some = c .before .pre .1; same = refl }
 
 has-type-requires : tie.Need-has-type-requires Inv-loop μ-loop
-has-type-requires c κs = let g = record-sought (c .loop .inv) in (omega arith, g .fits)
+has-type-requires c κs = readable (record-sought (c .loop .inv))
 
 read-frame-requires : tie.Need-read-frame-requires Inv-loop μ-loop
 read-frame-requires c κs = omega (arith, record-sought (c .before .before .loop .inv))
