@@ -19,7 +19,8 @@ use Rattle.indices.specs.Longest.{taken}
 use Rattle.words.specs.Reading.{read}
 use Rattle.indices.specs.Reading.{reading}
 use Rattle.indices.proofs.Longest.{longest-run, answer-length}
-use Rattle.indices.proofs.Written.{fitting-few, listed-few}
+use Rattle.inventory.proofs.Listed.{listed-few}
+use Rattle.indices.proofs.Written.{fitting-few}
 use Rattle.calls.specs.declared.request.Request.{Request}
 use Rattle.calls.specs.Status.{statusWord}
 use Rattle.calls.specs.Lent.{partAt}

@@ -11,11 +11,12 @@ use lib.ListN.{length, take, drop, length-drop}
 use lib.Seq.{take-all}
 use Rattle.words.specs.Numbers.{Bytes}
 use Rattle.words.specs.Reading.{read}
-use Rattle.inventory.specs.Inventory.{wellFormed}
+use Rattle.inventory.specs.Inventory.{codeLimit, wellFormed}
 use Rattle.inventory.specs.Listing.{Entry, listed}
 use Rattle.indices.specs.Area.{run}
 use Rattle.indices.specs.Reading.{reading}
-use Rattle.indices.proofs.Written.{fitting-few, fitting-front, listed-sound, holds-due}
+use Rattle.inventory.proofs.Listed.{listed-sound}
+use Rattle.indices.proofs.Written.{fitting-few, fitting-front, holds-due}
 use Rattle.calls.specs.declared.request.Request.{Request}
 use Rattle.calls.specs.Status.{isGiven}
 use Rattle.calls.specs.GetIndices.{askable, lendable, runFor, goodNumber, dueFits, moreEntries, nextNumber}
@@ -132,7 +133,7 @@ module _ (i : List ℕ) (flag kind : ℕ) (bytes : Bytes i) (formed : wellFormed
         good-number = rw (le-leb 1 (length es) some-entry, le-leb 1 (k + 1) (omega arith), le-leb (k + 1) (length es) (omega (arith, k-less)))
 
         due : dueFits room (drop (k + 1 - 1) es) ≡ true
-        unfolding run
+        unfolding run codeLimit
         due = some-due room (drop (k + 1 - 1) es) (holds-due room (k + 1) es (listed-sound flag kind i formed bytes) (omega (arith, k-less)) (m .large))
 
         passed : Passed (c .memory) (c .inventory) (requestOf (c .args))

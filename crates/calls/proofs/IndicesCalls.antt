@@ -12,7 +12,7 @@ use Rattle.words.proofs.Choice.{choose, and-left, and-right}
 use Rattle.inventory.specs.Inventory.{wellFormed}
 use Rattle.words.specs.Reading.{read}
 use Rattle.indices.specs.Reading.{reading}
-use Rattle.indices.proofs.Written.{listed-few}
+use Rattle.inventory.proofs.Listed.{listed-few}
 use Rattle.calls.specs.declared.request.Request.{Request}
 use Rattle.calls.specs.Lent.{partAt}
 use Rattle.calls.specs.Status.{isGiven, isAnswer, statusWord}

@@ -26,5 +26,5 @@ use Rattle.calls.specs.Buffer.{numberFor, asks, nodesOutcome, indicesOut
 use Rattle.calls.specs.Readings.{Readings}
 
 pub readings : Readings
-unfolding be le beBytes wordBytes words zeros lengthOf kindOf recordsFrom records whole allGood wellFormedBy goodFrame nodeType goodRecord wellFormed operationOf entries negative valid rowOf reports chosenBy reportable operandWords present cost longest run remains nextState operandsOf body answer written faultOf verdict operationsAt reading partAt withPart placed reserved goodState areaStatus areaAfter nodesStatus nodesMemory flagOf typeOf indexOf codeOf nonZero goodCode inventory.goodRecord inventory.wellFormed listing.matches listing.listed codeField entryBytes entriesBytes fitting index-area.run index-area.answer index-area.written lengthAt fieldAt goodLength goodField faultAt readFrom index-reading.reading askable lendable goodNumber dueFits moreEntries listStatus indicesStatus indicesMemory nextNumber untilNul goodHeader eachSection goodType goodSection requested withoutDisk goodPath goodStructure acceptable verdictOf registrationAfter padded dumpStatus numberFor asks nodesOutcome indicesOutcome dumpOutcome outcome callOf chosen codeLimit goodHead listing.chosen
+unfolding be le beBytes wordBytes words zeros lengthOf kindOf recordsFrom records whole allGood wellFormedBy goodFrame nodeType goodRecord wellFormed operationOf entries negative valid rowOf reports chosenBy reportable operandWords present cost longest run remains nextState operandsOf body answer written faultOf verdict operationsAt reading partAt withPart placed reserved goodState areaStatus areaAfter nodesStatus nodesMemory flagOf typeOf indexOf codeOf nonZero goodCode inventory.goodRecord inventory.wellFormed listing.matches listing.listed codeField entryBytes entriesBytes fitting index-area.run index-area.answer index-area.written lengthAt fieldAt goodLength goodField faultAt readFrom index-reading.reading askable lendable goodNumber dueFits moreEntries listStatus indicesStatus indicesMemory nextNumber untilNul goodHeader eachSection goodType goodSection requested withoutDisk goodPath goodStructure acceptable verdictOf registrationAfter padded dumpStatus numberFor asks nodesOutcome indicesOutcome dumpOutcome outcome callOf codeLimit goodHead
 readings = tt

@@ -4,8 +4,8 @@ use mathlib.Core.List.{List, [], _∷_, _++_}
 use Prim.Native.Nat.{ℕ, suc, _+_, _-_, _≤_, _<_}
 use native.Mathlib.Nat.{zero-add}
 use native.Mathlib.Omega.{arith}
-use lib.ListN.{length, take, drop, replicate, length-drop, length-append, drop-of-length-le}
-use lib.Seq.{sets, sets-eq, length-sets, length-take-le, take-add, drop-at, drop-drop}
+use lib.ListN.{length, replicate, length-append, drop-of-length-le}
+use lib.Seq.{sets, sets-eq, length-sets}
 use borrow.Author.Tests.{le-leb, lt-leb}
 use Rattle.words.specs.Numbers.{beBytes}
 use Rattle.words.proofs.Numbers.{length-beBytes}
@@ -14,9 +14,12 @@ use Rattle.records.specs.Records.{sizeOf, firstRecord, sizeLimit}
 use Rattle.records.proofs.Steps.{field-at}
 use Rattle.inventory.specs.Inventory.{indexOf, codeOf}
 use Rattle.inventory.specs.Listing.{Entry, entryOf, listed}
-use Rattle.inventory.specs.Scanning.{Onward, Next}
+use Rattle.inventory.specs.Scanning.{Onward, Next, ahead}
+use Rattle.inventory.specs.declared.locating.Located.{Located}
+use Rattle.inventory.specs.Located.{locatedAt, entryIn}
+use Rattle.inventory.proofs.Located.{code-sized, located-entry, located-inside}
 use Rattle.indices.specs.Area.{filled, entrySize, codeField, entryBytes, entriesBytes, fitting, run, answer, written, left}
-use Rattle.indices.specs.Writing.{entryFrom, ahead, Due}
+use Rattle.indices.specs.Writing.{Due}
 use Rattle.indices.proofs.Written.{fitting-few}
 use Rattle.indices.proofs.Longest.{entry-length, entries-length, fitting-taken}
 
@@ -36,20 +39,6 @@ entry-stored area to n e h =
     ∙ sets-behind first (to + 4) (to + 8) size (e .code ++ nuls) (omega (arith, length-beBytes 4 (filled n)))
     ∙ sets-behind area to (to + 4) index (size ++ (e .code ++ nuls)) (omega (arith, length-beBytes 4 (e .index)))
     ∙ rw h
-
--- the entry that the code takes from a record
-pub code-length : (inventory : List ℕ) (at n : ℕ) → at + (14 + n) ≤ length inventory → length (entryFrom inventory at n .code) ≡ n
-code-length inventory at n h = length-take-le n (drop (at + 14) inventory) (omega (arith, length-drop (at + 14) inventory))
-
-entry-is : (inventory : List ℕ) (at n : ℕ) → n ≡ sizeOf (drop at inventory) → 14 ≤ n → at + n ≤ length inventory → entryOf (firstRecord (drop at inventory)) ≡ entryFrom inventory at (n - 14)
-unfolding indexOf codeOf
-entry-is inventory at n p l h =
-    let here = drop at inventory in
-    let parts : n ≡ 14 + (n - 14) = omega arith in
-    let code : drop 14 (take n here) ≡ take (n - 14) (drop (at + 14) inventory) =
-    ap (λ (k : ℕ). drop 14 (take k here)) parts ∙ ap (drop 14) (take-add 14 (n - 14) here)
-    ∙ drop-at (take 14 here) _ 14 (length-take-le 14 here (omega (arith, length-drop at inventory))) ∙ ap (take (n - 14)) (drop-drop 14 at inventory) in
-    rw (field-at inventory at 4 10 (omega arith), ← p, code)
 
 -- whether it fits
 module _ (room n : ℕ) (e : Entry) (es : List Entry) (sized : length (e .code) ≡ n) where
@@ -91,42 +80,36 @@ module _ {start : List ℕ} {whole : List Entry} {flag kind count : ℕ} {invent
   unfolding fitting
   writing-end h = done (ap (fitting (length area - to)) (drop-of-length-le (ahead flag kind inventory at) {i = 0} (omega arith)))
 
-  -- the next entry, by what the code read: its record's place and size, and the bytes that it takes in the area
-  module _ (found size taken : ℕ) (next : Next flag kind inventory at found) (p : size ≡ sizeOf (drop found inventory)) (q : taken ≡ entrySize (size - 14)) where
+  -- the next entry, by what the code read: its record's place and parts, and the bytes that it takes in the area
+  module _ (found : ℕ) (l : Located) (taken : ℕ) (next : Next flag kind inventory at found) (p : l ≡ locatedAt inventory found) (q : taken ≡ entrySize (l .length)) where
     abbrev entry : Entry
-    entry = entryFrom inventory found (size - 14)
+    entry = entryIn inventory l
 
-    fits : found + size ≤ length inventory
-    fits = omega arith
+    sized : length (entry .code) ≡ l .length
+    sized = code-sized inventory l (rw p (located-inside (next .readable)))
 
-    sized : length (entry .code) ≡ size - 14
-    sized = code-length inventory found (size - 14) (omega (arith, fits))
-
-    first : ahead flag kind inventory at ≡ entry ∷ ahead flag kind inventory (found + size)
-    first =
-        next .first
-        ∙ ap (λ (e : Entry). e ∷ ahead flag kind inventory (found + sizeOf (drop found inventory))) (entry-is inventory found size p (omega arith) fits)
-        ∙ ap (λ (n : ℕ). entry ∷ ahead flag kind inventory (found + n)) (sym p)
+    first : ahead flag kind inventory at ≡ entry ∷ ahead flag kind inventory (found + l .size)
+    first = rw p (next .first ∙ ap (λ (e : Entry). e ∷ ahead flag kind inventory (found + locatedAt inventory found .size)) (sym (located-entry (next .readable))))
 
     -- it does not fit
     pub writing-full : length area - to < taken → Done
-    writing-full h = done (ap (fitting (length area - to)) first ∙ fitting-none (length area - to) (size - 14) entry _ sized (omega arith))
+    writing-full h = done (ap (fitting (length area - to)) first ∙ fitting-none (length area - to) (l .length) entry _ sized (omega arith))
 
     -- it is stored
-    pub writing-next : taken ≤ length area - to → Writing start whole flag kind count inventory (sets area to (entryBytes entry)) (found + size) (to + taken) (handed + 1)
+    pub writing-next : taken ≤ length area - to → Writing start whole flag kind count inventory (sets area to (entryBytes entry)) (found + l .size) (to + taken) (handed + 1)
     unfolding entriesBytes
     writing-next h =
         let same-size : length (sets area to (entryBytes entry)) ≡ length area = length-sets area to (entryBytes entry) in
-        let more = ap (fitting (length area - to)) first ∙ fitting-more (length area - to) (size - 14) entry _ sized (omega arith) in
-        let rest : List Entry = fitting (length area - to - entrySize (size - 14)) (ahead flag kind inventory (found + size)) in
-        let room : length (sets area to (entryBytes entry)) - (to + taken) ≡ length area - to - entrySize (size - 14) = omega arith in
+        let more = ap (fitting (length area - to)) first ∙ fitting-more (length area - to) (l .length) entry _ sized (omega arith) in
+        let rest : List Entry = fitting (length area - to - entrySize (l .length)) (ahead flag kind inventory (found + l .size)) in
+        let room : length (sets area to (entryBytes entry)) - (to + taken) ≡ length area - to - entrySize (l .length) = omega arith in
         record {
           onward = rw p (next .onward);
           due = omega (arith, ap length first);
           inside = omega arith;
           same = same-size ∙ w .same;
           number = rw room (omega (arith, ap length more));
-          stored = rw room (sets-behind area to (to + taken) (entryBytes entry) (entriesBytes rest) (omega (arith, entry-length entry, sized)) ∙ ap (λ (l : List Entry). sets area to (entriesBytes l)) (sym more) ∙ w .stored);
+          stored = rw room (sets-behind area to (to + taken) (entryBytes entry) (entriesBytes rest) (omega (arith, entry-length entry, sized)) ∙ ap (λ (x : List Entry). sets area to (entriesBytes x)) (sym more) ∙ w .stored);
         }
 
 -- ---- the run with its count

@@ -9,7 +9,7 @@ use lib.Dec.{leb, ltb, eqb}
 use lib.ListN.{length, take, drop, replicate, length-append, length-replicate, length-drop}
 use lib.Seq.{drop-at, take-at, drop-drop}
 use borrow.Author.Tests.{le-leb, le-ltb, leb-true, eq-eqb}
-use Rattle.words.specs.Numbers.{Bytes, be, be32, beBytes, zeros}
+use Rattle.words.specs.Numbers.{be, be32, beBytes, zeros}
 use Rattle.words.specs.Nul.{untilNul}
 use Rattle.words.proofs.Choice.{choose, and-left, and-right}
 use Rattle.words.proofs.Numbers.{be-drop, be-bytes, length-beBytes, le-below}
@@ -20,10 +20,13 @@ use Rattle.records.proofs.Steps.{formed-good, formed-within, EachBytes, records
 use Rattle.inventory.specs.Inventory.{flagOf, indexOf, nonZero, goodCode, goodRecord, wellFormed, codeLimit, goodHead}
 use Rattle.inventory.specs.Listing.{Entry, entryOf, matches, chosen, listed}
 use Rattle.indices.specs.declared.reading.Fault.the-variants.{Fine}
-use Rattle.indices.specs.Area.{filled, entrySize, codeField, entryBytes, entriesBytes, fitting, run, answer, written}
+use Rattle.indices.specs.Area.{filled, entrySize, codeField, entryBytes, entriesBytes, fitting, run, answer, written, fieldLimit, entryLimit}
 use Rattle.words.specs.Reading.{read}
 use Rattle.indices.specs.Reading.{lengthAt, fieldAt, goodLength, goodField, faultAt, entryAt, readFrom, reading}
-use Rattle.indices.specs.Claims.{Sound, RoundTrip, ReadsBack, HoldsDue}
+use Rattle.indices.specs.Claims.{RoundTrip, ReadsBack, HoldsDue}
+use Rattle.inventory.specs.Sound.{Sound}
+use Rattle.inventory.proofs.Codes.{code-in-word}
+use Rattle.inventory.proofs.Listed.{listed-sound, listed-few}
 
 -- ---- a word at a place of which it is known what stands there
 
@@ -74,8 +77,8 @@ module _ (code : List ℕ) (good : goodCode code ≡ true) where
   field-code = code-back code (filled (length code) - length code) whole-code (omega arith)
 
   length-good : goodLength (filled (length code)) ≡ true
-  unfolding goodLength codeLimit
-  length-good = rw (le-leb 1 (filled (length code)) (omega arith), le-leb (filled (length code)) 80 (omega (arith, few)), eq-eqb (filled (length code) % 4) 0 (omega arith))
+  unfolding goodLength
+  length-good = rw (le-leb 1 (filled (length code)) (omega arith), le-leb (filled (length code)) fieldLimit (omega (arith, few)), eq-eqb (filled (length code) % 4) 0 (omega arith))
 
   nuls : zeros (drop (length code) (codeField code)) ≡ true
   unfolding codeField
@@ -89,8 +92,7 @@ module _ (code : List ℕ) (good : goodCode code ≡ true) where
 
 module _ (area : List ℕ) (at : ℕ) (e : Entry) (r : List ℕ) (stands : drop at area ≡ entryBytes e ++ r) (small : e .index < 4294967296) (good : goodCode (e .code) ≡ true) where
   size : filled (length (e .code)) < 4294967296
-  unfolding codeLimit
-  size = omega (arith, few (e .code) good)
+  size = omega (arith, few (e .code) good, code-in-word)
 
   index-first : drop at area ≡ beBytes 4 (e .index) ++ (beBytes 4 (filled (length (e .code))) ++ (codeField (e .code) ++ r))
   unfolding entryBytes
@@ -174,28 +176,7 @@ fitting-front room (e ∷ es) =
     (λ _. ap (λ (l : List Entry). e ∷ l) (fitting-front (room - entrySize (length (e .code))) es))
     (λ _. refl)
 
--- ---- the entries of an inventory
-
-chosen-sound : (flag type : ℕ) (rs : List (List ℕ)) → EachBytes rs → allGood goodRecord rs ≡ true → Sound (chosen flag type rs)
-unfolding chosenBy allGood goodRecord indexOf Sound
-chosen-sound flag type [] h g = tt
-chosen-sound flag type (r ∷ rs) h g = go (matches flag type r) (chosen-sound flag type rs (h .1) (and-right (whole r && goodRecord r) _ g))
-  where
-    good : goodRecord r ≡ true
-    good = and-right (whole r) _ (and-left (whole r && goodRecord r) _ g)
-
-    go : (t : Bool) → Sound (chosen flag type rs) → Sound (cond t (entryOf r ∷ chosen flag type rs) (chosen flag type rs))
-    go true k = (le-below r (h .0) 4 10, and-right (goodHead r) _ good, k)
-    go false k = k
-
-module _ (flag type : ℕ) (inventory : List ℕ) (formed : wellFormed inventory ≡ true) where
-  pub listed-sound : Bytes inventory → Sound (listed flag type inventory)
-  unfolding listed records wellFormed
-  listed-sound bytes = chosen-sound flag type (recordsFrom 0 inventory) (records-bytes 0 inventory bytes) (formed-good sizeLimit goodRecord inventory formed)
-
-  pub listed-few : length (listed flag type inventory) ≤ sizeLimit
-  unfolding listed records wellFormed
-  listed-few = omega (arith, formed-within sizeLimit goodRecord inventory formed, chosen-few (matches flag type) entryOf (recordsFrom 0 inventory), records-few 0 inventory)
+-- ---- the runs of an inventory
 
 pub reads-back : ReadsBack
 unfolding run
@@ -208,8 +189,8 @@ reads-back area inventory flag type size number bytes formed =
 
 -- ---- an area holds the entry due
 
-first-fits : (room : ℕ) (es : List Entry) → Sound es → 1 ≤ length es → 88 ≤ room → 1 ≤ length (fitting room es)
-unfolding fitting Sound codeLimit
+first-fits : (room : ℕ) (es : List Entry) → Sound es → 1 ≤ length es → entryLimit ≤ room → 1 ≤ length (fitting room es)
+unfolding fitting Sound
 first-fits room [] h p q = absurd (omega arith)
 first-fits room (e ∷ es) h p q = rw (le-leb (entrySize (length (e .code))) room (omega (arith, few (e .code) (h .1)))) (omega arith)
 

@@ -5,6 +5,7 @@ use mathlib.Core.List.{List, [], _∷_, _++_}
 use lib.Dec.{leb}
 use lib.ListN.{length, drop, replicate}
 use Rattle.words.specs.Numbers.{beBytes}
+use Rattle.inventory.specs.Inventory.{codeLimit}
 use Rattle.inventory.specs.Listing.{Entry}
 
 -- 01: "the code, NUL-filled to the next multiple of 4 with at least one NUL. The length counts the NULs."
@@ -14,6 +15,16 @@ filled c = 4 * (c / 4 + 1)
 -- 01: "A code of c bytes takes 8 + 4 x (c / 4 + 1) bytes, rounding the quotient down."
 abbrev pub entrySize : ℕ → ℕ
 entrySize c = 8 + filled c
+
+-- the field and the entry of the longest code, and 01: "Areas of 92 bytes or more always hold the entry due": the count and that entry
+abbrev pub fieldLimit : ℕ
+fieldLimit = filled codeLimit
+
+abbrev pub entryLimit : ℕ
+entryLimit = entrySize codeLimit
+
+abbrev pub ampleSize : ℕ
+ampleSize = 4 + entryLimit
 
 -- 01: "for each entry the index, the length and the code"
 unfoldable pub codeField : List ℕ → List ℕ

@@ -9,17 +9,14 @@ use Rattle.words.specs.Numbers.{Bytes, beBytes}
 use Rattle.words.specs.Cases.{all}
 use Rattle.inventory.specs.Inventory.{goodCode, wellFormed}
 use Rattle.inventory.specs.Listing.{Entry, listed}
+use Rattle.inventory.specs.Sound.{Sound}
 use Rattle.indices.specs.declared.reading.Check.{Check}
 use Rattle.indices.specs.declared.reading.Check.the-variants.{Entries, Refused}
-use Rattle.indices.specs.Area.{run, answer, written}
+use Rattle.indices.specs.Area.{run, answer, written, ampleSize}
 use Rattle.words.specs.Reading.{read}
 use Rattle.indices.specs.Reading.{refusalNumber, reading, checkOf}
 
 -- ---- "Reading what was written gives back the same entries": of any entries with 32-bit indices and good codes
-
-unfoldable pub Sound : List Entry → Type 0
-Sound [] = Unit {0}
-Sound (e ∷ es) = (e .index < 4294967296) × (goodCode (e .code) ≡ true) × Sound es
 
 abbrev pub RoundTrip : Type 0
 RoundTrip = (area : List ℕ) (es : List Entry) → length es < 4294967296 → Sound es → reading (written area es) ≡ read es
@@ -32,7 +29,7 @@ ReadsBack = (area inventory : List ℕ) (flag type size number : ℕ) → Bytes 
 -- ---- "never zero entries", "Areas of 92 bytes or more always hold the entry due"
 
 abbrev pub HoldsDue : Type 0
-HoldsDue = (size number : ℕ) (es : List Entry) → Sound es → number - 1 < length es → 92 ≤ size → 1 ≤ length (run size number es)
+HoldsDue = (size number : ℕ) (es : List Entry) → Sound es → number - 1 < length es → ampleSize ≤ size → 1 ≤ length (run size number es)
 
 -- the run and its count fill no more than the area
 abbrev pub Fits : Type 0

@@ -14,6 +14,7 @@ use Rattle.indices.specs.declared.reading.Fault.{Fault}
 use Rattle.indices.specs.declared.reading.Fault.the-variants.{Fine, Bad}
 use Rattle.indices.specs.declared.reading.Check.{Check}
 use Rattle.indices.specs.declared.reading.Check.the-variants.{Entries, Refused}
+use Rattle.indices.specs.Area.{fieldLimit}
 
 -- 01: "Index areas: 30 under 4 bytes (0); then for each set, at its offset: 31 under 8 bytes left; 32 length zero, above 80 or no multiple of 4;
 -- 31 code past the end; 33 not a non-empty code followed by one to four NULs and nothing else."
@@ -31,7 +32,7 @@ unfoldable pub fieldAt : List ℕ → ℕ → List ℕ
 fieldAt area at = take (lengthAt area at) (drop (at + 8) area)
 
 unfoldable pub goodLength : ℕ → Bool
-goodLength n = leb 1 n && (leb n 80 && eqb (n % 4) 0)
+goodLength n = leb 1 n && (leb n fieldLimit && eqb (n % 4) 0)
 
 -- 01: "The code's end is found by a search that stops at the first NUL." A good field is
 -- "a non-empty code followed by one to four NULs and nothing else".

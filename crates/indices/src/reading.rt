@@ -6,6 +6,10 @@ ghost use lib.Seq.{slice};
 ghost use Rattle.indices.specs.Reading.{goodLength, goodField, faultAt, reading, checkOf};
 ghost use Rattle.indices.specs.Cursor.{nextOf, StepsGive, startOf, EntriesInOrder};
 ghost use Rattle.indices.specs.Claims.{ReadingCases, AreaClaims};
+use inventory::CODE_LIMIT;
+
+// The most bytes of a code with its NULs.
+const FIELD_LIMIT: u32 = 4 * (CODE_LIMIT as u32 / 4 + 1);
 
 // Why an area is refused.
 pub enum Refusal {
@@ -32,7 +36,7 @@ fn is_length(n: u32) -> bool
     if n < 1 {
         return false;
     }
-    if 80 < n {
+    if FIELD_LIMIT < n {
         return false;
     }
     n % 4 == 0

@@ -3,30 +3,34 @@ ghost use mathlib.Core.Path.{_≡_};
 ghost use Prim.Native.Nat.{_+_, _-_, _≤_};
 ghost use lib.ListN.{length};
 ghost use lib.Seq.{sets};
+ghost use Rattle.inventory.specs.Inventory.{codeLimit};
 ghost use Rattle.inventory.specs.Listing.{listed};
-ghost use Rattle.inventory.specs.Scanning.{Onward};
+ghost use Rattle.inventory.specs.Located.{entryIn};
+ghost use Rattle.inventory.specs.Scanning.{ahead, Onward};
 ghost use Rattle.indices.specs.Area.{filled, entrySize, entryBytes, entriesBytes, fitting, run, left};
 ghost use Rattle.indices.specs.Longest.{LongestRun};
-ghost use Rattle.indices.specs.Writing.{entryFrom, ahead, Due};
+ghost use Rattle.indices.specs.Writing.{Due};
+use inventory::Located;
 use inventory::StartingNumber;
 
 // The bytes of a code of c bytes with its NULs.
 fn filled_size(c: usize) -> usize
-    requires { ⌜ c ≤ 79 ⌝ }
+    requires { ⌜ c ≤ codeLimit ⌝ }
     ensures { λ r. ⌜ r ≡ filled c ⌝ }
 {
     4 * (c / 4 + 1)
 }
 
-// The entry whose record stands at a place, with a code of c bytes; every other byte of the area stays.
-fn store_entry(area: &mut [u8], to: usize, inventory: &[u8], at: usize, c: usize)
-    requires { ⌜ (c ≤ 79) × (to + entrySize c ≤ length (now area)) × (at + (14 + c) ≤ length (now inventory)) ⌝ }
-    ensures { λ _. ⌜ now (area .exit) ≡ sets (now (area .entry)) to (entryBytes (entryFrom (now (inventory .entry)) at c)) ⌝ }
+// The entry of a record that stands in the inventory; every other byte of the area stays.
+fn store_entry(area: &mut [u8], to: usize, inventory: &[u8], entry: Located)
+    requires { ⌜ (entry .length ≤ codeLimit) × (to + entrySize (entry .length) ≤ length (now area)) × (entry .start + entry .length ≤ length (now inventory)) ⌝ }
+    ensures { λ _. ⌜ now (area .exit) ≡ sets (now (area .entry)) to (entryBytes (entryIn (now (inventory .entry)) entry)) ⌝ }
 {
+    let c = entry.length;
     let field = filled_size(c);
-    words::store_be32(area, to, words::read_le32(inventory, at + 10));
+    words::store_be32(area, to, entry.index);
     words::store_be32(area, to + 4, field as u32);
-    words::store_bytes(area, to + 8, inventory, at + 14, c);
+    words::store_bytes(area, to + 8, inventory, entry.start, c);
     words::store_zeros(area, to + 8 + c, field - c);
 }
 
@@ -47,14 +51,14 @@ fn write_entries(
     let mut to: usize = 4;
     let mut handed: usize = 0;
     while handed < count {
-        at = inventory::next_entry(inventory, flag, kind, at);
-        let size = records::record_size(records::read_frame(inventory, at));
-        let taken = 8 + filled_size(size - 14);
+        let found = inventory::next_entry(inventory, flag, kind, at);
+        let entry = inventory::locate(inventory, found);
+        let taken = 8 + filled_size(entry.length);
         if area.len() - to < taken {
             return handed;
         }
-        store_entry(area, to, inventory, at, size - 14);
-        at += size;
+        store_entry(area, to, inventory, entry);
+        at = found + entry.size;
         to += taken;
         handed += 1;
     }

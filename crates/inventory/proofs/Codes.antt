@@ -14,6 +14,11 @@ use Rattle.records.proofs.Choosing.{one-if}
 use Rattle.inventory.specs.Inventory.{codeLimit, nonZero}
 use Rattle.inventory.specs.Judging.{zeroCount}
 
+-- the length of a code with its NULs fits a word
+pub code-in-word : codeLimit < 65536
+unfolding codeLimit
+code-in-word = omega arith
+
 -- the zero bytes of a code can be counted in a byte
 pub code-in-byte : codeLimit ≤ 255
 unfolding codeLimit

@@ -1,5 +1,7 @@
 pub mod Codes
 pub mod RecordLaws
+pub mod Located
 pub mod Entries
+pub mod Listed
 pub mod Search
 pub mod Claims

@@ -52,29 +52,32 @@ module _ (s : List ℕ) (at : ℕ) where
           rw (whole-at s at, le-leb 2 (lengthOf (drop at s)) (omega arith), record-kind s at (omega arith), field-at s at 2 4 (omega arith))
       go false e = rw e (simp and-false)
 
-  bounds : framedHere ≡ true → (headSize + 1 ≤ size) × (size ≤ headSize + codeLimit) × (size ≤ length s - at)
-  bounds e = framed-bounds (length s - at) size (kindOf (drop at s)) (le 2 s (at + 4)) e
+  -- a record with a head that passes can be read
+  framed-readable : framedHere ≡ true → Readable s at
+  framed-readable e =
+      let b = framed-bounds (length s - at) size (kindOf (drop at s)) (le 2 s (at + 4)) e in
+      record { large = b .0; small = b .1; inside = omega arith }
 
-  -- the code behind a good head
-  module _ (framed : framedHere ≡ true) where
-    code-length : length (codeOf here) ≡ size - headSize
+  -- its code
+  module _ (r : Readable s at) where
+    pub code-length : length (codeOf here) ≡ size - headSize
     unfolding codeOf
-    code-length = length-drop headSize here ∙ ap (λ (n : ℕ). n - headSize) (length-take-le size (drop at s) (rw length-drop (bounds framed .2)))
+    code-length = length-drop headSize here ∙ ap (λ (n : ℕ). n - headSize) (length-take-le size (drop at s) (rw length-drop (omega arith)))
 
     code-is : codeOf here ≡ slice (at + headSize) (at + size) s
     unfolding codeOf
-    code-is = drop-part s at headSize size (omega (arith, bounds framed))
+    code-is = drop-part s at headSize size (omega arith)
 
     code-good : goodCode (codeOf here) ≡ eqb zerosHere 0
     unfolding goodCode
-    code-good = rw (code-length, le-leb 1 (size - headSize) (omega (arith, bounds framed)), le-leb (size - headSize) codeLimit (omega (arith, bounds framed)), non-zero-is (codeOf here), code-is)
+    code-good = rw (code-length, le-leb 1 (size - headSize) (omega arith), le-leb (size - headSize) codeLimit (omega arith), non-zero-is (codeOf here), code-is)
 
   good-here : goodHere ≡ (framedHere && eqb zerosHere 0)
   unfolding goodRecord
   good-here = sym (and-assoc (whole here) (goodHead here) (goodCode (codeOf here))) ∙ rw head-here (go framedHere refl)
     where
       go : (t : Bool) → framedHere ≡ t → (t && goodCode (codeOf here)) ≡ (t && eqb zerosHere 0)
-      go true e = code-good e
+      go true e = code-good (framed-readable e)
       go false e = refl
 
   -- too few bytes for any record
@@ -82,7 +85,7 @@ module _ (s : List ℕ) (at : ℕ) where
   short-bad h = good-here ∙ go framedHere refl
     where
       go : (t : Bool) → framedHere ≡ t → (t && eqb zerosHere 0) ≡ false
-      go true e = absurd (omega (arith, bounds e))
+      go true e = absurd (omega (arith, framed-readable e))
       go false e = refl
 
   -- by the numbers that the code read, its test of them, and the zero bytes that it counted
@@ -120,7 +123,7 @@ pub record Stands (s : List ℕ) (at n : ℕ) : Type 0 where
 
 pub good-stands : {s : List ℕ} {at n : ℕ} → goodHere s at ≡ true → n ≡ sizeOf (drop at s) → Stands s at n
 good-stands {s} {at} g p =
-    let b = bounds s at (and-left (framedHere s at) _ (sym (good-here s at) ∙ g)) in
+    let r = framed-readable s at (and-left (framedHere s at) _ (sym (good-here s at) ∙ g)) in
     record { good = g; size-is = p; large = omega arith; small = omega arith; fits = omega arith }
 
 pub readable : {s : List ℕ} {at n : ℕ} → Stands s at n → Readable s at

@@ -12,7 +12,6 @@ use Rattle.inventory.specs.Inventory.{goodRecord}
 use Rattle.inventory.specs.Listing.{entryOf, matches, chosen}
 use Rattle.inventory.specs.Scanning.{Onward, Next}
 use Rattle.inventory.proofs.RecordLaws.{goodHere, Stands, good-stands, readable}
-use Rattle.inventory.proofs.Entries.{chosen-yes, chosen-no, chosen-none}
 
 -- A search has come from a place to another: good records stand from there on, and their entries are those from where it began, at least one.
 pub record Sought (flag type : ℕ) (inventory : List ℕ) (from at : ℕ) : Type 0 where

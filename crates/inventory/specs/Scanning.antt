@@ -4,19 +4,24 @@ use mathlib.Core.Path.{_≡_}
 use mathlib.Core.Bool.{true, false}
 use mathlib.Core.List.{List, _∷_}
 use lib.ListN.{length, drop}
-use Rattle.records.specs.Records.{sizeOf, firstRecord, records, allGood}
+use Rattle.records.specs.Records.{firstRecord, records, allGood}
 use Rattle.inventory.specs.declared.scanning.Judgement.{Judgement}
 use Rattle.inventory.specs.declared.scanning.Judgement.the-variants.{Malformed, Counted}
 use Rattle.inventory.specs.Inventory.{goodRecord, wellFormed}
 use Rattle.inventory.specs.Judging.{Readable}
-use Rattle.inventory.specs.Listing.{entryOf, matches, chosen, listed}
+use Rattle.inventory.specs.Listing.{Entry, entryOf, matches, chosen, listed}
+use Rattle.inventory.specs.Located.{locatedAt}
+
+-- the entries of the flag and type from a place on
+abbrev pub ahead : ℕ → ℕ → List ℕ → ℕ → List Entry
+ahead flag type inventory at = chosen flag type (records (drop at inventory))
 
 -- Cut into records from this place on, the inventory is as good as the whole, and its list is that of the whole from an entry on.
 pub record From (flag type : ℕ) (inventory : List ℕ) (passed at : ℕ) : Type 0 where
   pub inside : at ≤ length inventory
   pub sound : allGood goodRecord (records inventory) ≡ allGood goodRecord (records (drop at inventory))
-  pub number : length (listed flag type inventory) ≡ passed + length (chosen flag type (records (drop at inventory)))
-  pub rest : drop passed (listed flag type inventory) ≡ chosen flag type (records (drop at inventory))
+  pub number : length (listed flag type inventory) ≡ passed + length (ahead flag type inventory at)
+  pub rest : drop passed (listed flag type inventory) ≡ ahead flag type inventory at
 
 -- The inventory is malformed; or the number of entries of the flag and type, and, if there is an entry due, a place from which on the list holds the entries from that one on.
 abbrev pub Tells : ℕ → ℕ → ℕ → List ℕ → Judgement → Type 0
@@ -33,5 +38,5 @@ pub record Onward (inventory : List ℕ) (at : ℕ) : Type 0 where
 pub record Next (flag type : ℕ) (inventory : List ℕ) (from at : ℕ) : Type 0 where
   pub of-type : matches flag type (firstRecord (drop at inventory)) ≡ true
   pub readable : Readable inventory at
-  pub onward : Onward inventory (at + sizeOf (drop at inventory))
-  pub first : chosen flag type (records (drop from inventory)) ≡ entryOf (firstRecord (drop at inventory)) ∷ chosen flag type (records (drop (at + sizeOf (drop at inventory)) inventory))
+  pub onward : Onward inventory (at + locatedAt inventory at .size)
+  pub first : ahead flag type inventory from ≡ entryOf (firstRecord (drop at inventory)) ∷ ahead flag type inventory (at + locatedAt inventory at .size)

@@ -12,7 +12,7 @@ ghost use Rattle.inventory.specs.Listing.{matches};
 const ITEM_KIND: u16 = 16;
 
 // The bytes of a record before its code.
-const HEAD_SIZE: usize = 14;
+pub const HEAD_SIZE: usize = 14;
 
 // The most bytes of a code.
 pub const CODE_LIMIT: usize = 79;

@@ -1,9 +1,13 @@
 // The inventory: its records, and the entries of a flag and type.
 mod judging;
+mod locating;
 mod numbering;
 mod scanning;
 mod searching;
 
+pub use judging::CODE_LIMIT;
+pub use locating::Located;
+pub use locating::locate;
 pub use numbering::StartingNumber;
 pub use scanning::Judgement;
 pub use scanning::scan;

@@ -1,14 +1,12 @@
 // The search for the next entry of a flag and type: it moves from record to record by the record's length.
 ghost use Prim.Native.Nat.{_<_};
-ghost use lib.ListN.{length, drop};
-ghost use Rattle.records.specs.Records.{records};
-ghost use Rattle.inventory.specs.Listing.{chosen};
-ghost use Rattle.inventory.specs.Scanning.{Onward, Next};
+ghost use lib.ListN.{length};
+ghost use Rattle.inventory.specs.Scanning.{ahead, Onward, Next};
 use crate::judging::has_type;
 
 // The place of the next record of a flag and type, from a place on where good records stand and one of them is such.
 pub fn next_entry(inventory: &[u8], flag: u32, kind: u32, from: usize) -> usize
-    requires { ⌜ Onward (now inventory) from × (0 < length (chosen flag kind (records (drop from (now inventory))))) ⌝ }
+    requires { ⌜ Onward (now inventory) from × (0 < length (ahead flag kind (now inventory) from)) ⌝ }
     ensures { λ r. ⌜ Next flag kind (now (inventory .entry)) from r ⌝ }
 {
     let mut at = from;

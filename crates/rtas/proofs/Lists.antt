@@ -15,7 +15,8 @@ use Rattle.inventory.specs.Listing.{Entry, listed}
 use Rattle.inventory.specs.Scanning.{From}
 use Rattle.indices.specs.Area.{run, written, left}
 use Rattle.indices.specs.Writing.{Due}
-use Rattle.indices.proofs.Written.{fitting-few, listed-few}
+use Rattle.inventory.proofs.Listed.{listed-few}
+use Rattle.indices.proofs.Written.{fitting-few}
 use Rattle.rtas.specs.declared.indices_call.Listed.{Listed}
 use Rattle.calls.specs.declared.request.Request.{Request}
 use Rattle.calls.specs.declared.status.Status.{Status}

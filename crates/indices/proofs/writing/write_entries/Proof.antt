@@ -1,14 +1,15 @@
 -- `writing::write_entries` meets its contract.
-use mathlib.Core.Path.{_≡_, ap, _∙_}
+use mathlib.Core.Path.{ap}
 use Prim.Native.Nat.{ℕ, _+_, _-_, _≤_}
 use native.Mathlib.Omega.{arith}
-use lib.ListN.{length, drop}
+use lib.ListN.{length}
 use borrow.Author.Needs.{needs}
 use denote.Ref.{now}
-use Rattle.records.specs.Records.{sizeOf}
-use Rattle.inventory.specs.Inventory.{codeLimit, headSize}
+use Rattle.inventory.specs.Inventory.{codeLimit}
+use Rattle.inventory.specs.Scanning.{ahead}
+use Rattle.inventory.proofs.Codes.{code-in-word}
+use Rattle.inventory.proofs.Located.{located-inside, located-few}
 use Rattle.indices.specs.Area.{fitting}
-use Rattle.indices.specs.Writing.{ahead}
 use Rattle.indices.proofs.Writes.{Writing, writing-start, writing-full, writing-next, writing-end}
 use Rattle.indices.proofs.writing.write_entries.Statement.{statement}
 use Rattle.indices.proofs.writing.write_entries.Tie as tie
@@ -25,28 +26,18 @@ loop-holds c = writing-start _ _ _ (now (c .before .before .args .inventory)) (n
 next-entry-requires : tie.Need-next-entry-requires Inv-loop μ-loop
 next-entry-requires c κs = search needs
 
-read-frame-requires : tie.Need-read-frame-requires Inv-loop μ-loop
-read-frame-requires c κs = search needs
+locate-requires : tie.Need-locate-requires Inv-loop μ-loop
+locate-requires c κs = c .next-entry .ensures .readable
 
-record-size-requires : tie.Need-record-size-requires Inv-loop μ-loop
-record-size-requires c κs = search needs
-
--- the size that the code read is the record's, and the record is inside the inventory
-size-is : (c : tie.After-record-size Inv-loop μ-loop) → c .record-size .result ≡ sizeOf (drop (c .before .before .next-entry .result) (now (c .before .before .before .before .before .before .before .args .inventory)))
-size-is c = c .record-size .ensures ∙ rw (c .before .read-frame .ensures)
-
-bounds : (c : tie.After-record-size Inv-loop μ-loop) → (headSize + 1 ≤ c .record-size .result) × (c .record-size .result ≤ headSize + codeLimit) × (c .before .before .next-entry .result + c .record-size .result ≤ length (now (c .before .before .before .before .before .before .before .args .inventory)))
-bounds c = rw (size-is c) (c .before .before .next-entry .ensures .readable .large, c .before .before .next-entry .ensures .readable .small, c .before .before .next-entry .ensures .onward .inside)
-
-sub-filled-size : tie.Need-sub-filled-size Inv-loop μ-loop
-sub-filled-size c = omega (arith, bounds c)
+-- the record that was located is inside the inventory, and its code within the limit
+bounds : (c : tie.After-locate Inv-loop μ-loop) → (c .locate .result .length ≤ codeLimit) × (c .locate .result .start + c .locate .result .length ≤ length (now (c .before .before .before .before .before .before .args .inventory))) × (c .before .next-entry .result + c .locate .result .size ≤ length (now (c .before .before .before .before .before .before .args .inventory)))
+bounds c = rw (c .locate .ensures) (located-few (c .before .next-entry .ensures .readable), located-inside (c .before .next-entry .ensures .readable), c .before .next-entry .ensures .readable .inside)
 
 filled-size-requires : tie.Need-filled-size-requires Inv-loop μ-loop
-unfolding codeLimit
-filled-size-requires c κs = omega (arith, bounds c)
+filled-size-requires c κs = bounds c .0
 
 add-taken : tie.Need-add-taken Inv-loop μ-loop
-add-taken c = omega (arith, bounds (c .before))
+add-taken c = omega (arith, bounds (c .before), code-in-word)
 
 sub-if1 : tie.Need-sub-if1 Inv-loop μ-loop
 sub-if1 c = search needs
@@ -55,17 +46,13 @@ same-length : tie.Need-same-length Inv-loop μ-loop
 same-length c = search needs
 
 returns : tie.Need-returns Inv-loop μ-loop
-returns c = writing-full (c .before .before .before .before .before .before .loop .inv) _ _ _ (c .before .before .before .before .next-entry .ensures) (size-is (c .before .before)) (ap (λ (n : ℕ). 8 + n) (c .before .filled-size .ensures)) (c .if1 .taken)
-
-sub-store-entry : tie.Need-sub-store-entry Inv-loop μ-loop
-sub-store-entry c = omega (arith, bounds (c .before .before .before))
+returns c = writing-full (c .before .before .before .before .before .loop .inv) _ _ _ (c .before .before .before .next-entry .ensures) (c .before .before .locate .ensures) (ap (λ (n : ℕ). 8 + n) (c .before .filled-size .ensures)) (c .if1 .taken)
 
 store-entry-requires : tie.Need-store-entry-requires Inv-loop μ-loop
-unfolding codeLimit
 store-entry-requires c κs = omega (arith, bounds (c .before .before .before))
 
 add-at : tie.Need-add-at Inv-loop μ-loop
-add-at c = omega (arith, bounds (c .before .before .before .before .before .before))
+add-at c = omega (arith, bounds (c .before .before .before .before .before .before .before))
 
 add-to : tie.Need-add-to Inv-loop μ-loop
 add-to c = search needs
@@ -77,7 +64,7 @@ loop-less : tie.Need-loop-less Inv-loop μ-loop
 loop-less c = search needs
 
 loop-again : tie.Need-loop-again Inv-loop μ-loop
-loop-again c = rw (c .before .before .store-entry .ensures) (writing-next (c .before .before .before .before .before .before .before .before .before .before .loop .inv) _ _ _ (c .before .before .before .before .before .before .before .before .next-entry .ensures) (size-is (c .before .before .before .before .before .before)) (ap (λ (n : ℕ). 8 + n) (c .before .before .before .before .before .filled-size .ensures)) (c .before .before .before .before .if1 .left))
+loop-again c = rw (c .before .before .before .store-entry .ensures) (writing-next (c .before .before .before .before .before .before .before .before .before .before .loop .inv) _ _ _ (c .before .before .before .before .before .before .before .before .next-entry .ensures) (c .before .before .before .before .before .before .before .locate .ensures) (ap (λ (n : ℕ). 8 + n) (c .before .before .before .before .before .before .filled-size .ensures)) (c .before .before .before .before .before .if1 .left))
 
 same-length-2 : tie.Need-same-length-2 Inv-loop μ-loop
 same-length-2 c = search needs
@@ -93,15 +80,12 @@ write-entries-spec =
     μ-loop
     loop-holds
     next-entry-requires
-    read-frame-requires
-    record-size-requires
-    sub-filled-size
+    locate-requires
     filled-size-requires
     add-taken
     sub-if1
     same-length
     returns
-    sub-store-entry
     store-entry-requires
     add-at
     add-to

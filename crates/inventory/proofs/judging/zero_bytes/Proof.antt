@@ -8,9 +8,8 @@ use lib.ListN.{getD}
 use lib.Seq.{slice}
 use borrow.Author.Needs.{needs}
 use denote.Ref.{now}
-use Rattle.inventory.specs.Inventory.{zeroCount}
 use Rattle.records.proofs.Choosing.{one-if-le}
-use Rattle.inventory.proofs.Codes.{zero-count-next, zero-count-end, one-if-le}
+use Rattle.inventory.proofs.Codes.{zero-count-next, zero-count-end}
 use Rattle.inventory.specs.Judging.{zeroCount}
 use Rattle.inventory.proofs.judging.zero_bytes.Statement.{statement}
 use Rattle.inventory.proofs.judging.zero_bytes.Tie as tie

@@ -10,9 +10,8 @@ use denote.Ref.{now}
 use Rattle.inventory.specs.Claims.{WellFormedCases, SizeLimit}
 use Rattle.inventory.proofs.Claims.{well-formed-cases, size-limit}
 use Rattle.records.proofs.Choosing.{one-if, one-if-le}
-use Rattle.inventory.proofs.Entries.{too-large, from-bad, Scanned, scanned-start, found-here, found-before, scanned-step, scanned-end, oversized}
+use Rattle.inventory.proofs.Entries.{too-large, from-bad, Scanned, scanned-start, found-here, found-before, scanned-step, scanned-end}
 use Rattle.inventory.proofs.RecordLaws.{Stands, stands, none-stands, readable}
-use Rattle.inventory.proofs.Codes.{one-if, one-if-le}
 use Rattle.inventory.proofs.scanning.scan.Statement.{statement}
 use Rattle.inventory.proofs.scanning.scan.Tie as tie
 
