@@ -31,7 +31,7 @@ pub fn running_fixed(number: usize) {
     NUMBER.store(number as u64, Ordering::Relaxed);
 }
 
-/// From now on a crash tells its case and ends with 1.
+/// From now on a crash tells its case and ends as a difference does.
 pub fn install() {
     for number in [SIGILL, SIGABRT, SIGBUS, SIGFPE, SIGSEGV] {
         // SAFETY: the handler only reads atomics, writes and exits.
@@ -51,7 +51,7 @@ extern "C" fn on_crash(_number: c_int) {
     }
     put(b"\n");
     // SAFETY: ends the process without running anything else.
-    unsafe { _exit(1) }
+    unsafe { _exit(c_int::from(crate::DIFFERENT)) }
 }
 
 fn put(text: &[u8]) {

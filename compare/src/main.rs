@@ -24,11 +24,14 @@ use std::panic::{self, AssertUnwindSafe};
 use std::process::ExitCode;
 use std::time::{Duration, Instant};
 
+/// The exit status where a difference was found.
+const DIFFERENT: u8 = 3;
+
 fn main() -> ExitCode {
     let options = match options::parse(std::env::args().skip(1)) {
         Ok(options) => options,
         Err(message) => {
-            eprintln!("draugsten-compare: {message}\n{}", options::USAGE);
+            eprint!("draugsten-compare: {message}\n{}", options::USAGE);
             return ExitCode::from(2);
         }
     };
@@ -39,7 +42,7 @@ fn main() -> ExitCode {
     );
     crash::install();
     if options.fixed && options.only.is_none() && !run_fixed(sides) {
-        return ExitCode::from(1);
+        return ExitCode::from(DIFFERENT);
     }
     // A panic is told as a difference, with its case.
     panic::set_hook(Box::new(|_| {}));
@@ -47,7 +50,7 @@ fn main() -> ExitCode {
         Some(number) => run_only(sides, options.seed, number),
         None => run_cases(sides, &options),
     };
-    ExitCode::from(u8::from(different))
+    ExitCode::from(if different { DIFFERENT } else { 0 })
 }
 
 /// The readings with written-out values, on both sides.

@@ -1,10 +1,6 @@
 //! The command line.
 
-pub const USAGE: &str = "usage: draugsten-compare [--cases N] [--seed S] [--only K] [--random-only]
-  --cases N      compare N random cases (200000)
-  --seed S       the seed that the cases follow from (1)
-  --only K       compare case K of the seed alone
-  --random-only  leave out the fixed readings";
+pub const USAGE: &str = include_str!("../usage.txt");
 
 pub struct Options {
     pub cases: u64,

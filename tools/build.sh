@@ -1,0 +1,91 @@
+# What the commands share: how they end, and how they build what they need. To be sourced in the repository's root.
+
+say() {
+    echo "draugsten: $*" >&2
+}
+
+# Says why something could not be done, and what helps, and ends.
+fail() {
+    say "$@"
+    exit 1
+}
+
+# Whether a descriptor is open.
+is_open() {
+    [[ -e /proc/self/fd/$1 ]]
+}
+
+# Ends where a program is missing, and says where it comes from.
+need() {
+    command -v "$1" >/dev/null || fail "there is no $1 on the PATH: $2"
+}
+
+# Runs a program and ends as it does, with 0 done, 1 not done, 2 wrong usage or 3 a difference. Any other end is none of its own.
+end_as() {
+    local status=0
+    "$@" || status=$?
+    [[ $status -gt 3 ]] || exit "$status"
+    fail "$1 ended with status $status before it had a result; see what stands above, and that its output can be written"
+}
+
+# Whether a built file is there, and nothing of the crates is newer than the beginning of its build.
+is_new() {
+    [[ -e $1 && -e $1.built && -z $(find crates crates.txt -newer "$1.built" -print -quit) ]]
+}
+
+# Runs a command while no other build runs: it waits for the lock, which is on the repository's folder.
+locked() {
+    local lock status=0
+    need flock 'install util-linux'
+    exec {lock}<.
+    flock -n "$lock" || { say 'another build is running; waiting for it' && flock "$lock"; }
+    "$@" || status=$?
+    exec {lock}<&-
+    return "$status"
+}
+
+# The number of crates that a crate is made of, itself one of them. crates.txt has each behind those that it needs.
+count_crates() {
+    tac crates.txt | awk -v wanted=" $1 " '
+        { sub(/:/, " ") }
+        index(wanted, " " $1 " ") { count++; for (i = 2; i <= NF; i++) wanted = wanted $i " " }
+        END { print count }'
+}
+
+# Of what rt writes, tells each crate that was proved, and how far the build is.
+tell_proved() {
+    local line count=0
+    while IFS= read -r line; do
+        [[ $line =~ ^rt:\ ([A-Za-z0-9_]+)\ proved\ \((.*)\) ]] || continue
+        count=$((count + 1))
+        [[ ${BASH_REMATCH[2]} == unchanged* ]] || say "proved ${BASH_REMATCH[1]}, crate $count of $1 (${BASH_REMATCH[2]})"
+    done
+}
+
+# Makes a file of a crate by a command of rt. Its mark, FILE.built, has the time of the beginning. A program that is gone
+# is made again only where rt does not know it as proved.
+make_file() {
+    local verb=$1 crate=$2 file=$3 log=target/draugsten-build.log count
+    is_new "$file" && return
+    count=$(count_crates "$crate")
+    say "building $file: $count crates; those that are not proved yet take up to some minutes each"
+    mkdir -p target "$(dirname "$file")"
+    rm -f "$file.built"
+    touch "$file.begun"
+    [[ -e $file ]] || rm -f "target/stamp/$crate"
+    rt "$verb" "$crate" </dev/null 2>&1 | tee "$log" | tell_proved "$count" || return
+    [[ -e $file ]] && mv "$file.begun" "$file.built"
+}
+
+# Builds a file of a crate by a command of rt, where it is missing or old.
+build() {
+    is_new "$3" && return
+    need rt 'install the Rattle kit and add its folder bin to the PATH'
+    locked make_file "$@" && return
+    cat target/draugsten-build.log >&2 || true
+    fail "$3 could not be built; what rt said stands above, and in target/draugsten-build.log"
+}
+
+build_archive() {
+    build staticlib "$1" "target/staticlib/lib$1.a"
+}
