@@ -23,6 +23,8 @@ pub enum Fault {
     NoOutputs = 11,
     /// Number 12: inputs or outputs above 16.
     TooMany = 12,
+    /// Number 13: no registration. `Registration::restore` gives it; no call does, since every `Registration` is one.
+    NoRegistration = 13,
     /// Status -1: the journal or inventory is malformed.
     Malformed = -1,
     /// Status -3: an input, the token, the counts or the work area.
@@ -59,7 +61,8 @@ pub fn call(
         10 => Err(Fault::Short),
         11 => Err(Fault::NoOutputs),
         12 => Err(Fault::TooMany),
-        number => unreachable!("the library gives number {number} to no registration of this crate"),
+        13 => Err(Fault::NoRegistration),
+        number => unreachable!("the library gives no number {number}"),
     }
 }
 

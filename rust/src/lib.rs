@@ -28,4 +28,4 @@ mod registration;
 
 pub use calling::{call, Answer, Fault};
 pub use reading::{read_indices, read_nodes, read_state, Entry, Operation, Reason, Refusal};
-pub use registration::{Phase, Registration};
+pub use registration::{Phase, Registration, STRUCTURE_LIMIT};

@@ -1,19 +1,24 @@
 //! The kernel dump registration of a partition.
 
+use crate::calling::Fault;
 use crate::ffi;
 
-/// Where a registration stands.
+/// The bytes of a copy.
+pub const STRUCTURE_LIMIT: usize = 512;
+
+/// Where a registration stands. `as u32` gives its number.
 #[derive(Clone, Copy, PartialEq, Eq, Debug)]
 pub enum Phase {
     /// Nothing is registered.
-    None,
+    None = 0,
     /// A structure is registered.
-    Registered,
-    /// A dump is active. No call makes a registration active.
-    Active,
+    Registered = 1,
+    /// A dump is active. No call makes a registration active; `Registration::restore` does.
+    Active = 2,
 }
 
-/// A partition's registration. Only a call changes it, so it is always one that the library takes.
+/// A partition's registration. It is made by `none` or `restore` and changed by calls alone, so it is always one that the
+/// library takes.
 #[derive(Clone, PartialEq, Eq, Debug)]
 pub struct Registration {
     flat: ffi::Registration,
@@ -23,6 +28,36 @@ impl Registration {
     /// The registration that a partition starts with.
     pub fn none() -> Registration {
         Registration { flat: ffi::no_registration() }
+    }
+
+    /// A registration of its three parts: the phase's number, the length of the copied structure, and the copy. So a
+    /// platform makes an active one of a registered one, and takes up again what it had stored. Any copy is taken as it
+    /// is. A phase above 2 or a length above 512 is `Fault::NoRegistration`, as the library's number 13.
+    ///
+    /// ```
+    /// use draugsten::{args, call, Answer, Phase, Registration};
+    ///
+    /// let mut active = Registration::restore(Phase::Active as u32, 0, [0; 512]).unwrap();
+    /// let mut args = args::configure_kernel_dump(args::Command::Complete, 0, 0);
+    ///
+    /// assert_eq!(call(&mut args, &mut [], &[], &[], &mut active), Ok(Answer::Done));
+    /// assert_eq!(active, Registration::none());
+    /// ```
+    pub fn restore(phase: u32, length: usize, copy: [u8; STRUCTURE_LIMIT]) -> Result<Registration, Fault> {
+        if phase > Phase::Active as u32 || length > STRUCTURE_LIMIT {
+            return Err(Fault::NoRegistration);
+        }
+        Ok(Registration { flat: ffi::Registration { phase, length, copy } })
+    }
+
+    /// The length of the copied structure.
+    pub fn length(&self) -> usize {
+        self.flat.length
+    }
+
+    /// The whole copy; behind the structure it has zero bytes, but where `restore` was given others.
+    pub fn copy(&self) -> &[u8; STRUCTURE_LIMIT] {
+        &self.flat.copy
     }
 
     /// Where it stands.

@@ -55,6 +55,46 @@ fn commands_take_turns() {
     assert_eq!(partition.registration, Registration::none());
 }
 
+/// The same registration in another phase, as a platform makes it.
+fn in_phase(phase: Phase, from: &Registration) -> Registration {
+    Registration::restore(phase as u32, from.length(), *from.copy()).unwrap()
+}
+
+#[test]
+fn an_active_dump_is_completed() {
+    let good = structure(112);
+    let mut partition = partition_with(&good);
+    assert_eq!(command(&mut partition, Command::Register), Ok(Answer::Done));
+    partition.registration = in_phase(Phase::Active, &partition.registration);
+    assert_eq!(partition.registration.structure(), good);
+    let active = partition.registration.clone();
+    for refused in [Command::Register, Command::Unregister] {
+        assert_eq!(command(&mut partition, refused), Err(Fault::DumpActive));
+        assert_eq!(partition.registration, active);
+    }
+    assert_eq!(command(&mut partition, Command::Complete), Ok(Answer::Done));
+    assert_eq!(partition.registration, Registration::none());
+}
+
+#[test]
+fn every_registration_is_restored_as_it_was() {
+    for phase in [Phase::None, Phase::Registered, Phase::Active] {
+        for (length, byte) in [(0, 0), (40, 1), (512, 0xff)] {
+            let restored = Registration::restore(phase as u32, length, [byte; 512]).unwrap();
+            assert_eq!((restored.phase(), restored.length(), restored.copy()), (phase, length, &[byte; 512]));
+            assert_eq!(restored.structure(), vec![byte; length]);
+            assert_eq!(in_phase(phase, &restored), restored);
+        }
+    }
+}
+
+#[test]
+fn what_is_no_registration_is_not_restored() {
+    for (phase, length) in [(3, 0), (u32::MAX, 0), (0, 513), (1, usize::MAX), (3, 513)] {
+        assert_eq!(Registration::restore(phase, length, [0; 512]), Err(Fault::NoRegistration));
+    }
+}
+
 #[test]
 fn nothing_is_registered_at_first() {
     let registration = Registration::default();

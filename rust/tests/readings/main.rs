@@ -2,6 +2,7 @@
 
 mod arguments;
 mod dump;
+mod header;
 mod indices;
 mod nodes;
 mod partition;

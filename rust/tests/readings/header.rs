@@ -1,0 +1,72 @@
+//! Every number that the header names has a name in the crate.
+
+use draugsten::{Answer, Fault, Phase, Reason};
+
+const HEADER: &str = include_str!("../../../include/draugsten.h");
+
+/// The names that begin so, each with its number, in the header's order. A status is a word of 32 bits.
+fn numbers(prefix: &str) -> Vec<(&str, i32)> {
+    let tokens = HEADER.split(|c: char| c.is_whitespace() || c == ',' || c == '=').filter(|token| !token.is_empty());
+    let tokens: Vec<&str> = tokens.collect();
+    let named = tokens.windows(2).filter_map(|pair| Some((pair[0].strip_prefix(prefix)?, number(pair[1])?)));
+    named.collect()
+}
+
+fn number(text: &str) -> Option<i32> {
+    match text.strip_prefix("0x") {
+        Some(word) => u32::from_str_radix(word.strip_suffix('u')?, 16).ok().map(|word| word as i32),
+        None => text.parse().ok(),
+    }
+}
+
+#[test]
+fn statuses() {
+    let expected = [
+        ("DONE", Answer::Done as i32),
+        ("CALL_AGAIN", Answer::CallAgain as i32),
+        ("MALFORMED", Fault::Malformed as i32),
+        ("PARAMETER", Fault::Parameter as i32),
+        ("ALREADY_REGISTERED", Fault::AlreadyRegistered as i32),
+        ("DUMP_ACTIVE", Fault::DumpActive as i32),
+    ];
+    assert_eq!(numbers("DRAUGSTEN_STATUS_"), expected);
+}
+
+#[test]
+fn numbers_of_calls() {
+    let expected = [
+        ("STATUS", 0),
+        ("SHORT", Fault::Short as i32),
+        ("NO_OUTPUTS", Fault::NoOutputs as i32),
+        ("TOO_MANY", Fault::TooMany as i32),
+        ("NO_REGISTRATION", Fault::NoRegistration as i32),
+    ];
+    assert_eq!(numbers("DRAUGSTEN_NUMBER_"), expected);
+}
+
+#[test]
+fn phases() {
+    let expected =
+        [("NONE", Phase::None as i32), ("REGISTERED", Phase::Registered as i32), ("ACTIVE", Phase::Active as i32)];
+    assert_eq!(numbers("DRAUGSTEN_PHASE_"), expected);
+}
+
+#[test]
+fn refusals() {
+    let expected = [
+        ("NONE", 0),
+        ("AREA_SIZE", Reason::AreaSize as i32),
+        ("RESERVED", Reason::Reserved as i32),
+        ("OPCODE", Reason::Opcode as i32),
+        ("NO_OPERANDS", Reason::NoOperands as i32),
+        ("OPERANDS_PAST_END", Reason::OperandsPastEnd as i32),
+        ("ODD_OPERANDS", Reason::OddOperands as i32),
+        ("ORDER", Reason::Order as i32),
+        ("NO_TERMINATOR", Reason::NoTerminator as i32),
+        ("NO_COUNT", Reason::NoCount as i32),
+        ("SET_PAST_END", Reason::SetPastEnd as i32),
+        ("CODE_LENGTH", Reason::CodeLength as i32),
+        ("CODE", Reason::Code as i32),
+    ];
+    assert_eq!(numbers("DRAUGSTEN_REFUSAL_"), expected);
+}
