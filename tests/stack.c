@@ -1,0 +1,154 @@
+/*
+ * Measures the stack that each function of the library takes, and holds it to what the header says. A function runs on a
+ * painted stack; the deepest byte that it wrote is looked for, and so is that of a function in its place that only returns.
+ * Exits with 1 where a function takes more than the header says, or does not do its work.
+ */
+#define _GNU_SOURCE
+#include "draugsten.h"
+
+#include <stdio.h>
+#include <string.h>
+#include <ucontext.h>
+
+enum { STACK = 65536, NODE_AREA = 0x1000, INDEX_AREA = 0x2000, RETURN_ADDRESS = 8 };
+
+static uint8_t stack[STACK] __attribute__((aligned(16)));
+static uint8_t memory[0x3000], args[40];
+static uint32_t words[64];
+static uint64_t numbers[64];
+static int faults;
+
+/* These take no stack but their return address. In firmware they may take more. */
+
+void *memcpy(void *to, const void *from, size_t length)
+{
+    void *start = to;
+    __asm__ volatile("rep movsb" : "+D"(to), "+S"(from), "+c"(length) : : "memory");
+    return start;
+}
+
+void *memset(void *to, int byte, size_t length)
+{
+    void *start = to;
+    __asm__ volatile("rep stosb" : "+D"(to), "+c"(length) : "a"(byte) : "memory");
+    return start;
+}
+
+__attribute__((naked, used)) static void only_return(void)
+{
+    __asm__("mov %rdi, %rax\n\tret");
+}
+
+/* What is called in the place of each function: itself, or the one that only returns. */
+static __typeof__(draugsten_no_registration) *no_registration;
+static __typeof__(draugsten_call) *call;
+static __typeof__(draugsten_read_nodes) *read_nodes;
+static __typeof__(draugsten_read_indices) *read_indices;
+
+static void choose(int library)
+{
+    void *nothing = (void *)only_return;
+    no_registration = library ? draugsten_no_registration : (__typeof__(no_registration))nothing;
+    call = library ? draugsten_call : (__typeof__(call))nothing;
+    read_nodes = library ? draugsten_read_nodes : (__typeof__(read_nodes))nothing;
+    read_indices = library ? draugsten_read_indices : (__typeof__(read_indices))nothing;
+}
+
+/* A delete, an update and an addition; a sensor. */
+static const uint8_t journal[] = {8, 0, 1, 0, 11, 0, 1, 0, 0, 0, 8, 0, 2, 0, 11, 0, 2, 0, 0, 0,
+                                  12, 0, 3, 0, 11, 0, 3, 0, 0, 0, 4, 0, 0, 0};
+static const uint8_t inventory[] = {15, 0, 16, 0, 1, 0, 7, 0, 0, 0, 9, 0, 0, 0, 'U', '7', '8'};
+
+/* The words of an argument buffer for a call of each kind that is answered. */
+static const uint32_t calls[3][10] = {
+    {DRAUGSTEN_TOKEN_UPDATE_NODES, 2, 1, NODE_AREA, 1},
+    {DRAUGSTEN_TOKEN_GET_INDICES, 5, 2, 1, 7, INDEX_AREA, 92, 1},
+    {DRAUGSTEN_TOKEN_CONFIGURE_KERNEL_DUMP, 3, 1, DRAUGSTEN_COMMAND_REGISTER, 0, 80},
+};
+
+static struct draugsten_registration registration;
+static struct draugsten_answer answer;
+static struct draugsten_node_reading node_reading;
+static struct draugsten_index_reading index_reading;
+
+/* ---- what is measured */
+
+static void starting(void)
+{
+    registration = no_registration();
+}
+
+static void calling(void)
+{
+    for (int i = 0; i < 3; i++) {
+        for (int byte = 0; byte < 40; byte++)
+            args[byte] = (uint8_t)(calls[i][byte / 4] >> (24 - 8 * (byte % 4)));
+        answer = call(args, sizeof args, memory, sizeof memory, journal, sizeof journal, inventory, sizeof inventory,
+                      registration);
+    }
+}
+
+static void reading_nodes(void)
+{
+    node_reading = read_nodes(memory + NODE_AREA, 4096, words, 64);
+}
+
+static void reading_indices(void)
+{
+    index_reading = read_indices(memory + INDEX_AREA, 92, numbers, 64);
+}
+
+/* ---- measuring */
+
+/* The bytes from the top of a painted stack to the deepest one that was written. */
+static size_t depth(void (*work)(void), int library, int paint)
+{
+    ucontext_t here, there;
+    size_t untouched = 0;
+    choose(library);
+    for (size_t i = 0; i < STACK; i++)
+        stack[i] = (uint8_t)paint;
+    getcontext(&there);
+    there.uc_stack.ss_sp = stack;
+    there.uc_stack.ss_size = STACK;
+    there.uc_link = &here;
+    makecontext(&there, work, 0);
+    swapcontext(&here, &there);
+    while (untouched < STACK && stack[untouched] == (uint8_t)paint)
+        untouched++;
+    return STACK - untouched;
+}
+
+static void measure(const char *name, void (*work)(void), size_t said)
+{
+    size_t taken = 0;
+    for (int paint = 0x5a; paint <= 0xa5; paint += 0x4b) {
+        size_t nothing = depth(work, 0, paint), all = depth(work, 1, paint);
+        if (all - nothing + RETURN_ADDRESS > taken)
+            taken = all - nothing + RETURN_ADDRESS;
+    }
+    printf("%s: %zu bytes of stack, of %zu\n", name, taken, said);
+    faults += taken > said;
+}
+
+/* A dump structure at 0, with one section from 40 on, and a node area that is zero. */
+static void prepare(void)
+{
+    memset(memory, 0, sizeof memory);
+    memory[3] = memory[5] = memory[43] = memory[45] = 1;
+    memory[11] = 40;
+}
+
+int main(void)
+{
+    prepare();
+    measure("draugsten_no_registration", starting, DRAUGSTEN_STACK_NO_REGISTRATION);
+    measure("draugsten_call", calling, DRAUGSTEN_STACK_CALL);
+    measure("draugsten_read_nodes", reading_nodes, DRAUGSTEN_STACK_READ_NODES);
+    measure("draugsten_read_indices", reading_indices, DRAUGSTEN_STACK_READ_INDICES);
+    if (answer.registration.length != 80 || node_reading.entries != 3 || index_reading.entries != 1) {
+        puts("stack: a call or a reading did not do its work");
+        faults++;
+    }
+    return faults ? 1 : 0;
+}
