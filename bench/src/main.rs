@@ -18,29 +18,36 @@ mod timing;
 
 use inputs::Inputs;
 use report::Measured;
-use rows::{get_indices, growth, readers, scans, update_nodes, Row};
+use rows::{get_indices, growth, readers, scans, slowest, update_nodes, Row};
+use std::panic;
 use std::path::PathBuf;
 use std::process::ExitCode;
 use std::time::Duration;
 use timing::Effort;
 
-const USAGE: &str = "usage: draugsten-bench [--quick] [--write=FOLDER]
+const USAGE: &str = "usage: draugsten-bench [--quick] [--runs=N] [--write=FOLDER]
   --quick         fewer turns
+  --runs=N        measure N times
   --write=FOLDER  write BENCH.md and bench.svg there";
 
 const FULL: Effort = Effort { time: Duration::from_millis(700), least: 9, most: 501 };
 const QUICK: Effort = Effort { time: Duration::from_millis(20), least: 3, most: 51 };
 
+/// The exit status where the sides differ.
+const DIFFERENT: u8 = 3;
+
 struct Options {
     effort: Effort,
+    runs: usize,
     folder: Option<PathBuf>,
 }
 
 fn options(words: impl Iterator<Item = String>) -> Option<Options> {
-    let mut options = Options { effort: FULL, folder: None };
+    let mut options = Options { effort: FULL, runs: 1, folder: None };
     for word in words {
         match word.split_once('=') {
             None if word == "--quick" => options.effort = QUICK,
+            Some(("--runs", runs)) => options.runs = runs.parse().ok().filter(|&runs| runs > 0)?,
             Some(("--write", folder)) => options.folder = Some(folder.into()),
             _ => return None,
         }
@@ -48,7 +55,7 @@ fn options(words: impl Iterator<Item = String>) -> Option<Options> {
     Some(options)
 }
 
-/// Measures all rows, and tells each. The calls were checked before; the scans and readings are checked on the way.
+/// Measures all rows, and tells each.
 fn rows(inputs: &Inputs, effort: Effort, mut tell: impl FnMut(Row)) {
     for (name, journal) in &inputs.journals {
         tell(scans::journal(name, journal, effort));
@@ -74,29 +81,52 @@ fn rows(inputs: &Inputs, effort: Effort, mut tell: impl FnMut(Row)) {
     }
 }
 
-/// Holds the sides to each other over the calls that are measured.
-fn check_calls(inputs: &Inputs) {
+/// Holds the sides to each other over all that is measured; panics where they differ.
+fn check_sides(inputs: &Inputs) {
     check::no_registration();
     for (_, journal) in &inputs.journals {
+        check::journal_scan(journal);
         check::update_nodes(journal);
     }
     for (_, inventory, asked) in &inputs.inventories {
+        check::inventory_scan(inventory, *asked);
         check::get_indices(inventory, *asked);
+    }
+    for (_, area) in &inputs.node_areas {
+        check::read_nodes(area, readers::NODES_ROOM);
+    }
+    for (_, area) in &inputs.index_areas {
+        check::read_indices(area, readers::INDICES_ROOM);
+    }
+    for size in growth::SIZES {
+        check::update_nodes(&journal::mixed(size));
     }
 }
 
-fn measure(effort: Effort) -> Measured {
-    let inputs = inputs::inputs();
-    check_calls(&inputs);
+/// One run.
+fn measure(inputs: &Inputs, effort: Effort) -> Measured {
     report::print_heading(effort);
     let mut told = Vec::new();
-    rows(&inputs, effort, |row| {
+    rows(inputs, effort, |row| {
         report::print_row(&row);
         told.push(row);
     });
     let growth = growth::growth(effort);
     report::print_growth(&growth);
-    Measured { machine: report::machine(), effort, rows: told, growth }
+    let slowest = slowest::slowest(inputs, effort);
+    report::print_slowest(&slowest);
+    Measured { machine: report::machine(), effort, runs: 1, rows: told, growth, slowest }
+}
+
+/// So many runs: the last one, with the ranges over all.
+fn measure_runs(inputs: &Inputs, options: &Options) -> Measured {
+    let mut measured = measure(inputs, options.effort);
+    for _ in 1..options.runs {
+        let before = std::mem::replace(&mut measured, measure(inputs, options.effort));
+        measured.widen(&before);
+    }
+    report::print_ranges(&measured);
+    measured
 }
 
 fn main() -> ExitCode {
@@ -104,12 +134,21 @@ fn main() -> ExitCode {
         eprintln!("{USAGE}");
         return ExitCode::from(2);
     };
-    let measured = measure(options.effort);
+    let made = panic::catch_unwind(|| {
+        let inputs = inputs::inputs();
+        check_sides(&inputs);
+        inputs
+    });
+    let Ok(inputs) = made else {
+        eprintln!("draugsten-bench: the sides differ, so nothing is measured; ./draugsten compare shows where");
+        return ExitCode::from(DIFFERENT);
+    };
+    let measured = measure_runs(&inputs, &options);
     let Some(folder) = options.folder else {
         return ExitCode::SUCCESS;
     };
     if let Err(error) = report::write(&folder, &measured) {
-        eprintln!("draugsten-bench: {}: {error}", folder.display());
+        eprintln!("draugsten-bench: {} cannot be written: {error}", folder.display());
         return ExitCode::FAILURE;
     }
     ExitCode::SUCCESS

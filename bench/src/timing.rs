@@ -63,10 +63,15 @@ impl Contender<'_> {
     }
 
     /// The median time of one work, in microseconds.
-    fn median(mut self) -> f64 {
-        self.times.sort();
-        self.times[self.turns / 2].as_secs_f64() * 1e6 / f64::from(self.batch)
+    fn median(self) -> f64 {
+        median(self.times) / f64::from(self.batch)
     }
+}
+
+/// The median of some times, in microseconds.
+pub fn median(mut times: Vec<Duration>) -> f64 {
+    times.sort();
+    times[times.len() / 2].as_secs_f64() * 1e6
 }
 
 /// The median time of each work in microseconds; they take turns.

@@ -1,8 +1,9 @@
 //! The page docs/BENCH.md.
 
-use super::{grouped, micros, ratio, warning, Measured};
+use super::{grouped, micros, range, ratio, ratio_text, warning, Measured};
 use crate::library;
 use crate::rows::growth::{each, Growth};
+use crate::rows::slowest::{Slowest, ALLOWED};
 use crate::rows::Row;
 use crate::timing::{Effort, SHORTEST};
 
@@ -12,9 +13,16 @@ pub fn page(measured: &Measured) -> String {
     lines
         .push(format!("Processor: {}. Written by `bench/run --write`; times are in microseconds.\n", measured.machine));
     lines.push(String::from("![Times beside those of straightforward Rust](bench.svg)\n"));
+    lines.push(format!("{}\n", measured.summary()));
     lines.extend(rows(&measured.rows));
     lines.push(String::from("\n## How it is measured\n"));
     lines.push(method(measured.effort));
+    lines.push(String::from("\n## The slowest single call\n"));
+    lines.push(format!(
+        "Source document 002 allows a call {ALLOWED} microseconds. Each call of a session is measured alone; of their \
+        medians the largest is told.\n"
+    ));
+    lines.extend(slowest(&measured.slowest));
     lines.push(String::from("\n## How a session grows\n"));
     lines.push(String::from("A session of update-nodes over a mixed journal; every call judges the whole journal.\n"));
     lines.extend(growth(&measured.growth));
@@ -37,7 +45,7 @@ fn heading(names: &[&str], words: usize) -> [String; 2] {
 fn rows(rows: &[Row]) -> Vec<String> {
     let proved = library::SIDE.name;
     let names = ["", "over", "bytes", "passes", "streaming", "stepping", "Rust", "independent", proved];
-    let ratios = ["/ stepping", "/ Rust", "/ independent"];
+    let ratios = ["/ stepping", "/ Rust", "over the runs", "/ independent"];
     let heading = heading(&[&names[..], &ratios].concat(), 2);
     heading.into_iter().chain(rows.iter().map(row)).collect()
 }
@@ -55,8 +63,24 @@ fn row(row: &Row) -> String {
         micros(row.proved),
         ratio(row.proved, row.stepping),
         ratio(row.proved, row.rust),
+        range(row.ratios, ratio_text),
         ratio(row.proved, row.independent),
     ])
+}
+
+fn slowest(calls: &[Slowest]) -> Vec<String> {
+    let names = ["", "over", "bytes", "call", library::SIDE.name, "over the runs"];
+    let lines = calls.iter().map(|call| {
+        line(&[
+            call.what.to_string(),
+            call.over.clone(),
+            grouped(call.bytes as u64),
+            format!("{} of {}", call.place, call.calls),
+            micros(call.time),
+            range(call.times, micros),
+        ])
+    });
+    heading(&names, 2).into_iter().chain(lines).collect()
 }
 
 fn growth(sizes: &[Growth]) -> Vec<String> {
@@ -83,7 +107,7 @@ fn method(effort: Effort) -> String {
     let Effort { time, least, most } = effort;
     let (time, shortest) = (time.as_millis(), SHORTEST.as_micros());
     format!(
-        "Everything is measured in one run, on one thread. The works of a row take turns; each is given about {time} \
+        "Everything is measured on one thread; of several runs the last is told, and the ranges are over all. The works of a row take turns; each is given about {time} \
         milliseconds, but {least} turns at the least and {most} at the most, and the median is told. A work that takes \
         less than {shortest} microseconds is done several times in a turn. The independent program alone is measured \
         after the others of its row: it fills the caches and the branch predictor with its own. Before they are \

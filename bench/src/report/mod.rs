@@ -4,11 +4,12 @@ mod markdown;
 mod plot;
 mod table;
 
-pub use table::{print_growth, print_heading, print_row};
+pub use table::{print_growth, print_heading, print_ranges, print_row, print_slowest};
 
 use crate::library;
 use crate::rows::growth::Growth;
-use crate::rows::Row;
+use crate::rows::slowest::Slowest;
+use crate::rows::{joined, Range, Row};
 use crate::timing::Effort;
 use std::path::Path;
 use std::{fs, io};
@@ -17,8 +18,37 @@ use std::{fs, io};
 pub struct Measured {
     pub machine: String,
     pub effort: Effort,
+    /// The number of runs. The rows are of the last one, their ranges over all.
+    pub runs: usize,
     pub rows: Vec<Row>,
     pub growth: Vec<Growth>,
+    pub slowest: Vec<Slowest>,
+}
+
+impl Measured {
+    /// Takes the ranges of the runs before into those of this one.
+    pub fn widen(&mut self, before: &Measured) {
+        self.runs += before.runs;
+        for (row, before) in self.rows.iter_mut().zip(&before.rows) {
+            row.ratios = joined(row.ratios, before.ratios);
+        }
+        for (slowest, before) in self.slowest.iter_mut().zip(&before.slowest) {
+            slowest.times = joined(slowest.times, before.times);
+        }
+    }
+
+    /// The range of the ratios of all readings, or of all else.
+    fn all_ratios(&self, readings: bool) -> Range {
+        let rows = self.rows.iter().filter(|row| row.what.starts_with("reading") == readings);
+        rows.map(|row| row.ratios).fold((f64::INFINITY, 0.0), joined)
+    }
+
+    /// The ranges in a sentence.
+    fn summary(&self) -> String {
+        let (others, readings) = (range(self.all_ratios(false), ratio_text), range(self.all_ratios(true), ratio_text));
+        let runs = if self.runs == 1 { String::from("In one run") } else { format!("Over {} runs", self.runs) };
+        format!("{runs} the ratios to Rust are {others} for scans, calls and sessions, and {readings} for readings.")
+    }
 }
 
 /// The processor's name, as the machine tells it.
@@ -64,9 +94,18 @@ fn micros(time: f64) -> String {
     }
 }
 
+/// A range, by the text of a number.
+fn range((least, most): Range, text: fn(f64) -> String) -> String {
+    format!("{} to {}", text(least), text(most))
+}
+
 /// A ratio of two times.
 fn ratio(time: f64, to: f64) -> String {
-    match time / to {
+    ratio_text(time / to)
+}
+
+fn ratio_text(ratio: f64) -> String {
+    match ratio {
         ratio @ ..0.1 => format!("{ratio:.3}"),
         ratio @ ..100.0 => format!("{ratio:.2}"),
         ratio => format!("{ratio:.0}"),

@@ -1,8 +1,9 @@
 //! The table as text.
 
-use super::{grouped, micros, ratio, warning};
+use super::{grouped, micros, range, ratio, ratio_text, warning, Measured};
 use crate::library;
 use crate::rows::growth::{each, Growth};
+use crate::rows::slowest::{Slowest, ALLOWED};
 use crate::rows::Row;
 use crate::timing::Effort;
 
@@ -34,4 +35,31 @@ pub fn print_growth(growth: &[Growth]) {
         print!(" {:>10} {:>8.1}", micros(size.proved), each(size, size.proved));
         println!(" {:>7}", ratio(size.proved, size.rust));
     }
+}
+
+pub fn print_slowest(slowest: &[Slowest]) {
+    println!("\nthe slowest single call of a session, microseconds; source document 002 allows {ALLOWED}");
+    println!("{:<14} {:<24} {:>9} {:>14} {:>8}", "", "over", "bytes", "call", library::SIDE.name);
+    for call in slowest {
+        let place = format!("{} of {}", call.place, call.calls);
+        print!("{:<14} {:<24} {:>9}", call.what, call.over, grouped(call.bytes as u64));
+        println!(" {place:>14} {:>8}{}", micros(call.time), if call.time > ALLOWED { "  above" } else { "" });
+    }
+}
+
+/// The ranges over several runs, and of one run the summary alone.
+pub fn print_ranges(measured: &Measured) {
+    println!();
+    if measured.runs > 1 {
+        println!("over {} runs: ratios to Rust, and times of the slowest single call", measured.runs);
+        for row in &measured.rows {
+            let bytes = grouped(row.bytes as u64);
+            println!("{:<24} {:<24} {bytes:>9} {:>16}", row.what, row.over, range(row.ratios, ratio_text));
+        }
+        for call in &measured.slowest {
+            let bytes = grouped(call.bytes as u64);
+            println!("{:<24} {:<24} {bytes:>9} {:>16}", call.what, call.over, range(call.times, micros));
+        }
+    }
+    println!("{}", measured.summary());
 }

@@ -1,11 +1,11 @@
 //! How a session of update-nodes grows with the journal.
 
 use crate::interface::{Side, SIDES};
+use crate::journal;
 use crate::partition::{Partition, SCOPE};
 use crate::timing::{medians, Effort, Work};
-use crate::{check, journal};
 
-const SIZES: [usize; 4] = [64 << 10, 256 << 10, 512 << 10, 1 << 20];
+pub const SIZES: [usize; 4] = [64 << 10, 256 << 10, 512 << 10, 1 << 20];
 
 /// A session over a journal of so many bytes and reportable operations, with its median times in microseconds.
 pub struct Growth {
@@ -22,7 +22,6 @@ pub fn growth(effort: Effort) -> Vec<Growth> {
 }
 
 fn over(journal: &[u8], effort: Effort) -> Growth {
-    check::update_nodes(journal);
     let [plain, _, library] = &SIDES;
     let session = |side: &'static Side| -> Work {
         let mut partition = Partition::of_journal(journal);

@@ -4,6 +4,7 @@ pub mod get_indices;
 pub mod growth;
 pub mod readers;
 pub mod scans;
+pub mod slowest;
 pub mod update_nodes;
 
 use crate::bare;
@@ -31,6 +32,15 @@ pub struct Row {
     pub rust: f64,
     pub independent: f64,
     pub proved: f64,
+    /// The least and the largest ratio to Rust, over the runs.
+    pub ratios: Range,
+}
+
+/// The least and the largest of some numbers.
+pub type Range = (f64, f64);
+
+pub fn joined(a: Range, b: Range) -> Range {
+    (a.0.min(b.0), a.1.max(b.1))
 }
 
 impl<'a> Subject<'a> {
@@ -51,6 +61,7 @@ impl<'a> Subject<'a> {
             rust,
             independent,
             proved,
+            ratios: (proved / rust, proved / rust),
         }
     }
 

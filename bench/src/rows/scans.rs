@@ -1,21 +1,19 @@
 //! The scans of a journal and of an inventory.
 
 use super::{Row, Subject};
+use crate::bare;
 use crate::interface::Asked;
 use crate::partition::SCOPE;
 use crate::timing::Effort;
-use crate::{bare, check};
 use std::hint::black_box;
 
 pub fn journal(over: &str, journal: &[u8], effort: Effort) -> Row {
-    check::journal_scan(journal);
     let stepping = bare::stepping_records;
     let subject = Subject { what: "journal scan", over, bytes: journal, passes: 1, stepping };
     subject.measure(effort, |side| Box::new(|| (side.scan_journal)(black_box(journal), black_box(SCOPE))))
 }
 
 pub fn inventory(over: &str, inventory: &[u8], asked: Asked, effort: Effort) -> Row {
-    check::inventory_scan(inventory, asked);
     let stepping = bare::stepping_records;
     let subject = Subject { what: "inventory scan", over, bytes: inventory, passes: 1, stepping };
     subject.measure(effort, |side| Box::new(move || (side.scan_inventory)(black_box(inventory), black_box(asked))))
