@@ -1,3 +1,4 @@
+# shellcheck shell=bash
 # What the commands share: how they end, and how they build what they need. To be sourced in the repository's root.
 
 say() {
@@ -62,8 +63,8 @@ tell_proved() {
     done
 }
 
-# Makes a file of a crate by a command of rt. Its mark, FILE.built, has the time of the beginning. A program that is gone
-# is made again only where rt does not know it as proved.
+# Makes a file of a crate by a command of rt. Its mark, FILE.built, has the time of the beginning. `rt check` makes a program
+# that is gone only where it does not know it as proved.
 make_file() {
     local verb=$1 crate=$2 file=$3 log=target/draugsten-build.log count
     is_new "$file" && return
@@ -72,7 +73,7 @@ make_file() {
     mkdir -p target "$(dirname "$file")"
     rm -f "$file.built"
     touch "$file.begun"
-    [[ -e $file ]] || rm -f "target/stamp/$crate"
+    [[ $verb != check || -e $file ]] || rm -f "target/stamp/$crate"
     rt "$verb" "$crate" </dev/null 2>&1 | tee "$log" | tell_proved "$count" || return
     [[ -e $file ]] && mv "$file.begun" "$file.built"
 }
