@@ -10,7 +10,7 @@ use Rattle.words.proofs.Choice.{and-left, and-right}
 use Rattle.dump.specs.declared.registration.Phase.{Phase}
 use Rattle.dump.specs.declared.registration.Phase.the-variants.{Unregistered, Registered, Active}
 use Rattle.dump.specs.declared.registration.Registration.{Registration}
-use Rattle.dump.specs.Registration.{noRegistration}
+use Rattle.dump.specs.Registration.{copySize, noRegistration}
 use Rattle.calls.specs.declared.status.Number.{Number}
 use Rattle.calls.specs.declared.status.Number.the-variants.{Given, Short, NoOutputs, TooMany}
 use Rattle.calls.specs.Buffer.{found}
@@ -20,7 +20,7 @@ use Rattle.draugsten.specs.declared.calling.FlatRegistration.{FlatRegist
 use Rattle.draugsten.specs.Registration.{phaseNumber, phaseOf, flatOf, registrationOf, isRegistration, Faithful, FlatFound, flatLeaves, called, flatCallOf, HandedOn, StartTaken}
 
 -- the phase and the length of a registration
-bounds : (f : FlatRegistration) → isRegistration f ≡ true → (f .phase ≤ 2) × (f .length ≤ 512)
+bounds : (f : FlatRegistration) → isRegistration f ≡ true → (f .phase ≤ 2) × (f .length ≤ copySize)
 unfolding isRegistration
 bounds f e = (leb-true (f .phase) 2 (and-left _ _ e), omega (arith, leb-true (f .length) _ (and-right (leb (f .phase) 2) _ e)))
 
@@ -43,7 +43,7 @@ few-phases Registered = omega arith
 few-phases Active = omega arith
 
 -- a length within the copy makes a registration
-flat-is : (r : Registration) → r .len ≤ 512 → isRegistration (flatOf r) ≡ true
+flat-is : (r : Registration) → r .len ≤ copySize → isRegistration (flatOf r) ≡ true
 unfolding isRegistration
 flat-is r h = rw (le-leb _ 2 (few-phases (r .phase))) (le-leb (r .len) _ (omega arith))
 

@@ -7,7 +7,7 @@ use lib.Dec.{leb, eqb}
 use Rattle.dump.specs.declared.registration.Phase.{Phase}
 use Rattle.dump.specs.declared.registration.Phase.the-variants.{Unregistered, Registered, Active}
 use Rattle.dump.specs.declared.registration.Registration.{Registration}
-use Rattle.dump.specs.Registration.{noRegistration}
+use Rattle.dump.specs.Registration.{copySize, noRegistration}
 use Rattle.calls.specs.Status.{numberOf}
 use Rattle.calls.specs.Buffer.{found, Left, callOf}
 use Rattle.draugsten.specs.declared.calling.FlatRegistration.{FlatRegistration}
@@ -29,7 +29,7 @@ registrationOf f = record { phase = phaseOf (f .phase); len = f .length; copy = 
 
 -- a phase of 0 to 2 and a length within the copy; anything else is no registration
 unfoldable pub isRegistration : FlatRegistration → Bool
-isRegistration f = leb (f .phase) 2 && leb (f .length) 512
+isRegistration f = leb (f .phase) 2 && leb (f .length) copySize
 
 -- A registration goes over the boundary and back as it is, bit for bit.
 abbrev pub Faithful : Type 0

@@ -4,6 +4,7 @@ ghost use Rattle.dump.specs.Registration.{noRegistration};
 ghost use Rattle.calls.specs.Status.{numberOf};
 ghost use Rattle.draugsten.specs.Registration.{phaseNumber, phaseOf, flatOf, registrationOf, isRegistration, Faithful, HandedOn, StartTaken, flatFound, flatLeaves, flatCallOf};
 use calls::Number;
+use dump::COPY_SIZE;
 use dump::Phase;
 use dump::Registration;
 
@@ -12,7 +13,7 @@ use dump::Registration;
 pub struct FlatRegistration {
     pub phase: u32,
     pub length: usize,
-    pub copy: [u8; 512],
+    pub copy: [u8; COPY_SIZE],
 }
 
 // What a call answers: its number, and the registration afterwards.
@@ -58,7 +59,7 @@ fn number_of(number: Number) -> u32
 fn is_registration(flat: FlatRegistration) -> bool
     ensures { λ r. ⌜ r ≡ isRegistration flat ⌝ }
 {
-    flat.phase <= 2 && flat.length <= 512
+    flat.phase <= 2 && flat.length <= COPY_SIZE
 }
 
 fn registration_of(flat: FlatRegistration) -> Registration

@@ -6,22 +6,22 @@ use native.Mathlib.Numerals.{add-one}
 use native.Mathlib.Omega.{arith}
 use lib.ListN.{length, getD, take, replicate, set, length-append}
 use lib.Seq.{length-take-le, take-all, take-suc, append-snoc, set-at}
-use Rattle.dump.specs.Registration.{padded}
+use Rattle.dump.specs.Registration.{copySize, padded}
 
-pub padded-none : replicate 512 0 ≡ padded []
+pub padded-none : replicate copySize 0 ≡ padded []
 unfolding padded
 padded-none = refl
 
 -- a store in the place of the first zero
-padded-store : (p : List ℕ) (i v : ℕ) → length p ≡ i → i < 512 → set (padded p) i v ≡ padded (p ++ (v ∷ []))
+padded-store : (p : List ℕ) (i v : ℕ) → length p ≡ i → i < copySize → set (padded p) i v ≡ padded (p ++ (v ∷ []))
 unfolding padded
 padded-store p i v n h =
-    let rest = 512 - length (p ++ (v ∷ [])) in
-    let one : 512 - length p ≡ suc rest = omega (arith, length-append p (v ∷ [])) in
+    let rest = copySize - length (p ++ (v ∷ [])) in
+    let one : copySize - length p ≡ suc rest = omega (arith, length-append p (v ∷ [])) in
     rw one (set-at p 0 (replicate rest 0) v i n ∙ sym (append-snoc p v (replicate rest 0)))
 
 module _ (s : List ℕ) (i : ℕ) where
-  pub padded-next : i < length s → i < 512 → set (padded (take i s)) i (getD s i 0) ≡ padded (take (i + 1) s)
+  pub padded-next : i < length s → i < copySize → set (padded (take i s)) i (getD s i 0) ≡ padded (take (i + 1) s)
   padded-next h l = padded-store (take i s) i (getD s i 0) (length-take-le i s (omega arith)) l ∙ rw (add-one i, take-suc s i 0 h)
 
   pub padded-all : length s ≤ i → padded (take i s) ≡ padded s

@@ -12,7 +12,7 @@ use lib.Seq.{slice, take-length}
 use borrow.Author.Tests.{le-ltb, leb-true}
 use Rattle.words.specs.Nul.{untilNul}
 use Rattle.words.proofs.Choice.{and-left, and-right}
-use Rattle.dump.specs.Structure.{version, sections, statusFlags, firstSection, sectionsEnd, pathOffset, goodHeader, eachSection, goodPath, goodStructure}
+use Rattle.dump.specs.Structure.{headerSize, sectionSize, sectionLimit, version, sections, statusFlags, firstSection, sectionsEnd, pathOffset, goodHeader, eachSection, goodPath, goodStructure}
 
 -- ---- sections one after the other
 
@@ -24,7 +24,7 @@ module _ (test : ℕ → Bool) where
   each-none (suc n) at h = absurd (omega arith)
 
   -- the first of them and the others
-  each-step : (n at : ℕ) → 0 < n → eachSection test n at ≡ (test at && eachSection test (n - 1) (at + 40))
+  each-step : (n at : ℕ) → 0 < n → eachSection test n at ≡ (test at && eachSection test (n - 1) (at + sectionSize))
   unfolding eachSection
   each-step zero at h = absurd (omega arith)
   each-step (suc n) at h = rw (sub-one (suc n))
@@ -33,20 +33,20 @@ module _ (test : ℕ → Bool) where
     pub each-bad : test at ≡ false → eachSection test n at ≡ false
     each-bad e = each-step n at more ∙ rw e
 
-    pub each-good : test at ≡ true → eachSection test n at ≡ eachSection test (n - 1) (at + 40)
+    pub each-good : test at ≡ true → eachSection test n at ≡ eachSection test (n - 1) (at + sectionSize)
     each-good e = each-step n at more ∙ rw e
 
 -- ---- the header
 
 -- where the sections of a good header stand
-pub header-bounds : (s : List ℕ) → goodHeader s ≡ true → (40 ≤ firstSection s) × (sectionsEnd s ≤ length s)
+pub header-bounds : (s : List ℕ) → goodHeader s ≡ true → (headerSize ≤ firstSection s) × (sectionsEnd s ≤ length s)
 unfolding goodHeader
 header-bounds s h =
-    let both : (leb 40 (firstSection s) && leb (sectionsEnd s) (length s)) ≡ true = and-right (eqb (statusFlags s) 0) _ (and-right (leb (sections s) 10) _ (and-right (leb 1 (sections s)) _ (and-right (eqb (version s) 1) _ h))) in
-    (leb-true _ _ (and-left _ _ both), leb-true _ _ (and-right (leb 40 (firstSection s)) _ both))
+    let both : (leb headerSize (firstSection s) && leb (sectionsEnd s) (length s)) ≡ true = and-right (eqb (statusFlags s) 0) _ (and-right (leb (sections s) sectionLimit) _ (and-right (leb 1 (sections s)) _ (and-right (eqb (version s) 1) _ h))) in
+    (leb-true _ _ (and-left _ _ both), leb-true _ _ (and-right (leb headerSize (firstSection s)) _ both))
 
--- under 40 bytes there is no room for sections behind the header
-pub short-structure : (s : List ℕ) → length s < 40 → goodStructure s ≡ false
+-- without a header there is no room for sections behind the header
+pub short-structure : (s : List ℕ) → length s < headerSize → goodStructure s ≡ false
 unfolding goodStructure
 short-structure s h = go (goodHeader s) _ refl
   where
@@ -58,7 +58,7 @@ short-structure s h = go (goodHeader s) _ refl
 
 -- a path judged by its offset, the place of its NUL, the length, and where the sections start and end
 abbrev pub judgedPath : ℕ → ℕ → ℕ → ℕ → ℕ → Bool
-judgedPath path nul len first end = leb 40 path && (ltb path nul && (ltb nul len && (ltb nul first || leb end path)))
+judgedPath path nul len first end = leb headerSize path && (ltb path nul && (ltb nul len && (ltb nul first || leb end path)))
 
 -- no path starts at or behind the end
 pub path-outside : (s : List ℕ) → length s ≤ pathOffset s → goodPath s ≡ false

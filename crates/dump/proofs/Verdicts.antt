@@ -15,17 +15,18 @@ use Rattle.dump.specs.declared.registration.Registration.{Registration}
 use Rattle.dump.specs.declared.registration.Verdict.{Verdict}
 use Rattle.dump.specs.declared.registration.Verdict.the-variants.{Done, Parameter, AlreadyRegistered, DumpActive}
 use Rattle.dump.specs.declared.registration.Configured.{Configured}
-use Rattle.dump.specs.Registration.{isDone, padded, noRegistration, registered, structureAt, acceptable, verdictOf, registrationAfter, configured}
+use Rattle.dump.specs.Structure.{headerSize}
+use Rattle.dump.specs.Registration.{copySize, isDone, padded, noRegistration, registered, structureAt, acceptable, verdictOf, registrationAfter, configured}
 
 -- an acceptable structure fits into a copy, and stands inside memory
 module _ (m : List ℕ) (address len : ℕ) (good : acceptable m address len ≡ true) where
-  pub acceptable-short : len ≤ 512
+  pub acceptable-short : len ≤ copySize
   unfolding acceptable
-  acceptable-short = leb-true len 512 (and-left (leb len 512) _ (and-right (leb 40 len) _ good))
+  acceptable-short = leb-true len copySize (and-left (leb len copySize) _ (and-right (leb headerSize len) _ good))
 
   pub acceptable-inside : address + len ≤ length m
   unfolding acceptable
-  acceptable-inside = leb-true (address + len) (length m) (and-left (leb (address + len) (length m)) _ (and-right (leb len 512) _ (and-right (leb 40 len) _ good)))
+  acceptable-inside = leb-true (address + len) (length m) (and-left (leb (address + len) (length m)) _ (and-right (leb len copySize) _ (and-right (leb headerSize len) _ good)))
 
   -- the registration with a copy of it
   pub registered-is : (copy : List ℕ) → copy ≡ padded (take (address + len - address) (drop address m)) → record { phase = Registered; len = len; copy = copy } ≡ registered (structureAt m address len)
@@ -115,12 +116,12 @@ done-acceptable m address len Unregistered e = go (acceptable m address len) e
     go false h = h
 
 -- no command makes a length above the copy's
-pub registration-short : (m : List ℕ) (command address len : ℕ) (r : Registration) → r .len ≤ 512 → registrationAfter m command address len r .len ≤ 512
+pub registration-short : (m : List ℕ) (command address len : ℕ) (r : Registration) → r .len ≤ copySize → registrationAfter m command address len r .len ≤ copySize
 unfolding registrationAfter
 registration-short m command address len r h =
-    choose (isDone (verdictOf m command address len (r .phase))) (λ (x : Registration). x .len ≤ 512)
-    (λ d. choose (eqb command 1) (λ (x : Registration). x .len ≤ 512) (λ e. copy-short (rw (eqb-true command 1 e) at d)) (λ _. omega arith))
+    choose (isDone (verdictOf m command address len (r .phase))) (λ (x : Registration). x .len ≤ copySize)
+    (λ d. choose (eqb command 1) (λ (x : Registration). x .len ≤ copySize) (λ e. copy-short (rw (eqb-true command 1 e) at d)) (λ _. omega arith))
     (λ _. h)
   where
-    copy-short : isDone (verdictOf m 1 address len (r .phase)) ≡ true → length (structureAt m address len) ≤ 512
+    copy-short : isDone (verdictOf m 1 address len (r .phase)) ≡ true → length (structureAt m address len) ≤ copySize
     copy-short d = let short = acceptable-short m address len (done-acceptable m address len (r .phase) d) in simp length-take (omega arith)

@@ -10,7 +10,7 @@ use Rattle.dump.specs.declared.registration.Registration.{Registration}
 use Rattle.dump.specs.declared.registration.Verdict.{Verdict}
 use Rattle.dump.specs.declared.registration.Verdict.the-variants.{Done, Parameter, AlreadyRegistered, DumpActive}
 use Rattle.dump.specs.declared.registration.Configured.{Configured}
-use Rattle.dump.specs.Structure.{goodStructure}
+use Rattle.dump.specs.Structure.{headerSize, goodStructure}
 
 abbrev pub isNone : Phase → Bool
 isNone Unregistered = true
@@ -33,13 +33,17 @@ isDone Parameter = false
 isDone AlreadyRegistered = false
 isDone DumpActive = false
 
+-- the bytes of a copy
+abbrev pub copySize : ℕ
+copySize = 512
+
 -- 01: "space past a copy is zero"
 unfoldable pub padded : List ℕ → List ℕ
-padded s = s ++ replicate (512 - length s) 0
+padded s = s ++ replicate (copySize - length s) 0
 
 -- 01: "none holds an empty one"
 abbrev pub noRegistration : Registration
-noRegistration = record { phase = Unregistered; len = 0; copy = replicate 512 0 }
+noRegistration = record { phase = Unregistered; len = 0; copy = replicate copySize 0 }
 
 -- 01: "registered (with a copy of the structure)"
 abbrev pub registered : List ℕ → Registration
@@ -50,7 +54,7 @@ abbrev pub structureAt : List ℕ → ℕ → ℕ → List ℕ
 structureAt m address len = take len (drop address m)
 
 unfoldable pub acceptable : List ℕ → ℕ → ℕ → Bool
-acceptable m address len = leb 40 len && (leb len 512 && (leb (address + len) (length m) && goodStructure (structureAt m address len)))
+acceptable m address len = leb headerSize len && (leb len copySize && (leb (address + len) (length m) && goodStructure (structureAt m address len)))
 
 -- 01: "Order: command 1 to 3 (-3); active and command 1 or 2 (-10); registered and command 1 (-9); command 2 when not registered, or 3 when
 -- not active (-3)."

@@ -7,6 +7,16 @@ use lib.ListN.{length, drop}
 use Rattle.words.specs.Numbers.{be16, be32, be64}
 use Rattle.words.specs.Nul.{untilNul}
 
+-- the bytes of a header and of a section, and the most sections
+abbrev pub headerSize : ℕ
+headerSize = 40
+
+abbrev pub sectionSize : ℕ
+sectionSize = 40
+
+abbrev pub sectionLimit : ℕ
+sectionLimit = 10
+
 -- 01: "version (4 bytes) 1; sections (2) 1 to 10; status flags (2) zero; offset of first section (4); block size (4); first block (8);
 -- blocks (8); path offset (4); milliseconds (4), any."
 abbrev pub version : List ℕ → ℕ
@@ -35,17 +45,17 @@ pathOffset s = be32 s 32
 
 -- 01: "Sections of 40 bytes follow each other from an offset of at least 40 and end within the length."
 abbrev pub sectionsEnd : List ℕ → ℕ
-sectionsEnd s = firstSection s + 40 * sections s
+sectionsEnd s = firstSection s + sectionSize * sections s
 
 unfoldable pub goodHeader : List ℕ → Bool
 goodHeader s =
     eqb (version s) 1
-    && (leb 1 (sections s) && (leb (sections s) 10 && (eqb (statusFlags s) 0 && (leb 40 (firstSection s) && leb (sectionsEnd s) (length s)))))
+    && (leb 1 (sections s) && (leb (sections s) sectionLimit && (eqb (statusFlags s) 0 && (leb headerSize (firstSection s) && leb (sectionsEnd s) (length s)))))
 
 -- n sections from an offset on, each of which passes a test
 unfoldable pub eachSection : (ℕ → Bool) → ℕ → ℕ → Bool
 eachSection test zero at = true
-eachSection test (suc n) at = test at && eachSection test n (at + 40)
+eachSection test (suc n) at = test at && eachSection test n (at + sectionSize)
 
 -- 01: "request flags (4), 0 or 0x00000001; type (2), 1, 2, 0x11, 0x12 or 0x100 and up; error flags (2) zero; source (8), requested (8);
 -- actual (8) zero; destination (8)."
@@ -69,7 +79,7 @@ pathEnd s = pathOffset s + length (untilNul (drop (pathOffset s) s))
 
 unfoldable pub goodPath : List ℕ → Bool
 goodPath s =
-    leb 40 (pathOffset s)
+    leb headerSize (pathOffset s)
     && (ltb (pathOffset s) (pathEnd s) && (ltb (pathEnd s) (length s) && (ltb (pathEnd s) (firstSection s) || leb (sectionsEnd s) (pathOffset s))))
 
 unfoldable pub goodStructure : List ℕ → Bool

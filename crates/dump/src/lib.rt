@@ -2,6 +2,7 @@
 mod registration;
 mod structure;
 
+pub use registration::COPY_SIZE;
 pub use registration::Configured;
 pub use registration::Phase;
 pub use registration::Registration;

@@ -3,8 +3,12 @@ ghost use mathlib.Core.Path.{_≡_};
 ghost use mathlib.Core.List.{[]};
 ghost use Prim.Native.Nat.{_≤_};
 ghost use lib.ListN.{length};
-ghost use Rattle.dump.specs.Registration.{acceptable, padded, noRegistration, configured};
+ghost use Rattle.dump.specs.Registration.{copySize, acceptable, padded, noRegistration, configured};
+use crate::structure::HEADER_SIZE;
 use crate::structure::is_structure;
+
+// The bytes of a copy.
+pub const COPY_SIZE: usize = 512;
 
 pub enum Phase {
     Unregistered,
@@ -16,7 +20,7 @@ pub enum Phase {
 pub struct Registration {
     pub phase: Phase,
     pub len: usize,
-    pub copy: [u8; 512],
+    pub copy: [u8; COPY_SIZE],
 }
 
 // What comes of a command.
@@ -40,16 +44,16 @@ pub fn no_registration() -> Registration
     Registration {
         phase: Phase::Unregistered,
         len: 0,
-        copy: [0; 512],
+        copy: [0; COPY_SIZE],
     }
 }
 
 // The bytes of a structure, and zero bytes behind them.
-fn copied(s: &[u8]) -> [u8; 512]
-    requires { ⌜ length (now s) ≤ 512 ⌝ }
+fn copied(s: &[u8]) -> [u8; COPY_SIZE]
+    requires { ⌜ length (now s) ≤ copySize ⌝ }
     ensures { λ r. ⌜ r ≡ padded (now (s .entry)) ⌝ }
 {
-    let mut copy = [0u8; 512];
+    let mut copy = [0u8; COPY_SIZE];
     let mut i: usize = 0;
     while i < s.len() {
         copy[i] = s[i];
@@ -62,14 +66,15 @@ fn copied(s: &[u8]) -> [u8; 512]
 fn is_acceptable(memory: &[u8], address: u32, len: u32) -> bool
     ensures { λ r. ⌜ r ≡ acceptable (now (memory .entry)) address len ⌝ }
 {
-    if len < 40 {
+    let n = len as usize;
+    if n < HEADER_SIZE {
         return false;
     }
-    if 512 < len {
+    if COPY_SIZE < n {
         return false;
     }
     let at = address as usize;
-    let end = at + len as usize;
+    let end = at + n;
     if memory.len() < end {
         return false;
     }

@@ -2,12 +2,19 @@
 ghost use mathlib.Core.Path.{_≡_};
 ghost use Prim.Native.Nat.{_+_, _*_, _≤_};
 ghost use lib.ListN.{length};
-ghost use Rattle.dump.specs.Structure.{sections, firstSection, sectionsEnd, goodHeader, eachSection, goodType, goodSection, requested, withoutDisk, goodPath, goodStructure};
+ghost use Rattle.dump.specs.Structure.{headerSize, sectionSize, sections, firstSection, sectionsEnd, goodHeader, eachSection, goodType, goodSection, requested, withoutDisk, goodPath, goodStructure};
 ghost use Rattle.dump.specs.Claims.{StructureCases};
+
+// The bytes of a header and of a section, and the most sections.
+pub const HEADER_SIZE: usize = 40;
+
+const SECTION_SIZE: usize = 40;
+
+const SECTION_LIMIT: usize = 10;
 
 // Whether the header's numbers are good and the sections end within the length.
 fn is_header(s: &[u8]) -> bool
-    requires { ⌜ 40 ≤ length (now s) ⌝ }
+    requires { ⌜ headerSize ≤ length (now s) ⌝ }
     ensures { λ r. ⌜ r ≡ goodHeader (now (s .entry)) ⌝ }
 {
     if words::read_be32(s, 0) != 1 {
@@ -17,17 +24,17 @@ fn is_header(s: &[u8]) -> bool
     if sections < 1 {
         return false;
     }
-    if 10 < sections {
+    if SECTION_LIMIT < sections {
         return false;
     }
     if words::read_be16(s, 6) != 0 {
         return false;
     }
     let first = words::read_be32(s, 8) as usize;
-    if first < 40 {
+    if first < HEADER_SIZE {
         return false;
     }
-    first + 40 * sections <= s.len()
+    first + SECTION_SIZE * sections <= s.len()
 }
 
 fn is_type(kind: u16) -> bool
@@ -49,7 +56,7 @@ fn is_type(kind: u16) -> bool
 }
 
 fn is_section(s: &[u8], at: usize) -> bool
-    requires { ⌜ at + 40 ≤ length (now s) ⌝ }
+    requires { ⌜ at + sectionSize ≤ length (now s) ⌝ }
     ensures { λ r. ⌜ r ≡ goodSection (now (s .entry)) at ⌝ }
 {
     if 1 < words::read_be32(s, at) {
@@ -66,7 +73,7 @@ fn is_section(s: &[u8], at: usize) -> bool
 
 // Whether so many sections from an offset on are good.
 fn are_sections(s: &[u8], first: usize, count: usize) -> bool
-    requires { ⌜ first + 40 * count ≤ length (now s) ⌝ }
+    requires { ⌜ first + sectionSize * count ≤ length (now s) ⌝ }
     ensures { λ r. ⌜ r ≡ eachSection (goodSection (now (s .entry))) count first ⌝ }
 {
     let mut at = first;
@@ -75,7 +82,7 @@ fn are_sections(s: &[u8], first: usize, count: usize) -> bool
         if !is_section(s, at) {
             return false;
         }
-        at += 40;
+        at += SECTION_SIZE;
         left -= 1;
     }
     true
@@ -83,7 +90,7 @@ fn are_sections(s: &[u8], first: usize, count: usize) -> bool
 
 // Whether so many sections from an offset on have request flag 1.
 fn are_requested(s: &[u8], first: usize, count: usize) -> bool
-    requires { ⌜ first + 40 * count ≤ length (now s) ⌝ }
+    requires { ⌜ first + sectionSize * count ≤ length (now s) ⌝ }
     ensures { λ r. ⌜ r ≡ eachSection (requested (now (s .entry))) count first ⌝ }
 {
     let mut at = first;
@@ -92,7 +99,7 @@ fn are_requested(s: &[u8], first: usize, count: usize) -> bool
         if words::read_be32(s, at) != 1 {
             return false;
         }
-        at += 40;
+        at += SECTION_SIZE;
         left -= 1;
     }
     true
@@ -100,7 +107,7 @@ fn are_requested(s: &[u8], first: usize, count: usize) -> bool
 
 // Whether a structure with block size 0 has no other sign of a disk.
 fn is_without_disk(s: &[u8], first: usize, count: usize) -> bool
-    requires { ⌜ (40 ≤ length (now s)) × (first ≡ firstSection (now s)) × (count ≡ sections (now s)) × (sectionsEnd (now s) ≤ length (now s)) ⌝ }
+    requires { ⌜ (headerSize ≤ length (now s)) × (first ≡ firstSection (now s)) × (count ≡ sections (now s)) × (sectionsEnd (now s) ≤ length (now s)) ⌝ }
     ensures { λ r. ⌜ r ≡ withoutDisk (now (s .entry)) ⌝ }
 {
     if words::read_be64(s, 16) != 0 {
@@ -117,11 +124,11 @@ fn is_without_disk(s: &[u8], first: usize, count: usize) -> bool
 
 // Whether the path is good beside sections from one offset up to another.
 fn is_path(s: &[u8], first: usize, end: usize) -> bool
-    requires { ⌜ (40 ≤ length (now s)) × (first ≡ firstSection (now s)) × (end ≡ sectionsEnd (now s)) ⌝ }
+    requires { ⌜ (headerSize ≤ length (now s)) × (first ≡ firstSection (now s)) × (end ≡ sectionsEnd (now s)) ⌝ }
     ensures { λ r. ⌜ r ≡ goodPath (now (s .entry)) ⌝ }
 {
     let path = words::read_be32(s, 32) as usize;
-    if path < 40 {
+    if path < HEADER_SIZE {
         return false;
     }
     if s.len() <= path {
@@ -145,7 +152,7 @@ pub fn is_structure(s: &[u8]) -> bool
     ensures { λ r. ⌜ r ≡ goodStructure (now (s .entry)) ⌝ }
     ensures cases { λ _. ⌜ StructureCases ⌝ }
 {
-    if s.len() < 40 {
+    if s.len() < HEADER_SIZE {
         return false;
     }
     if !is_header(s) {
@@ -159,5 +166,5 @@ pub fn is_structure(s: &[u8]) -> bool
     if words::read_be32(s, 12) == 0 {
         return is_without_disk(s, first, sections);
     }
-    is_path(s, first, first + 40 * sections)
+    is_path(s, first, first + SECTION_SIZE * sections)
 }

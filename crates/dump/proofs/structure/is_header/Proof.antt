@@ -2,7 +2,7 @@
 use mathlib.Core.Bool.{and-false}
 use borrow.Author.Needs.{needs}
 use borrow.Author.Tests.{le-leb, lt-leb, eq-eqb, ne-eqb}
-use Rattle.dump.specs.Structure.{goodHeader}
+use Rattle.dump.specs.Structure.{headerSize, sectionLimit, goodHeader}
 use Rattle.dump.proofs.structure.is_header.Statement.{statement}
 use Rattle.dump.proofs.structure.is_header.Tie as tie
 
@@ -25,7 +25,7 @@ returns-2 c = simp (← c .before .read-be16 .ensures, lt-leb 1 _ (c .if2 .taken
 
 returns-3 : tie.Need-returns-3
 unfolding goodHeader
-returns-3 c = simp (← c .before .before .read-be16 .ensures, lt-leb _ 10 (c .if3 .taken), and-false)
+returns-3 c = simp (← c .before .before .read-be16 .ensures, lt-leb _ sectionLimit (c .if3 .taken), and-false)
 
 read-be16-requires-2 : tie.Need-read-be16-requires-2
 read-be16-requires-2 c κs = search needs
@@ -42,7 +42,7 @@ cast-first c = search needs
 
 returns-5 : tie.Need-returns-5
 unfolding goodHeader
-returns-5 c = simp (← c .before .read-be322 .ensures, lt-leb 40 _ (c .if5 .taken), and-false)
+returns-5 c = simp (← c .before .read-be322 .ensures, lt-leb headerSize _ (c .if5 .taken), and-false)
 
 mul-result : tie.Need-mul-result
 mul-result c = search needs
@@ -60,9 +60,9 @@ returns-6 c =
       ← c .before .read-be322 .ensures,
       eq-eqb _ 1 (c .before .before .before .before .before .before .before .if1 .left),
       le-leb 1 _ (c .before .before .before .before .before .if2 .left),
-      le-leb _ 10 (c .before .before .before .before .if3 .left),
+      le-leb _ sectionLimit (c .before .before .before .before .if3 .left),
       eq-eqb _ 0 (c .before .before .if4 .left),
-      le-leb 40 _ (c .if5 .left),
+      le-leb headerSize _ (c .if5 .left),
     )
 
 pub is-header-spec : {M : Type 1} → statement M

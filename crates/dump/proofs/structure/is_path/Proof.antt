@@ -5,7 +5,7 @@ use lib.ListN.{length}
 use borrow.Author.Needs.{needs}
 use borrow.Author.Tests.{lt-ltb, le-ltb, le-leb, lt-leb}
 use denote.Ref.{now}
-use Rattle.dump.specs.Structure.{goodPath}
+use Rattle.dump.specs.Structure.{headerSize, goodPath}
 use Rattle.dump.proofs.StructureLaws.{judgedPath, path-outside, path-read}
 use Rattle.dump.proofs.structure.is_path.Statement.{statement}
 use Rattle.dump.proofs.structure.is_path.Tie as tie
@@ -18,7 +18,7 @@ cast-path c = search needs
 
 returns : tie.Need-returns
 unfolding goodPath
-returns c = rw (← c .before .read-be32 .ensures, lt-leb 40 _ (c .if1 .taken))
+returns c = rw (← c .before .read-be32 .ensures, lt-leb headerSize _ (c .if1 .taken))
 
 returns-2 : tie.Need-returns-2
 returns-2 c = rw (path-outside (now (c .before .before .before .before .args .s)) (rw (← c .before .before .read-be32 .ensures) (c .if2 .taken)))
@@ -37,10 +37,10 @@ returns-4 : tie.Need-returns-4
 returns-4 c = simp (found (c .before .before), le-ltb _ _ (c .if4 .taken), and-false)
 
 returns-5 : tie.Need-returns-5
-returns-5 c = rw (found (c .before .before .before), le-leb 40 _ (c .before .before .before .before .before .if1 .left), lt-ltb _ _ (c .before .before .if3 .left), lt-ltb _ _ (c .before .if4 .left), lt-ltb _ _ (c .if5 .taken))
+returns-5 c = rw (found (c .before .before .before), le-leb headerSize _ (c .before .before .before .before .before .if1 .left), lt-ltb _ _ (c .before .before .if3 .left), lt-ltb _ _ (c .before .if4 .left), lt-ltb _ _ (c .if5 .taken))
 
 returns-6 : tie.Need-returns-6
-returns-6 c = rw (found (c .before .before .before), le-leb 40 _ (c .before .before .before .before .before .if1 .left), lt-ltb _ _ (c .before .before .if3 .left), lt-ltb _ _ (c .before .if4 .left), le-ltb _ _ (c .if5 .left))
+returns-6 c = rw (found (c .before .before .before), le-leb headerSize _ (c .before .before .before .before .before .if1 .left), lt-ltb _ _ (c .before .before .if3 .left), lt-ltb _ _ (c .before .if4 .left), le-ltb _ _ (c .if5 .left))
 
 pub is-path-spec : {M : Type 1} → statement M
 is-path-spec =
