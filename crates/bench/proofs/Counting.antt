@@ -12,7 +12,7 @@ use Rattle.journal.specs.Reportable.{chosen, reportable, countsOf, judgementOf}
 use Rattle.inventory.specs.declared.scanning.Judgement as inventory-judgement
 use Rattle.inventory.specs.declared.scanning.Judgement.the-variants as inventory-variants
 use Rattle.inventory.specs.Inventory as inventory
-use Rattle.inventory.specs.Scanning.{Tells}
+use Rattle.inventory.specs.Scanning.{ScanFinds}
 use Rattle.bench.specs.Bench.{listedOf}
 use Rattle.words.proofs.Choice.{choose}
 use Rattle.journal.proofs.Entries.{operations-few}
@@ -53,11 +53,11 @@ module _ (row j : List ℕ) where
 
 -- ---- the judgement of an inventory as a number
 
-module _ (flag kind number : ℕ) (i : List ℕ) (g : inventory-judgement.Judgement) (told : Tells flag kind number i g) where
-  pub none-listed : g ≡ inventory-variants.Malformed → 18446744073709551615 ≡ listedOf flag kind i
+module _ (flag type number : ℕ) (i : List ℕ) (g : inventory-judgement.Judgement) (told : ScanFinds flag type number i g) where
+  pub none-listed : g ≡ inventory-variants.Malformed → 18446744073709551615 ≡ listedOf flag type i
   unfolding listedOf
   none-listed e = let t : inventory.wellFormed i ≡ false = rw e at told in rw t
 
-  pub some-listed : (count due : ℕ) → g ≡ inventory-variants.Counted count due → count ≡ listedOf flag kind i
+  pub some-listed : (count due : ℕ) → g ≡ inventory-variants.Counted count due → count ≡ listedOf flag type i
   unfolding listedOf
-  some-listed count due e = let t : Tells flag kind number i (inventory-variants.Counted count due) = rw e at told in rw (t .0) (t .1)
+  some-listed count due e = let t : ScanFinds flag type number i (inventory-variants.Counted count due) = rw e at told in rw (t .0) (t .1)

@@ -15,4 +15,4 @@ reportedOf scope j = cond (wellFormed j) (length (reportable (rowOf scope) j)) 1
 
 -- the number of entries of a flag and type, or the highest number for a malformed inventory
 unfoldable pub listedOf : ℕ → ℕ → List ℕ → ℕ
-listedOf flag kind i = cond (inventory.wellFormed i) (length (listed flag kind i)) 18446744073709551615
+listedOf flag type i = cond (inventory.wellFormed i) (length (listed flag type i)) 18446744073709551615

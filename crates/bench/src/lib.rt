@@ -24,12 +24,12 @@ pub extern "C" fn draugsten_bench_scan(journal: &[u8], scope: u32) -> u64
 pub extern "C" fn draugsten_bench_inventory(
     inventory: &[u8],
     flag: u32,
-    kind: u32,
+    item_type: u32,
     number: u32,
 ) -> u64
-    ensures { λ r. ⌜ r ≡ listedOf flag kind (now (inventory .entry)) ⌝ }
+    ensures { λ r. ⌜ r ≡ listedOf flag «item_type» (now (inventory .entry)) ⌝ }
 {
-    let found = inventory::scan(inventory, flag, kind, StartingNumber(number));
+    let found = inventory::scan(inventory, flag, item_type, StartingNumber(number));
     match found {
         inventory::Judgement::Malformed => 18446744073709551615,
         inventory::Judgement::Counted(count, due) => count as u64,

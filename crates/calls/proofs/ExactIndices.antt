@@ -97,7 +97,7 @@ module _ (m i : List ℕ) (q : Request) where
   abbrev due : Bool
   due = dueFits (q .size) (drop (numberIn q - 1) es)
 
-  status-is : indicesStatus m i q ≡ ladder (askable (q .flag) (q .kind)) (lendable m (q .address) (q .size)) (wellFormed i) (goodNumber (numberIn q) es) due (moreEntries i q)
+  status-is : indicesStatus m i q ≡ ladder (askable (q .flag) (q .«item_type»)) (lendable m (q .address) (q .size)) (wellFormed i) (goodNumber (numberIn q) es) due (moreEntries i q)
   unfolding indicesStatus listStatus
   status-is = refl
 
@@ -108,33 +108,33 @@ module _ (m i : List ℕ) (q : Request) where
   there : (1 ≤ numberIn q) × (numberIn q ≤ length es) → 1 ≤ length (drop (numberIn q - 1) es)
   there h = omega (arith, length-drop (numberIn q - 1) es)
 
-  answered : Exactly (status ≤ 1) (exact.Asked m (q .flag) (q .kind) (q .address) (q .size) × exact.Passed i es (q .size) (numberIn q))
+  answered : Exactly (status ≤ 1) (exact.Asked m (q .flag) (q .«item_type») (q .address) (q .size) × exact.Passed i es (q .size) (numberIn q))
   answered = (
     (λ h.
         let p = passed h in
         let n = number-exact (numberIn q) es .0 (p .numbered) in (
-          asked-exact m (q .flag) (q .kind) (q .address) (q .size) .0 (rw (p .askable-is) (p .lent)),
+          asked-exact m (q .flag) (q .«item_type») (q .address) (q .size) .0 (rw (p .askable-is) (p .lent)),
           record { formed = p .formed; listed = n .0; from-one = n .1 .0; to-last = n .1 .1; due = due-exact (q .size) (drop (numberIn q - 1) es) (there (n .1)) .0 (p .due) },
         )),
     (λ h.
-        let a = asked-exact m (q .flag) (q .kind) (q .address) (q .size) .1 (h .0) in
+        let a = asked-exact m (q .flag) (q .«item_type») (q .address) (q .size) .1 (h .0) in
         let c = h .1 in
         at-most status 1 .0 (indices-answers m i q (record {
           askable-is = and-left _ _ a;
-          lent = and-right (askable (q .flag) (q .kind)) _ a;
+          lent = and-right (askable (q .flag) (q .«item_type»)) _ a;
           formed = c .formed;
           numbered = number-exact (numberIn q) es .1 (c .listed, (c .from-one, c .to-last));
           due = due-exact (q .size) (drop (numberIn q - 1) es) (there (c .from-one, c .to-last)) .1 (c .due);
         }))),
   )
 
-  malformed : Exactly (status ≡ minus 1) (exact.Asked m (q .flag) (q .kind) (q .address) (q .size) × (wellFormed i ≡ false))
+  malformed : Exactly (status ≡ minus 1) (exact.Asked m (q .flag) (q .«item_type») (q .address) (q .size) × (wellFormed i ≡ false))
   malformed =
-      let may = askable (q .flag) (q .kind) in
+      let may = askable (q .flag) (q .«item_type») in
       let lent = lendable m (q .address) (q .size) in
       let test = ap isMalformed status-is ∙ ladder-malformed may lent (wellFormed i) (goodNumber (numberIn q) es) due (moreEntries i q) in
       same (eqb status 4294967295) ((may && lent) && not (wellFormed i)) test (equal status 4294967295)
-      (both (may && lent) (not (wellFormed i)) (asked-exact m (q .flag) (q .kind) (q .address) (q .size)) (fails (wellFormed i)))
+      (both (may && lent) (not (wellFormed i)) (asked-exact m (q .flag) (q .«item_type») (q .address) (q .size)) (fails (wellFormed i)))
 
   module _ (h : status ≤ 1) where
     p : Passed m i q
@@ -142,7 +142,7 @@ module _ (m i : List ℕ) (q : Request) where
 
     few : length (runFor i q) < 4294967296
     unfolding run
-    few = omega (arith, fitting-few (q .size - 4) (drop (numberIn q - 1) es), length-drop (numberIn q - 1) es, listed-few (q .flag) (q .kind) i (p .formed))
+    few = omega (arith, fitting-few (q .size - 4) (drop (numberIn q - 1) es), length-drop (numberIn q - 1) es, listed-few (q .flag) (q .«item_type») i (p .formed))
 
     answers : Bytes i → exact.Answer (partAt m (q .address) (q .size)) (partAt after (q .address) (q .size)) es (runFor i q) (q .size) (numberIn q) status (nextNumber i q)
     unfolding moreEntries nextNumber
@@ -159,13 +159,13 @@ module _ (m i : List ℕ) (q : Request) where
         })
 
   -- the call with the number that an answer gives
-  pub exact-indices : (next : ℕ) → (status ≤ 1 → next ≡ nextNumber i q) → ExactIndices m i (q .flag) (q .kind) (q .address) (q .size) (numberIn q) status next after
+  pub exact-indices : (next : ℕ) → (status ≤ 1 → next ≡ nextNumber i q) → ExactIndices m i (q .flag) (q .«item_type») (q .address) (q .size) (numberIn q) status next after
   unfolding indicesStatus listStatus
   exact-indices next next-is =
       record {
         answered = answered;
         malformed = malformed;
-        otherwise = ladder-otherwise (askable (q .flag) (q .kind)) (lendable m (q .address) (q .size)) (wellFormed i) (goodNumber (numberIn q) es) due (moreEntries i q);
+        otherwise = ladder-otherwise (askable (q .flag) (q .«item_type»)) (lendable m (q .address) (q .size)) (wellFormed i) (goodNumber (numberIn q) es) due (moreEntries i q);
         answers = λ bytes h. rw (next-is h) (answers h bytes);
         memory = λ h. indices-memory m i q (passed h);
       }

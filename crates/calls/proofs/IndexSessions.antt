@@ -50,9 +50,9 @@ Names carried k = carried ≡ k + 1
 abbrev Fill : ℕ → ℕ → Type 0
 Fill a k = a ≤ k
 
-module _ (i : List ℕ) (flag kind : ℕ) (bytes : Bytes i) (formed : wellFormed i ≡ true) where
+module _ (i : List ℕ) (flag type : ℕ) (bytes : Bytes i) (formed : wellFormed i ≡ true) where
   abbrev es : List Entry
-  es = listed flag kind i
+  es = listed flag type i
 
   abbrev End : ℕ → Type 0
   End a = a ≤ length es
@@ -68,7 +68,7 @@ module _ (i : List ℕ) (flag kind : ℕ) (bytes : Bytes i) (formed : wellFormed
 
   module _ (st : Standing ℕ) (k : ℕ) (o : Open st k) where
     -- ---- an answered call of the session
-    module _ (c : Found) (yes : isAnswered c ≡ true) (n : Continues i flag kind st c) where
+    module _ (c : Found) (yes : isAnswered c ≡ true) (n : Continues i flag type st c) where
       abbrev handed-run : List Entry
       handed-run = run (input (c .args) 3) (k + 1) es
 
@@ -79,14 +79,14 @@ module _ (i : List ℕ) (flag kind : ℕ) (bytes : Bytes i) (formed : wellFormed
       number-is = n .numbered ∙ o .named
 
       run-is : runFor (c .inventory) (requestOf (c .args)) ≡ handed-run
-      run-is = rw (n .of-flag, n .of-kind, n .unchanged, number-is)
+      run-is = rw (n .of-flag, n .of-type, n .unchanged, number-is)
 
       some : 1 ≤ length handed-run
       some = rw run-is at (run-some (c .memory) (c .inventory) (requestOf (c .args)) (left .passed))
 
       more-is : moreEntries (c .inventory) (requestOf (c .args)) ≡ ltb (k + length handed-run) (length es)
       unfolding moreEntries
-      more-is = rw (run-is, n .of-flag, n .of-kind, n .unchanged, number-is, before-is k)
+      more-is = rw (run-is, n .of-flag, n .of-type, n .unchanged, number-is, before-is k)
 
       next-is : k + length handed-run < length es → numberThen c ≡ k + length handed-run + 1
       unfolding nextNumber
@@ -105,11 +105,11 @@ module _ (i : List ℕ) (flag kind : ℕ) (bytes : Bytes i) (formed : wellFormed
           }
 
     -- ---- a well-made call is answered while the session is open
-    module _ (may : askable flag kind ≡ true) (some-entry : 1 ≤ length es) where
+    module _ (may : askable flag type ≡ true) (some-entry : 1 ≤ length es) where
       k-less : k < length es
       k-less = ⊎-elim (λ e. omega arith) (λ e. omega arith) (o .place)
 
-      module _ (c : Found) (m : WellMade i flag kind st c) where
+      module _ (c : Found) (m : WellMade i flag type st c) where
         abbrev address : ℕ
         address = input (c .args) 2
 
@@ -134,17 +134,17 @@ module _ (i : List ℕ) (flag kind : ℕ) (bytes : Bytes i) (formed : wellFormed
 
         due : dueFits room (drop (k + 1 - 1) es) ≡ true
         unfolding run codeLimit
-        due = some-due room (drop (k + 1 - 1) es) (holds-due room (k + 1) es (listed-sound flag kind i formed bytes) (omega (arith, k-less)) (m .large))
+        due = some-due room (drop (k + 1 - 1) es) (holds-due room (k + 1) es (listed-sound flag type i formed bytes) (omega (arith, k-less)) (m .large))
 
         passed : Passed (c .memory) (c .inventory) (requestOf (c .args))
         passed =
             let number : input (c .args) 4 ≡ k + 1 = m .numbered ∙ o .named in
             record {
-              askable-is = rw (m .of-flag, m .of-kind) may;
+              askable-is = rw (m .of-flag, m .of-type) may;
               lent = lent;
               formed = rw (m .unchanged) formed;
-              numbered = rw (m .of-flag, m .of-kind, m .unchanged, number) good-number;
-              due = rw (m .of-flag, m .of-kind, m .unchanged, number) due;
+              numbered = rw (m .of-flag, m .of-type, m .unchanged, number) good-number;
+              due = rw (m .of-flag, m .of-type, m .unchanged, number) due;
             }
 
         answers : isAnswered c ≡ true
@@ -152,7 +152,7 @@ module _ (i : List ℕ) (flag kind : ℕ) (bytes : Bytes i) (formed : wellFormed
 
   -- ---- the account of a session
 
-  open-handed : (st : Standing ℕ) (k : ℕ) → Open st k → HandedOut i flag kind es st
+  open-handed : (st : Standing ℕ) (k : ℕ) → Open st k → HandedOut i flag type es st
   unfolding handedOut
   open-handed st k o = record {
     handed = rw (o .unfinished, o .named, before-is k) (o .handed);
@@ -160,17 +160,17 @@ module _ (i : List ℕ) (flag kind : ℕ) (bytes : Bytes i) (formed : wellFormed
     answers = λ may some _. answers st k o may some;
   }
 
-  closed-handed : (st : Standing ℕ) → session.Closed numberThen areaThen reading es Names Fill End st → HandedOut i flag kind es st
+  closed-handed : (st : Standing ℕ) → session.Closed numberThen areaThen reading es Names Fill End st → HandedOut i flag type es st
   unfolding handedOut
   closed-handed st c = record { handed = rw (c .finished, take-all (length es) es (omega arith)) (c .handed); bounded = c .ends; answers = λ _ _ e. absurd (true≢false (sym (c .finished) ∙ e)) }
 
-  handed-out : (cs : List Found) → Session i flag kind cs → HandedOut i flag kind es (standing cs)
+  handed-out : (cs : List Found) → Session i flag type cs → HandedOut i flag type es (standing cs)
   handed-out cs h = ⊎-elim (λ o. open-handed (standing cs) (o .0) (o .1)) (closed-handed (standing cs))
-      (session.stands numberThen areaThen reading es Names Fill End (Continues i flag kind) (λ st c n. n .unfinished) step start cs begins h)
+      (session.stands numberThen areaThen reading es Names Fill End (Continues i flag type) (λ st c n. n .unfinished) step start cs begins h)
 
-  ends : (cs : List Found) → Session i flag kind cs → Ends i flag kind es cs
-  ends cs h may some n a l = session.session-ends numberThen areaThen reading es Names Fill End (Continues i flag kind) (λ st c m. m .unfinished) step (WellMade i flag kind) (λ st k o. answers st k o may some) start cs n
+  ends : (cs : List Found) → Session i flag type cs → Ends i flag type es cs
+  ends cs h may some n a l = session.session-ends numberThen areaThen reading es Names Fill End (Continues i flag type) (λ st c m. m .unfinished) step (WellMade i flag type) (λ st k o. answers st k o may some) start cs n
       (λ b k f p g. ⊎-elim (λ e. omega arith) (λ e. omega arith) p) begins h a
 
 pub whole-list : WholeList
-whole-list i flag kind bytes formed cs h = (handed-out i flag kind bytes formed cs h, ends i flag kind bytes formed cs h)
+whole-list i flag type bytes formed cs h = (handed-out i flag type bytes formed cs h, ends i flag type bytes formed cs h)

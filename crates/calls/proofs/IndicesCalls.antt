@@ -26,7 +26,7 @@ use Rattle.calls.proofs.Requests.{Passed, passed-is, indices-status, in
 next-fits : (i : List ℕ) (q : Request) → wellFormed i ≡ true → nextNumber i q < 4294967296
 unfolding nextNumber moreEntries
 next-fits i q w = choose (moreEntries i q) (λ (n : ℕ). n < 4294967296)
-    (λ e. omega (arith, ltb-true (numberIn q - 1 + length (runFor i q)) (length (entriesFor i q)) e, listed-few (q .flag) (q .kind) i w))
+    (λ e. omega (arith, ltb-true (numberIn q - 1 + length (runFor i q)) (length (entriesFor i q)) e, listed-few (q .flag) (q .«item_type») i w))
     (λ _. omega arith)
 
 module _ (c : Found) where

@@ -61,7 +61,7 @@ some-due size es h = due-run size es ∙ le-leb 1 _ h
 module _ (m i : List ℕ) (q : Request) where
   -- all checks are passed
   pub record Passed : Type 0 where
-    pub askable-is : askable (q .flag) (q .kind) ≡ true
+    pub askable-is : askable (q .flag) (q .«item_type») ≡ true
     pub lent : lendable m (q .address) (q .size) ≡ true
     pub formed : wellFormed i ≡ true
     pub numbered : goodNumber (numberIn q) (entriesFor i q) ≡ true
@@ -74,7 +74,7 @@ module _ (m i : List ℕ) (q : Request) where
   pub passed-is : Checked (indicesStatus m i q)
   unfolding indicesStatus listStatus
   passed-is =
-      choose (askable (q .flag) (q .kind)) Checked
+      choose (askable (q .flag) (q .«item_type»)) Checked
       (λ e₁. choose (lendable m (q .address) (q .size)) Checked
       (λ e₂. choose (wellFormed i) Checked
       (λ e₃. choose (goodNumber (numberIn q) (entriesFor i q)) Checked
@@ -128,7 +128,7 @@ module _ (m i : List ℕ) (q : Request) where
     left-is = ap (λ (l : List ℕ). partAt l (q .address) (q .size)) (indices-memory p) ∙ part-stored m (q .address) (q .size) inside areaAfter after-length
 
     pub reads-back : Bytes i → reading (partAt (indicesMemory m i q) (q .address) (q .size)) ≡ read (runFor i q)
-    reads-back bytes = ap reading left-is ∙ indices-written.reads-back areaBefore i (q .flag) (q .kind) (q .size) (numberIn q) bytes (p .formed)
+    reads-back bytes = ap reading left-is ∙ indices-written.reads-back areaBefore i (q .flag) (q .«item_type») (q .size) (numberIn q) bytes (p .formed)
 
   ways : (P : List ℕ → Type 0) → (Passed → P (withPart m (q .address) (q .size) areaAfter)) → P m → P (indicesMemory m i q)
   ways P f g = decide (isAnswer (indicesStatus m i q)) (λ e. let p = passed-is e in rw (indices-memory p) (f p)) (λ e. rw (indices-refused e) g)

@@ -70,17 +70,17 @@ indices-witness =
       may = refl;
       some = leb-true 1 2 refl;
       session = (
-        (λ e. record { unfinished = refl; unchanged = refl; indices = refl; of-flag = refl; of-kind = refl; numbered = refl }),
+        (λ e. record { unfinished = refl; unchanged = refl; indices = refl; of-flag = refl; of-type = refl; numbered = refl }),
         (
           (λ e. absurd (false≢true e)),
-          ((λ e. record { unfinished = refl; unchanged = refl; indices = refl; of-flag = refl; of-kind = refl; numbered = refl }), tt),
+          ((λ e. record { unfinished = refl; unchanged = refl; indices = refl; of-flag = refl; of-type = refl; numbered = refl }), tt),
         ),
       );
       refused = refl;
       well-made =
-          counted {c = indicesCall 0 1} (record { unchanged = refl; indices = refl; five-inputs = refl; two-outputs = refl; whole = omega arith; of-flag = refl; of-kind = refl; numbered = refl; large = omega arith; below = omega arith; inside = omega arith })
+          counted {c = indicesCall 0 1} (record { unchanged = refl; indices = refl; five-inputs = refl; two-outputs = refl; whole = omega arith; of-flag = refl; of-type = refl; numbered = refl; large = omega arith; below = omega arith; inside = omega arith })
           (passed
-          (counted {c = indicesCall 8 2} (record { unchanged = refl; indices = refl; five-inputs = refl; two-outputs = refl; whole = omega arith; of-flag = refl; of-kind = refl; numbered = refl; large = omega arith; below = omega arith; inside = omega arith })
+          (counted {c = indicesCall 8 2} (record { unchanged = refl; indices = refl; five-inputs = refl; two-outputs = refl; whole = omega arith; of-flag = refl; of-type = refl; numbered = refl; large = omega arith; below = omega arith; inside = omega arith })
           none));
       enough = leb-true 2 2 refl;
       ended = refl;

@@ -88,7 +88,7 @@ nodesOutcome f =
 
 -- 01, get-indices: "Inputs: indicator (0) or sensor (1), type, address, size, Starting Number. Outputs: status, Next Starting Number."
 abbrev pub requestOf : List ℕ → Request
-requestOf b = record { flag = input b 0; kind = input b 1; address = input b 2; size = input b 3; number = record { 0 = input b 4 } }
+requestOf b = record { flag = input b 0; «item_type» = input b 1; address = input b 2; size = input b 3; number = record { 0 = input b 4 } }
 
 unfoldable pub indicesOutcome : Found → Outcome
 indicesOutcome f =

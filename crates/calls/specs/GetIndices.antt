@@ -15,7 +15,7 @@ use Rattle.calls.specs.Lent.{partAt, withPart}
 
 -- 01: "flag; type not 9001, 9002, 9003 for indicators nor 9003 for sensors"
 unfoldable pub askable : ℕ → ℕ → Bool
-askable flag kind = leb flag 1 && not (eqb kind 9003 || (eqb flag 0 && (eqb kind 9001 || eqb kind 9002)))
+askable flag type = leb flag 1 && not (eqb type 9003 || (eqb flag 0 && (eqb type 9001 || eqb type 9002)))
 
 -- 01: "size at least 4 and address + size at most 2^32 and inside memory"
 unfoldable pub lendable : List ℕ → ℕ → ℕ → Bool
@@ -23,7 +23,7 @@ lendable m address size = leb 4 size && (leb (address + size) 4294967296 && leb 
 
 -- the entries of the flag and type, the Starting Number, and the run from it on
 abbrev pub entriesFor : List ℕ → Request → List Entry
-entriesFor i q = listed (q .flag) (q .kind) i
+entriesFor i q = listed (q .flag) (q .«item_type») i
 
 abbrev pub numberIn : Request → ℕ
 numberIn q = q .number .0
@@ -58,7 +58,7 @@ listStatus i q =
 -- 01: "Order: flag; type ..; size .. and address + size ..; all -3. Then inventory (-1). Then: ..; all -3."
 unfoldable pub indicesStatus : List ℕ → List ℕ → Request → Status
 indicesStatus m i q =
-    cond (askable (q .flag) (q .kind))
+    cond (askable (q .flag) (q .«item_type»))
     (cond (lendable m (q .address) (q .size))
     (listStatus i q)
     Parameter)

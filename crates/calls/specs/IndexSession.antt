@@ -29,30 +29,30 @@ abbrev pub standing : List Found → Standing ℕ
 standing cs = over after start cs
 
 -- An answered call of the session: over the inventory, of the flag and type, with the next number, "up to status 0"
-pub record Continues (i : List ℕ) (flag kind : ℕ) (st : Standing ℕ) (c : Found) : Type 0 where
+pub record Continues (i : List ℕ) (flag type : ℕ) (st : Standing ℕ) (c : Found) : Type 0 where
   pub unfinished : st .done ≡ false
   pub unchanged : c .inventory ≡ i
   pub indices : token (c .args) ≡ 2
   pub of-flag : input (c .args) 0 ≡ flag
-  pub of-kind : input (c .args) 1 ≡ kind
+  pub of-type : input (c .args) 1 ≡ type
   pub numbered : input (c .args) 4 ≡ st .carried
 
 -- a list of calls, each of which is refused, for whatever reason, or continues the session
 abbrev pub Rule : List ℕ → ℕ → ℕ → Standing ℕ → Found → Type 0
-Rule i flag kind st c = isAnswered c ≡ true → Continues i flag kind st c
+Rule i flag type st c = isAnswered c ≡ true → Continues i flag type st c
 
 abbrev pub Session : List ℕ → ℕ → ℕ → List Found → Type 0
-Session i flag kind cs = Each after (Rule i flag kind) start cs
+Session i flag type cs = Each after (Rule i flag type) start cs
 
 -- token 2, five inputs and two outputs, whole in its argument buffer, with the flag, the type and the next number; 01: "Areas of 92 bytes or more always hold the entry due."
-pub record WellMade (i : List ℕ) (flag kind : ℕ) (st : Standing ℕ) (c : Found) : Type 0 where
+pub record WellMade (i : List ℕ) (flag type : ℕ) (st : Standing ℕ) (c : Found) : Type 0 where
   pub unchanged : c .inventory ≡ i
   pub indices : token (c .args) ≡ 2
   pub five-inputs : inputs (c .args) ≡ 5
   pub two-outputs : outputs (c .args) ≡ 2
   pub whole : 40 ≤ length (c .args)
   pub of-flag : input (c .args) 0 ≡ flag
-  pub of-kind : input (c .args) 1 ≡ kind
+  pub of-type : input (c .args) 1 ≡ type
   pub numbered : input (c .args) 4 ≡ st .carried
   pub large : 92 ≤ input (c .args) 3
   pub below : input (c .args) 2 + input (c .args) 3 ≤ 4294967296

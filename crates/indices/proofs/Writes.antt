@@ -14,12 +14,13 @@ use Rattle.records.specs.Records.{sizeOf, firstRecord, sizeLimit}
 use Rattle.records.proofs.Steps.{field-at}
 use Rattle.inventory.specs.Inventory.{indexOf, codeOf}
 use Rattle.inventory.specs.Listing.{Entry, entryOf, listed}
-use Rattle.inventory.specs.Scanning.{Onward, Next, ahead}
+use Rattle.inventory.specs.Scanning.{ahead}
 use Rattle.inventory.specs.declared.locating.Located.{Located}
 use Rattle.inventory.specs.Located.{locatedAt, entryIn}
+use Rattle.inventory.specs.Scanning.{ahead, GoodFrom, NextMatch}
 use Rattle.inventory.proofs.Located.{code-sized, located-entry, located-inside}
-use Rattle.indices.specs.Area.{filled, entrySize, codeField, entryBytes, entriesBytes, fitting, run, answer, written, left}
-use Rattle.indices.specs.Writing.{Due}
+use Rattle.indices.specs.Area.{filled, entrySize, codeField, entryBytes, entriesBytes, fitting, run, answer, written, areaAfter}
+use Rattle.indices.specs.Writing.{DueEntries}
 use Rattle.indices.proofs.Written.{fitting-few}
 use Rattle.indices.proofs.Longest.{entry-length, entries-length, fitting-taken}
 
@@ -54,54 +55,54 @@ module _ (room n : ℕ) (e : Entry) (es : List Entry) (sized : length (e .code) 
 
 -- The writer has handed out so many entries of a run and stands at a place of the inventory and of the area:
 -- the entries from there on that fit, stored from there on, give the run.
-pub record Writing (start : List ℕ) (whole : List Entry) (flag kind count : ℕ) (inventory area : List ℕ) (at to handed : ℕ) : Type 0 where
-  pub onward : Onward inventory at
-  pub due : count ≡ handed + length (ahead flag kind inventory at)
+pub record Writing (start : List ℕ) (whole : List Entry) (flag type count : ℕ) (inventory area : List ℕ) (at to handed : ℕ) : Type 0 where
+  pub onward : GoodFrom inventory at
+  pub due : count ≡ handed + length (ahead flag type inventory at)
   pub inside : to ≤ length area
   pub same : length area ≡ length start
-  pub number : handed + length (fitting (length area - to) (ahead flag kind inventory at)) ≡ length whole
-  pub stored : sets area to (entriesBytes (fitting (length area - to) (ahead flag kind inventory at))) ≡ sets start 4 (entriesBytes whole)
+  pub number : handed + length (fitting (length area - to) (ahead flag type inventory at)) ≡ length whole
+  pub stored : sets area to (entriesBytes (fitting (length area - to) (ahead flag type inventory at))) ≡ sets start 4 (entriesBytes whole)
 
-pub writing-start : (flag kind count : ℕ) (inventory area : List ℕ) (from : ℕ) → 4 ≤ length area → Onward inventory from → count ≡ length (ahead flag kind inventory from)
-    → Writing area (fitting (length area - 4) (ahead flag kind inventory from)) flag kind count inventory area from 4 0
-writing-start flag kind count inventory area from h o e = record { onward = o; due = omega arith; inside = h; same = refl; number = zero-add _; stored = refl }
+pub writing-start : (flag type count : ℕ) (inventory area : List ℕ) (from : ℕ) → 4 ≤ length area → GoodFrom inventory from → count ≡ length (ahead flag type inventory from)
+    → Writing area (fitting (length area - 4) (ahead flag type inventory from)) flag type count inventory area from 4 0
+writing-start flag type count inventory area from h o e = record { onward = o; due = omega arith; inside = h; same = refl; number = zero-add _; stored = refl }
 
-module _ {start : List ℕ} {whole : List Entry} {flag kind count : ℕ} {inventory area : List ℕ} {at to handed : ℕ} (w : Writing start whole flag kind count inventory area at to handed) where
+module _ {start : List ℕ} {whole : List Entry} {flag type count : ℕ} {inventory area : List ℕ} {at to handed : ℕ} (w : Writing start whole flag type count inventory area at to handed) where
   -- the run is handed out, and its bytes stand in the area
   abbrev Done : Type 0
   Done = (handed ≡ length whole) × (area ≡ sets start 4 (entriesBytes whole))
 
-  done : fitting (length area - to) (ahead flag kind inventory at) ≡ [] → Done
+  done : fitting (length area - to) (ahead flag type inventory at) ≡ [] → Done
   unfolding entriesBytes
   done e = (omega (arith, ap length e), rw e at (w .stored))
 
-  -- no entry is left
+  -- no entry is areaAfter
   pub writing-end : count ≤ handed → Done
   unfolding fitting
-  writing-end h = done (ap (fitting (length area - to)) (drop-of-length-le (ahead flag kind inventory at) {i = 0} (omega arith)))
+  writing-end h = done (ap (fitting (length area - to)) (drop-of-length-le (ahead flag type inventory at) {i = 0} (omega arith)))
 
   -- the next entry, by what the code read: its record's place and parts, and the bytes that it takes in the area
-  module _ (found : ℕ) (l : Located) (taken : ℕ) (next : Next flag kind inventory at found) (p : l ≡ locatedAt inventory found) (q : taken ≡ entrySize (l .length)) where
+  module _ (found : ℕ) (l : Located) (taken : ℕ) (next : NextMatch flag type inventory at found) (p : l ≡ locatedAt inventory found) (q : taken ≡ entrySize (l .length)) where
     abbrev entry : Entry
     entry = entryIn inventory l
 
     sized : length (entry .code) ≡ l .length
     sized = code-sized inventory l (rw p (located-inside (next .readable)))
 
-    first : ahead flag kind inventory at ≡ entry ∷ ahead flag kind inventory (found + l .size)
-    first = rw p (next .first ∙ ap (λ (e : Entry). e ∷ ahead flag kind inventory (found + locatedAt inventory found .size)) (sym (located-entry (next .readable))))
+    first : ahead flag type inventory at ≡ entry ∷ ahead flag type inventory (found + l .size)
+    first = rw p (next .first ∙ ap (λ (e : Entry). e ∷ ahead flag type inventory (found + locatedAt inventory found .size)) (sym (located-entry (next .readable))))
 
     -- it does not fit
     pub writing-full : length area - to < taken → Done
     writing-full h = done (ap (fitting (length area - to)) first ∙ fitting-none (length area - to) (l .length) entry _ sized (omega arith))
 
     -- it is stored
-    pub writing-next : taken ≤ length area - to → Writing start whole flag kind count inventory (sets area to (entryBytes entry)) (found + l .size) (to + taken) (handed + 1)
+    pub writing-next : taken ≤ length area - to → Writing start whole flag type count inventory (sets area to (entryBytes entry)) (found + l .size) (to + taken) (handed + 1)
     unfolding entriesBytes
     writing-next h =
         let same-size : length (sets area to (entryBytes entry)) ≡ length area = length-sets area to (entryBytes entry) in
         let more = ap (fitting (length area - to)) first ∙ fitting-more (length area - to) (l .length) entry _ sized (omega arith) in
-        let rest : List Entry = fitting (length area - to - entrySize (l .length)) (ahead flag kind inventory (found + l .size)) in
+        let rest : List Entry = fitting (length area - to - entrySize (l .length)) (ahead flag type inventory (found + l .size)) in
         let room : length (sets area to (entryBytes entry)) - (to + taken) ≡ length area - to - entrySize (l .length) = omega arith in
         record {
           onward = rw p (next .onward);
@@ -115,39 +116,39 @@ module _ {start : List ℕ} {whole : List Entry} {flag kind count : ℕ} {invent
 -- ---- the run with its count
 
 -- the area without an entry, and with some behind their count
-left-none : (area : List ℕ) (es : List Entry) → length es ≡ 0 → sets area 4 (entriesBytes es) ≡ left area es
-unfolding left entriesBytes
-left-none area [] h = refl
-left-none area (e ∷ es) h = absurd (omega arith)
+after-none : (area : List ℕ) (es : List Entry) → length es ≡ 0 → sets area 4 (entriesBytes es) ≡ areaAfter area es
+unfolding areaAfter entriesBytes
+after-none area [] h = refl
+after-none area (e ∷ es) h = absurd (omega arith)
 
-left-some : (area : List ℕ) (es : List Entry) → 0 < length es → 4 + length (entriesBytes es) ≤ length area → sets (sets area 4 (entriesBytes es)) 0 (beBytes 4 (length es)) ≡ left area es
-unfolding left written answer
-left-some area [] h l = absurd (omega arith)
-left-some area (e ∷ es) h l =
+after-some : (area : List ℕ) (es : List Entry) → 0 < length es → 4 + length (entriesBytes es) ≤ length area → sets (sets area 4 (entriesBytes es)) 0 (beBytes 4 (length es)) ≡ areaAfter area es
+unfolding areaAfter written answer
+after-some area [] h l = absurd (omega arith)
+after-some area (e ∷ es) h l =
     let count = beBytes 4 (suc (length es)) in
     let bytes = entriesBytes (e ∷ es) in
     let four = length-beBytes 4 (suc (length es)) in
     sets-swap count bytes area 0 4 (omega arith) ∙ sets-behind area 0 4 count bytes (omega arith) ∙ sets-eq (count ++ bytes) area 0 (omega (arith, length-append count bytes)) ∙ rw zero-add
 
-module _ (area : List ℕ) {inventory : List ℕ} {flag kind number from count : ℕ} (d : Due flag kind number inventory from count) where
+module _ (area : List ℕ) {inventory : List ℕ} {flag type number from count : ℕ} (d : DueEntries flag type number inventory from count) where
   abbrev due-run : List Entry
-  due-run = fitting (length area - 4) (ahead flag kind inventory from)
+  due-run = fitting (length area - 4) (ahead flag type inventory from)
 
   -- what a call is to hand out and to leave
   abbrev Answered : ℕ → List ℕ → Type 0
-  Answered handed l = (handed ≡ length (run (length area) number (listed flag kind inventory))) × (l ≡ left area (run (length area) number (listed flag kind inventory)))
+  Answered handed l = (handed ≡ length (run (length area) number (listed flag type inventory))) × (l ≡ areaAfter area (run (length area) number (listed flag type inventory)))
 
-  answered : {handed : ℕ} {l : List ℕ} → handed ≡ length due-run → l ≡ left area due-run → Answered handed l
+  answered : {handed : ℕ} {l : List ℕ} → handed ≡ length due-run → l ≡ areaAfter area due-run → Answered handed l
   unfolding run
   answered p q = rw (d .rest) (p, q)
 
   pub run-few : length due-run ≤ sizeLimit
-  run-few = omega (arith, fitting-few (length area - 4) (ahead flag kind inventory from))
+  run-few = omega (arith, fitting-few (length area - 4) (ahead flag type inventory from))
 
   -- by what the writer of the entries tells, and the count that is stored after them
   module _ {handed : ℕ} {l : List ℕ} (p : handed ≡ length due-run) (q : l ≡ sets area 4 (entriesBytes due-run)) where
     pub run-none : handed ≤ 0 → Answered handed l
-    run-none h = answered p (q ∙ left-none area due-run (omega arith))
+    run-none h = answered p (q ∙ after-none area due-run (omega arith))
 
     pub run-counted : {m : List ℕ} → 4 ≤ length area → 0 < handed → m ≡ sets l 0 (beBytes 4 handed) → Answered handed m
-    run-counted f h e = answered p (e ∙ rw (q, p) (left-some area due-run (omega arith) (omega (arith, entries-length due-run, fitting-taken (length area - 4) (ahead flag kind inventory from)))))
+    run-counted f h e = answered p (e ∙ rw (q, p) (after-some area due-run (omega arith) (omega (arith, entries-length due-run, fitting-taken (length area - 4) (ahead flag type inventory from)))))

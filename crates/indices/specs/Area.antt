@@ -57,6 +57,6 @@ unfoldable pub written : List ℕ → List Entry → List ℕ
 written area es = answer es ++ drop (length (answer es)) area
 
 -- 01: "never zero entries": without one the area stays as it is
-unfoldable pub left : List ℕ → List Entry → List ℕ
-left area [] = area
-left area (e ∷ es) = written area (e ∷ es)
+unfoldable pub areaAfter : List ℕ → List Entry → List ℕ
+areaAfter area [] = area
+areaAfter area (e ∷ es) = written area (e ∷ es)

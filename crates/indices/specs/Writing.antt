@@ -5,11 +5,11 @@ use mathlib.Core.List.{List}
 use lib.ListN.{length, drop}
 use Rattle.records.specs.Records.{sizeLimit}
 use Rattle.inventory.specs.Listing.{listed}
-use Rattle.inventory.specs.Scanning.{ahead, Onward}
+use Rattle.inventory.specs.Scanning.{ahead, GoodFrom}
 
 -- The place where the search for the entry due begins, and the number of entries from that one on.
-pub record Due (flag type number : ℕ) (inventory : List ℕ) (from count : ℕ) : Type 0 where
-  pub onward : Onward inventory from
+pub record DueEntries (flag type number : ℕ) (inventory : List ℕ) (from count : ℕ) : Type 0 where
+  pub onward : GoodFrom inventory from
   pub rest : drop (number - 1) (listed flag type inventory) ≡ ahead flag type inventory from
   pub counted : count ≡ length (ahead flag type inventory from)
   pub few : count ≤ sizeLimit

@@ -6,10 +6,10 @@ ghost use lib.Seq.{sets};
 ghost use Rattle.inventory.specs.Inventory.{codeLimit};
 ghost use Rattle.inventory.specs.Listing.{listed};
 ghost use Rattle.inventory.specs.Located.{entryIn};
-ghost use Rattle.inventory.specs.Scanning.{ahead, Onward};
-ghost use Rattle.indices.specs.Area.{filled, entrySize, entryBytes, entriesBytes, fitting, run, left};
+ghost use Rattle.inventory.specs.Scanning.{ahead, GoodFrom};
+ghost use Rattle.indices.specs.Area.{filled, entrySize, entryBytes, entriesBytes, fitting, run, areaAfter};
 ghost use Rattle.indices.specs.Longest.{LongestRun};
-ghost use Rattle.indices.specs.Writing.{Due};
+ghost use Rattle.indices.specs.Writing.{DueEntries};
 use inventory::Located;
 use inventory::StartingNumber;
 
@@ -39,19 +39,19 @@ fn write_entries(
     area: &mut [u8],
     inventory: &[u8],
     flag: u32,
-    kind: u32,
+    item_type: u32,
     from: usize,
     count: usize,
 ) -> usize
-    requires { ⌜ (4 ≤ length (now area)) × Onward (now inventory) from × (count ≡ length (ahead flag kind (now inventory) from)) ⌝ }
-    ensures { λ r. ⌜ r ≡ length (fitting (length (now (area .entry)) - 4) (ahead flag kind (now (inventory .entry)) from)) ⌝ }
-    ensures { λ _. ⌜ now (area .exit) ≡ sets (now (area .entry)) 4 (entriesBytes (fitting (length (now (area .entry)) - 4) (ahead flag kind (now (inventory .entry)) from))) ⌝ }
+    requires { ⌜ (4 ≤ length (now area)) × GoodFrom (now inventory) from × (count ≡ length (ahead flag «item_type» (now inventory) from)) ⌝ }
+    ensures { λ r. ⌜ r ≡ length (fitting (length (now (area .entry)) - 4) (ahead flag «item_type» (now (inventory .entry)) from)) ⌝ }
+    ensures { λ _. ⌜ now (area .exit) ≡ sets (now (area .entry)) 4 (entriesBytes (fitting (length (now (area .entry)) - 4) (ahead flag «item_type» (now (inventory .entry)) from))) ⌝ }
 {
     let mut at = from;
     let mut to: usize = 4;
     let mut handed: usize = 0;
     while handed < count {
-        let found = inventory::next_entry(inventory, flag, kind, at);
+        let found = inventory::next_entry(inventory, flag, item_type, at);
         let entry = inventory::locate(inventory, found);
         let taken = 8 + filled_size(entry.length);
         if area.len() - to < taken {
@@ -71,17 +71,17 @@ pub fn write_run(
     area: &mut [u8],
     inventory: &[u8],
     flag: u32,
-    kind: u32,
+    item_type: u32,
     number: StartingNumber,
     from: usize,
     count: usize,
 ) -> usize
-    requires { ⌜ (4 ≤ length (now area)) × Due flag kind (number .0) (now inventory) from count ⌝ }
-    ensures { λ r. ⌜ r ≡ length (run (length (now (area .entry))) (number .0) (listed flag kind (now (inventory .entry)))) ⌝ }
-    ensures { λ _. ⌜ now (area .exit) ≡ left (now (area .entry)) (run (length (now (area .entry))) (number .0) (listed flag kind (now (inventory .entry)))) ⌝ }
+    requires { ⌜ (4 ≤ length (now area)) × DueEntries flag «item_type» (number .0) (now inventory) from count ⌝ }
+    ensures { λ r. ⌜ r ≡ length (run (length (now (area .entry))) (number .0) (listed flag «item_type» (now (inventory .entry)))) ⌝ }
+    ensures { λ _. ⌜ now (area .exit) ≡ areaAfter (now (area .entry)) (run (length (now (area .entry))) (number .0) (listed flag «item_type» (now (inventory .entry)))) ⌝ }
     ensures claims { λ _. ⌜ LongestRun ⌝ }
 {
-    let handed = write_entries(area, inventory, flag, kind, from, count);
+    let handed = write_entries(area, inventory, flag, item_type, from, count);
     if 0 < handed {
         words::store_be32(area, 0, handed as u32);
     }

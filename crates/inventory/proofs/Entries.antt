@@ -10,8 +10,8 @@ use Rattle.records.specs.Choosing.{Before}
 use Rattle.records.proofs.Choosing.{one-if, one-if-le, each-record, before-step, before-all}
 use Rattle.records.proofs.Steps.{good-step, bad-step, none-good, formed, not-formed, oversized}
 use Rattle.inventory.specs.Inventory.{goodRecord, wellFormed}
-use Rattle.inventory.specs.Listing.{entryOf, matches, listed}
-use Rattle.inventory.specs.Scanning.{From, Tells}
+use Rattle.inventory.specs.Listing.{entryOf, matches, listed, Entry, chosen}
+use Rattle.inventory.specs.Scanning.{ResumesAt, ScanFinds}
 use Rattle.inventory.specs.declared.scanning.Judgement.the-variants.{Counted}
 use Rattle.inventory.proofs.RecordLaws.{goodHere, Stands}
 
@@ -20,13 +20,13 @@ unfolding wellFormed
 too-large inventory h = oversized sizeLimit goodRecord inventory h
 
 -- a place that the entries were counted to
-module _ {flag type passed at : ℕ} {inventory : List ℕ} (f : From flag type inventory passed at) where
+module _ {flag type passed at : ℕ} {inventory : List ℕ} (f : ResumesAt flag type inventory passed at) where
   before : Before (matches flag type) entryOf records inventory at passed
   unfolding listed
   before = record { number = f .number; rest = f .rest }
 
   -- past a good record
-  from-step : (size : ℕ) → at < length inventory → Stands inventory at size → From flag type inventory (passed + one-if (matches flag type (firstRecord (drop at inventory)))) (at + size)
+  from-step : (size : ℕ) → at < length inventory → Stands inventory at size → ResumesAt flag type inventory (passed + one-if (matches flag type (firstRecord (drop at inventory)))) (at + size)
   unfolding listed
   from-step size h g =
       let p : Before (matches flag type) entryOf records inventory (at + size) (passed + one-if (matches flag type (firstRecord (drop at inventory)))) =
@@ -54,9 +54,9 @@ module _ {flag type passed at : ℕ} {inventory : List ℕ} (f : From flag type 
 
 -- A scan has come to a place: the entries before it are counted, and if the entry due is among them, a place is noted from which on the list holds the entries from that one on.
 pub record Scanned (flag type number : ℕ) (inventory : List ℕ) (at count due : ℕ) : Type 0 where
-  pub passed : From flag type inventory count at
+  pub passed : ResumesAt flag type inventory count at
   pub few : count ≤ at
-  pub found : 1 ≤ number → number ≤ count → From flag type inventory (number - 1) due
+  pub found : 1 ≤ number → number ≤ count → ResumesAt flag type inventory (number - 1) due
 
 pub scanned-start : (flag type number : ℕ) (inventory : List ℕ) → Scanned flag type number inventory 0 0 0
 unfolding listed
@@ -65,16 +65,16 @@ scanned-start flag type number inventory =
 
 module _ {flag type number at count due : ℕ} {inventory : List ℕ} (t : Scanned flag type number inventory at count due) where
   -- the next entry is the one due
-  pub found-here : count + 1 ≡ number → From flag type inventory (number - 1) at
+  pub found-here : count + 1 ≡ number → ResumesAt flag type inventory (number - 1) at
   found-here e = let q : number - 1 ≡ count = omega arith in rw q (t .passed)
 
   -- it is another
-  pub found-before : (one : ℕ) → one ≤ 1 → (count + 1 ≡ number → ⊥) → 1 ≤ number → number ≤ count + one → From flag type inventory (number - 1) due
+  pub found-before : (one : ℕ) → one ≤ 1 → (count + 1 ≡ number → ⊥) → 1 ≤ number → number ≤ count + one → ResumesAt flag type inventory (number - 1) due
   found-before one h n a b = t .found a (omega arith)
 
   -- past a good record
   pub scanned-step : (size one next : ℕ) → at < length inventory → Stands inventory at size → one ≡ one-if (matches flag type (firstRecord (drop at inventory)))
-      → (1 ≤ number → number ≤ count + one → From flag type inventory (number - 1) next) → Scanned flag type number inventory (at + size) (count + one) next
+      → (1 ≤ number → number ≤ count + one → ResumesAt flag type inventory (number - 1) next) → Scanned flag type number inventory (at + size) (count + one) next
   scanned-step size one next h g e next-is =
       record {
         passed = rw e (from-step (t .passed) size h g);
@@ -83,5 +83,5 @@ module _ {flag type number at count due : ℕ} {inventory : List ℕ} (t : Scann
       }
 
   -- at the end
-  pub scanned-end : length inventory ≤ sizeLimit → length inventory ≤ at → Tells flag type number inventory (Counted count due)
+  pub scanned-end : length inventory ≤ sizeLimit → length inventory ≤ at → ScanFinds flag type number inventory (Counted count due)
   scanned-end l h = (end-good (t .passed) l h, end-count (t .passed) h, t .found)

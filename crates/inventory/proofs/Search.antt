@@ -10,12 +10,12 @@ use Rattle.records.proofs.Choosing.{each-record, chosen-here, chosen-later, sti
 use Rattle.records.proofs.Steps.{judge-step}
 use Rattle.inventory.specs.Inventory.{goodRecord}
 use Rattle.inventory.specs.Listing.{entryOf, matches, chosen}
-use Rattle.inventory.specs.Scanning.{Onward, Next}
+use Rattle.inventory.specs.Scanning.{GoodFrom, NextMatch}
 use Rattle.inventory.proofs.RecordLaws.{goodHere, Stands, good-stands, readable}
 
 -- A search has come from a place to another: good records stand from there on, and their entries are those from where it began, at least one.
 pub record Sought (flag type : ℕ) (inventory : List ℕ) (from at : ℕ) : Type 0 where
-  pub onward : Onward inventory at
+  pub onward : GoodFrom inventory at
   pub some : 0 < length (chosen flag type (records (drop from inventory)))
   pub same : chosen flag type (records (drop from inventory)) ≡ chosen flag type (records (drop at inventory))
 
@@ -31,7 +31,7 @@ module _ {flag type from at : ℕ} {inventory : List ℕ} (t : Sought flag type 
   pub record-sought : Stands inventory at (sizeOf (drop at inventory))
   record-sought = good-stands (and-left (goodHere inventory at) _ judged) refl
 
-  behind : Onward inventory (at + sizeOf (drop at inventory))
+  behind : GoodFrom inventory (at + sizeOf (drop at inventory))
   behind = record { inside = record-sought .fits; good = and-right (goodHere inventory at) _ judged }
 
   -- past a record of another flag or type
@@ -39,5 +39,5 @@ module _ {flag type from at : ℕ} {inventory : List ℕ} (t : Sought flag type 
   sought-step size e h = rw e (record { onward = behind; some = t .some; same = t .same ∙ chosen-later (matches flag type) entryOf each-record inventory at at-record h })
 
   -- at a record of the flag and type
-  pub sought-found : matches flag type (firstRecord (drop at inventory)) ≡ true → Next flag type inventory from at
+  pub sought-found : matches flag type (firstRecord (drop at inventory)) ≡ true → NextMatch flag type inventory from at
   sought-found h = record { of-type = h; readable = readable record-sought; onward = behind; first = t .same ∙ chosen-here (matches flag type) entryOf each-record inventory at at-record h }

@@ -17,26 +17,26 @@ abbrev pub ahead : ℕ → ℕ → List ℕ → ℕ → List Entry
 ahead flag type inventory at = chosen flag type (records (drop at inventory))
 
 -- Cut into records from this place on, the inventory is as good as the whole, and its list is that of the whole from an entry on.
-pub record From (flag type : ℕ) (inventory : List ℕ) (passed at : ℕ) : Type 0 where
+pub record ResumesAt (flag type : ℕ) (inventory : List ℕ) (passed at : ℕ) : Type 0 where
   pub inside : at ≤ length inventory
   pub sound : allGood goodRecord (records inventory) ≡ allGood goodRecord (records (drop at inventory))
   pub number : length (listed flag type inventory) ≡ passed + length (ahead flag type inventory at)
   pub rest : drop passed (listed flag type inventory) ≡ ahead flag type inventory at
 
 -- The inventory is malformed; or the number of entries of the flag and type, and, if there is an entry due, a place from which on the list holds the entries from that one on.
-abbrev pub Tells : ℕ → ℕ → ℕ → List ℕ → Judgement → Type 0
-Tells flag type number inventory Malformed = wellFormed inventory ≡ false
-Tells flag type number inventory (Counted count at) =
-    (wellFormed inventory ≡ true) × (count ≡ length (listed flag type inventory)) × (1 ≤ number → number ≤ count → From flag type inventory (number - 1) at)
+abbrev pub ScanFinds : ℕ → ℕ → ℕ → List ℕ → Judgement → Type 0
+ScanFinds flag type number inventory Malformed = wellFormed inventory ≡ false
+ScanFinds flag type number inventory (Counted count at) =
+    (wellFormed inventory ≡ true) × (count ≡ length (listed flag type inventory)) × (1 ≤ number → number ≤ count → ResumesAt flag type inventory (number - 1) at)
 
 -- The bytes from this place on, which may be the end, are good records.
-pub record Onward (inventory : List ℕ) (at : ℕ) : Type 0 where
+pub record GoodFrom (inventory : List ℕ) (at : ℕ) : Type 0 where
   pub inside : at ≤ length inventory
   pub good : allGood goodRecord (records (drop at inventory)) ≡ true
 
 -- The record here is the next one of the flag and type from a place on: it can be read, the good records behind it, and the entries from that place on, its own first.
-pub record Next (flag type : ℕ) (inventory : List ℕ) (from at : ℕ) : Type 0 where
+pub record NextMatch (flag type : ℕ) (inventory : List ℕ) (from at : ℕ) : Type 0 where
   pub of-type : matches flag type (firstRecord (drop at inventory)) ≡ true
   pub readable : Readable inventory at
-  pub onward : Onward inventory (at + locatedAt inventory at .size)
+  pub onward : GoodFrom inventory (at + locatedAt inventory at .size)
   pub first : ahead flag type inventory from ≡ entryOf (firstRecord (drop at inventory)) ∷ ahead flag type inventory (at + locatedAt inventory at .size)

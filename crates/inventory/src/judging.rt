@@ -83,9 +83,9 @@ fn is_framed(left: usize, size: usize, kind: u16, flag: u16) -> bool
 }
 
 // Whether a record at a place has this flag and type.
-pub fn has_type(s: &[u8], at: usize, flag: u32, kind: u32) -> bool
+pub fn has_type(s: &[u8], at: usize, flag: u32, item_type: u32) -> bool
     requires { ⌜ Readable (now s) at ⌝ }
-    ensures { λ r. ⌜ r ≡ matches flag kind (firstRecord (drop at (now (s .entry)))) ⌝ }
+    ensures { λ r. ⌜ r ≡ matches flag «item_type» (firstRecord (drop at (now (s .entry)))) ⌝ }
 {
-    words::read_le16(s, at + 4) as u32 == flag && words::read_le32(s, at + 6) == kind
+    words::read_le16(s, at + 4) as u32 == flag && words::read_le32(s, at + 6) == item_type
 }

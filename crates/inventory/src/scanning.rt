@@ -1,6 +1,6 @@
 // The scan: the inventory judged, its entries of a flag and type counted, and a place noted to search for the entry due, in one pass.
 ghost use Rattle.inventory.specs.Claims.{WellFormedCases, SizeLimit};
-ghost use Rattle.inventory.specs.Scanning.{Tells};
+ghost use Rattle.inventory.specs.Scanning.{ScanFinds};
 use crate::judging::has_type;
 use crate::judging::one_if;
 use crate::judging::record_at;
@@ -14,8 +14,8 @@ pub enum Judgement {
 }
 
 // The inventory judged, and its entries of a flag and type counted. Entries are numbered from 1.
-pub fn scan(inventory: &[u8], flag: u32, kind: u32, number: StartingNumber) -> Judgement
-    ensures { λ r. ⌜ Tells flag kind (number .0) (now (inventory .entry)) r ⌝ }
+pub fn scan(inventory: &[u8], flag: u32, item_type: u32, number: StartingNumber) -> Judgement
+    ensures { λ r. ⌜ ScanFinds flag «item_type» (number .0) (now (inventory .entry)) r ⌝ }
     ensures rules { λ _. ⌜ WellFormedCases × SizeLimit ⌝ }
 {
     if records::SIZE_LIMIT < inventory.len() {
@@ -33,7 +33,7 @@ pub fn scan(inventory: &[u8], flag: u32, kind: u32, number: StartingNumber) -> J
         if number.is_next(count) {
             due = at;
         }
-        count += one_if(has_type(inventory, at, flag, kind)) as usize;
+        count += one_if(has_type(inventory, at, flag, item_type)) as usize;
         at += size;
     }
     Judgement::Counted(count, due)

@@ -12,9 +12,9 @@ use Rattle.records.specs.Records.{sizeLimit}
 use Rattle.records.proofs.Steps.{formed-good}
 use Rattle.inventory.specs.Inventory.{goodRecord, wellFormed}
 use Rattle.inventory.specs.Listing.{Entry, listed}
-use Rattle.inventory.specs.Scanning.{From}
-use Rattle.indices.specs.Area.{run, written, left}
-use Rattle.indices.specs.Writing.{Due}
+use Rattle.inventory.specs.Scanning.{ResumesAt}
+use Rattle.indices.specs.Area.{run, written, areaAfter}
+use Rattle.indices.specs.Writing.{DueEntries}
 use Rattle.inventory.proofs.Listed.{listed-few}
 use Rattle.indices.proofs.Written.{fitting-few}
 use Rattle.rtas.specs.declared.indices_call.Listed.{Listed}
@@ -34,13 +34,13 @@ use Rattle.calls.proofs.Requests.{lent-size, due-run}
 pub among-is : (number count : ℕ) → (leb 1 number && leb number count) ≡ true → (1 ≤ number) × (number ≤ count)
 among-is number count e = (leb-true 1 number (and-left _ _ e), leb-true number count (and-right (leb 1 number) _ e))
 
-pub due-is : {flag kind count from : ℕ} {i : List ℕ} (number : ℕ) → wellFormed i ≡ true → count ≡ length (listed flag kind i) → From flag kind i (number - 1) from → Due flag kind number i from (count - (number - 1))
+pub due-is : {flag type count from : ℕ} {i : List ℕ} (number : ℕ) → wellFormed i ≡ true → count ≡ length (listed flag type i) → ResumesAt flag type i (number - 1) from → DueEntries flag type number i from (count - (number - 1))
 unfolding wellFormed
-due-is {flag} {kind} {i = i} number w n f = record {
+due-is {flag} {type} {i = i} number w n f = record {
   onward = record { inside = f .inside; good = sym (f .sound) ∙ formed-good sizeLimit goodRecord i w };
   rest = f .rest;
   counted = omega arith;
-  few = omega (arith, listed-few flag kind i w);
+  few = omega (arith, listed-few flag type i w);
 }
 
 -- ---- the run
@@ -51,15 +51,15 @@ unfolding run
 run-few size number es = omega (arith, fitting-few (size - 4) (drop (number - 1) es), length-drop (number - 1) es)
 
 -- the area without an entry, and with some
-left-none : (area : List ℕ) (es : List Entry) → length es ≡ 0 → left area es ≡ area
-unfolding left
-left-none area [] h = refl
-left-none area (e ∷ es) h = absurd (omega arith)
+after-none : (area : List ℕ) (es : List Entry) → length es ≡ 0 → areaAfter area es ≡ area
+unfolding areaAfter
+after-none area [] h = refl
+after-none area (e ∷ es) h = absurd (omega arith)
 
-left-some : (area : List ℕ) (es : List Entry) → 1 ≤ length es → left area es ≡ written area es
-unfolding left
-left-some area [] h = absurd (omega arith)
-left-some area (e ∷ es) h = refl
+after-some : (area : List ℕ) (es : List Entry) → 1 ≤ length es → areaAfter area es ≡ written area es
+unfolding areaAfter
+after-some area [] h = absurd (omega arith)
+after-some area (e ∷ es) h = refl
 
 -- ---- the checks of the list
 
@@ -93,13 +93,13 @@ pub record Ran (i : List ℕ) (q : Request) (area : List ℕ) (handed : ℕ) (af
   pub low : 1 ≤ numberIn q
   pub high : numberIn q ≤ length (entriesFor i q)
   pub counted : handed ≡ length (runFor i q)
-  pub stored : after ≡ left area (runFor i q)
+  pub stored : after ≡ areaAfter area (runFor i q)
 
 module _ {i : List ℕ} {q : Request} {area : List ℕ} {handed : ℕ} {after : List ℕ} (t : Ran i q area handed after) where
   -- small enough for the code's sums
   pub ran-few : (numberIn q ≤ sizeLimit) × (handed ≤ sizeLimit)
   ran-few =
-      let few = listed-few (q .flag) (q .kind) i (t .formed) in
+      let few = listed-few (q .flag) (q .«item_type») i (t .formed) in
       (omega arith, omega (arith, run-few (q .size) (numberIn q) (entriesFor i q)))
 
   -- the code's tests are those of the definition
@@ -119,11 +119,11 @@ module _ {i : List ℕ} {q : Request} {area : List ℕ} {handed : ℕ} {after : 
   pub left-unfit : (r : Listed) → handed ≡ 0 → Refused q r Parameter → Left i q area (r .status) (r .next .0) after
   left-unfit r h e =
       let l = left-refused i q area r Parameter (ran-status ∙ rw h) refl e in
-      (l .0, t .stored ∙ left-none area (runFor i q) (sym (t .counted) ∙ h) ∙ l .1)
+      (l .0, t .stored ∙ after-none area (runFor i q) (sym (t .counted) ∙ h) ∙ l .1)
 
   module _ (some : 1 ≤ handed) where
     given : after ≡ written area (runFor i q)
-    given = t .stored ∙ left-some area (runFor i q) (omega arith)
+    given = t .stored ∙ after-some area (runFor i q) (omega arith)
 
     -- entries remain behind the run, or none
     pub left-again : numberIn q - 1 + handed < length (entriesFor i q) → Left i q area Again (numberIn q + handed) after
@@ -158,11 +158,11 @@ module _ (m i : List ℕ) (q : Request) where
   all-refused r e h = rw (e, h .0, h .1) ((refl, refl), refl)
 
   -- a type that may not be asked for
-  pub left-unasked : (r : Listed) → askable (q .flag) (q .kind) ≡ false → Refused q r Parameter → LeftAll (r .status) (r .next .0) m
+  pub left-unasked : (r : Listed) → askable (q .flag) (q .«item_type») ≡ false → Refused q r Parameter → LeftAll (r .status) (r .next .0) m
   unfolding indicesStatus
   left-unasked r e h = all-refused r (rw e) h
 
-  module _ (asked : askable (q .flag) (q .kind) ≡ true) where
+  module _ (asked : askable (q .flag) (q .«item_type») ≡ true) where
     -- a part that may not be lent
     pub left-unlent : (r : Listed) → lendable m (q .address) (q .size) ≡ false → Refused q r Parameter → LeftAll (r .status) (r .next .0) m
     unfolding indicesStatus

@@ -74,7 +74,7 @@ fn request_of(args: &[u8]) -> Request
 {
     Request {
         flag: words::read_be32(args, 12),
-        kind: words::read_be32(args, 16),
+        item_type: words::read_be32(args, 16),
         address: words::read_be32(args, 20),
         size: words::read_be32(args, 24),
         number: StartingNumber::read(args, 28),

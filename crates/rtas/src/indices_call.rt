@@ -4,7 +4,7 @@ ghost use mathlib.Core.Bool.{true};
 ghost use Prim.Native.Nat.{_-_, _≤_, _<_};
 ghost use lib.ListN.{length};
 ghost use Rattle.inventory.specs.Inventory.{wellFormed};
-ghost use Rattle.inventory.specs.Scanning.{From};
+ghost use Rattle.inventory.specs.Scanning.{ResumesAt};
 ghost use Rattle.calls.specs.GetIndices.{askable, lendable, entriesFor, numberIn, listStatus, listArea, indicesStatus, indicesMemory, numberGiven};
 use calls::Request;
 use calls::Status;
@@ -18,19 +18,19 @@ pub struct Listed {
 }
 
 // Whether a type may be asked for with a flag.
-fn is_askable(flag: u32, kind: u32) -> bool
-    ensures { λ r. ⌜ r ≡ askable flag kind ⌝ }
+fn is_askable(flag: u32, item_type: u32) -> bool
+    ensures { λ r. ⌜ r ≡ askable flag «item_type» ⌝ }
 {
     if 1 < flag {
         return false;
     }
-    if kind == 9003 {
+    if item_type == 9003 {
         return false;
     }
     if flag != 0 {
         return true;
     }
-    kind != 9001 && kind != 9002
+    item_type != 9001 && item_type != 9002
 }
 
 // Whether a size of at least 4 from an address on ends inside memory and below 4 GiB.
@@ -56,7 +56,7 @@ fn answer_counted(
     count: usize,
     from: usize,
 ) -> Listed
-    requires { ⌜ (4 ≤ length (now area)) × (request .size ≡ length (now area)) × (wellFormed (now inventory) ≡ true) × (count ≡ length (entriesFor (now inventory) request)) × (1 ≤ numberIn request → numberIn request ≤ count → From (request .flag) (request .kind) (now inventory) (numberIn request - 1) from) ⌝ }
+    requires { ⌜ (4 ≤ length (now area)) × (request .size ≡ length (now area)) × (wellFormed (now inventory) ≡ true) × (count ≡ length (entriesFor (now inventory) request)) × (1 ≤ numberIn request → numberIn request ≤ count → ResumesAt (request .flag) (request .«item_type») (now inventory) (numberIn request - 1) from) ⌝ }
     ensures { λ r. ⌜ (r .status ≡ listStatus (now (inventory .entry)) request) × (r .next .0 ≡ numberGiven (listStatus (now (inventory .entry)) request) (now (inventory .entry)) request) ⌝ }
     ensures { λ _. ⌜ now (area .exit) ≡ listArea (now (inventory .entry)) request (now (area .entry)) ⌝ }
 {
@@ -65,7 +65,15 @@ fn answer_counted(
         return refused(request, Status::Parameter);
     }
     let left = due.entries_from(count);
-    let handed = indices::write_run(area, inventory, request.flag, request.kind, due, from, left);
+    let handed = indices::write_run(
+        area,
+        inventory,
+        request.flag,
+        request.item_type,
+        due,
+        from,
+        left,
+    );
     if handed == 0 {
         return refused(request, Status::Parameter);
     }
@@ -95,7 +103,7 @@ fn answer_list(area: &mut [u8], inventory: &[u8], request: Request) -> Listed
     ensures { λ r. ⌜ (r .status ≡ listStatus (now (inventory .entry)) request) × (r .next .0 ≡ numberGiven (listStatus (now (inventory .entry)) request) (now (inventory .entry)) request) ⌝ }
     ensures { λ _. ⌜ now (area .exit) ≡ listArea (now (inventory .entry)) request (now (area .entry)) ⌝ }
 {
-    let judgement = inventory::scan(inventory, request.flag, request.kind, request.number);
+    let judgement = inventory::scan(inventory, request.flag, request.item_type, request.number);
     match judgement {
         Judgement::Malformed => refused(request, Status::Malformed),
         Judgement::Counted(count, from) => answer_counted(area, inventory, request, count, from),
@@ -107,7 +115,7 @@ pub fn get_indices(memory: &mut [u8], inventory: &[u8], request: Request) -> Lis
     ensures { λ r. ⌜ (r .status ≡ indicesStatus (now (memory .entry)) (now (inventory .entry)) request) × (r .next .0 ≡ numberGiven (indicesStatus (now (memory .entry)) (now (inventory .entry)) request) (now (inventory .entry)) request) ⌝ }
     ensures { λ _. ⌜ now (memory .exit) ≡ indicesMemory (now (memory .entry)) (now (inventory .entry)) request ⌝ }
 {
-    if !is_askable(request.flag, request.kind) {
+    if !is_askable(request.flag, request.item_type) {
         return refused(request, Status::Parameter);
     }
     let at = request.address as usize;

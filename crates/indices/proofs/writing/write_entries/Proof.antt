@@ -15,10 +15,10 @@ use Rattle.indices.proofs.writing.write_entries.Statement.{statement}
 use Rattle.indices.proofs.writing.write_entries.Tie as tie
 
 abbrev Inv-loop : tie.InvT-loop
-Inv-loop area₀ inventory flag kind from count at₀ to₀ handed₀ area at to handed = Writing area₀ (fitting (length area₀ - 4) (ahead flag kind inventory from)) flag kind count inventory area at to handed
+Inv-loop area₀ inventory flag type from count at₀ to₀ handed₀ area at to handed = Writing area₀ (fitting (length area₀ - 4) (ahead flag type inventory from)) flag type count inventory area at to handed
 
 abbrev μ-loop : tie.MeasureT-loop
-μ-loop area₀ inventory flag kind from count at₀ to₀ handed₀ area at to handed = count - handed
+μ-loop area₀ inventory flag type from count at₀ to₀ handed₀ area at to handed = count - handed
 
 loop-holds : tie.Need-loop-holds Inv-loop μ-loop
 loop-holds c = writing-start _ _ _ (now (c .before .before .args .inventory)) (now (c .before .before .args .area)) _ (c .before .before .pre .0) (c .before .before .pre .1) (c .before .before .pre .2)

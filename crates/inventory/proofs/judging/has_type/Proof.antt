@@ -23,10 +23,10 @@ read-le32-requires : tie.Need-read-le32-requires
 read-le32-requires c κs = search needs
 
 returns : tie.Need-returns
-returns c = rw (matches-at (now (c .before .before .before .before .args .s)) (c .before .before .before .before .args .at) (c .before .before .before .before .args .flag) (c .before .before .before .before .args .kind) (omega (arith, c .before .before .before .before .pre .large)), ← c .before .before .read-le16 .ensures, ← c .read-le32 .ensures, eq-eqb _ _ (c .before .if1 .taken))
+returns c = rw (matches-at (now (c .before .before .before .before .args .s)) (c .before .before .before .before .args .at) (c .before .before .before .before .args .flag) (c .before .before .before .before .args .item-type) (omega (arith, c .before .before .before .before .pre .large)), ← c .before .before .read-le16 .ensures, ← c .read-le32 .ensures, eq-eqb _ _ (c .before .if1 .taken))
 
 returns-2 : tie.Need-returns-2
-returns-2 c = rw (matches-at (now (c .before .before .before .args .s)) (c .before .before .before .args .at) (c .before .before .before .args .flag) (c .before .before .before .args .kind) (omega (arith, c .before .before .before .pre .large)), ← c .before .read-le16 .ensures, ne-eqb _ _ (c .if1 .left))
+returns-2 c = rw (matches-at (now (c .before .before .before .args .s)) (c .before .before .before .args .at) (c .before .before .before .args .flag) (c .before .before .before .args .item-type) (omega (arith, c .before .before .before .pre .large)), ← c .before .read-le16 .ensures, ne-eqb _ _ (c .if1 .left))
 
 pub has-type-spec : {M : Type 1} → statement M
 has-type-spec =

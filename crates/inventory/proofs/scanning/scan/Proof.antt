@@ -19,10 +19,10 @@ rules : WellFormedCases × SizeLimit
 rules = (well-formed-cases, size-limit)
 
 abbrev Inv-loop : tie.InvT-loop
-Inv-loop inventory flag kind number at₀ count₀ due₀ at count due = Scanned flag kind (number .0) inventory at count due
+Inv-loop inventory flag type number at₀ count₀ due₀ at count due = Scanned flag type (number .0) inventory at count due
 
 abbrev μ-loop : tie.MeasureT-loop
-μ-loop inventory flag kind number at₀ count₀ due₀ at count due = length inventory - at
+μ-loop inventory flag type number at₀ count₀ due₀ at count due = length inventory - at
 
 returns : tie.Need-returns Inv-loop μ-loop
 returns c = (too-large (now (c .before .before .args .inventory)) (c .if1 .taken), rules)

@@ -14,10 +14,10 @@ use Rattle.inventory.proofs.searching.next_entry.Statement.{statement}
 use Rattle.inventory.proofs.searching.next_entry.Tie as tie
 
 abbrev Inv-loop : tie.InvT-loop
-Inv-loop inventory flag kind from at₀ at = Sought flag kind inventory from at
+Inv-loop inventory flag type from at₀ at = Sought flag type inventory from at
 
 abbrev μ-loop : tie.MeasureT-loop
-μ-loop inventory flag kind from at₀ at = length inventory - at
+μ-loop inventory flag type from at₀ at = length inventory - at
 
 loop-holds : tie.Need-loop-holds Inv-loop μ-loop
 loop-holds c = record { onward = c .before .pre .0; some = c .before .pre .1; same = refl }

@@ -35,7 +35,7 @@ same-length : tie.Need-same-length
 same-length c = search needs
 
 -- the tests of the request are those of the definition
-asked : (c : tie.Else1) → askable (c .before .before .before .before .args .request .flag) (c .before .before .before .before .args .request .kind) ≡ true
+asked : (c : tie.Else1) → askable (c .before .before .before .before .args .request .flag) (c .before .before .before .before .args .request .«item_type») ≡ true
 asked c = sym (c .before .is-askable .ensures) ∙ not-false _ (c .if1 .left)
 
 returns-2 : tie.Need-returns-2
