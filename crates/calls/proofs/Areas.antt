@@ -14,12 +14,13 @@ use Rattle.journal.specs.declared.scanning.Judgement.the-variants.{Malformed, C
 use Rattle.journal.specs.Journal.{wellFormed}
 use Rattle.journal.specs.Scope.{valid, rowOf}
 use Rattle.journal.specs.Reportable.{reportable, countsOf, judgementOf}
+use Rattle.nodes.specs.Head.{isReserved}
 use Rattle.nodes.specs.Run.{remains, total}
 use Rattle.nodes.specs.Area.{written}
 use Rattle.nodes.proofs.Listed.{total-is}
 use Rattle.calls.specs.declared.status.Status.{Status}
 use Rattle.calls.specs.declared.status.Status.the-variants as status
-use Rattle.calls.specs.UpdateNodes.{areaAt, withArea, placed, reserved, goodState, areaStatus, areaAfter, nodesStatus, nodesMemory}
+use Rattle.calls.specs.UpdateNodes.{areaAt, withArea, placed, goodState, areaStatus, areaAfter, nodesStatus, nodesMemory}
 use Rattle.words.proofs.Choice.{and-right}
 use Rattle.calls.proofs.Memory.{part-lent, part-back}
 
@@ -33,11 +34,11 @@ module _ (row j area : List ℕ) where
   left-malformed w = rw w (refl, refl)
 
   module _ (w : wellFormed j ≡ true) where
-    pub left-reserved : reserved area ≡ false → Left row j area status.Parameter area
+    pub left-reserved : isReserved area ≡ false → Left row j area status.Parameter area
     unfolding areaStatus areaAfter
     left-reserved e = rw (w, e) (refl, refl)
 
-    module _ (z : reserved area ≡ true) where
+    module _ (z : isReserved area ≡ true) where
       pub left-state : goodState row j area ≡ false → Left row j area status.Parameter area
       unfolding areaStatus areaAfter
       left-state e = rw (w, z, e) (refl, refl)

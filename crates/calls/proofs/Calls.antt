@@ -16,12 +16,13 @@ use Rattle.journal.specs.Journal.{wellFormed}
 use Rattle.journal.specs.Scope.{valid, rowOf}
 use Rattle.journal.specs.Reportable.{reportable}
 use Rattle.words.proofs.Choice.{choose, and-left, and-right}
+use Rattle.nodes.specs.Head.{isReserved}
 use Rattle.nodes.specs.Run.{remains}
 use Rattle.nodes.specs.Area.{written}
 use Rattle.calls.specs.declared.status.Status.{Status}
 use Rattle.calls.specs.declared.status.Status.the-variants.{Done, Again, Malformed, Parameter, AlreadyRegistered, DumpActive}
 use Rattle.calls.specs.Status.{isGiven, isAnswer, statusWord}
-use Rattle.calls.specs.UpdateNodes.{areaAt, withArea, placed, reserved, goodState, areaStatus, areaAfter, nodesStatus, nodesMemory}
+use Rattle.calls.specs.UpdateNodes.{areaAt, withArea, placed, goodState, areaStatus, areaAfter, nodesStatus, nodesMemory}
 use Rattle.calls.specs.Buffer.{token, input, statusAt, numberFor, isNodes, Outcome, nodesOutcome, outcome, Found, Left, callOf, answered}
 use Rattle.calls.proofs.Heads.{whole-buffer, asked, unchanged, carried-out, outcome-ways, nodes-outcome}
 use Rattle.calls.proofs.Areas.{placed-inside}
@@ -47,7 +48,7 @@ module _ (m : List ℕ) (a s : ℕ) (j : List ℕ) where
     pub inside : a + 4096 ≤ length m
     pub scoped : valid s ≡ true
     pub formed : wellFormed j ≡ true
-    pub clear : reserved (areaAt m a) ≡ true
+    pub clear : isReserved (areaAt m a) ≡ true
     pub begun : goodState (rowOf s) j (areaAt m a) ≡ true
 
   abbrev Checked : Status → Type 0
@@ -60,7 +61,7 @@ module _ (m : List ℕ) (a s : ℕ) (j : List ℕ) where
       choose (placed m a) Checked
       (λ e₁. choose (valid s) Checked
       (λ e₂. choose (wellFormed j) Checked
-      (λ e₃. choose (reserved (areaAt m a)) Checked
+      (λ e₃. choose (isReserved (areaAt m a)) Checked
       (λ e₄. choose (goodState (rowOf s) j (areaAt m a)) Checked
       (λ e₅ h. record {
         aligned = eqb-true _ _ (and-left _ _ e₁);

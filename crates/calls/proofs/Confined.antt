@@ -12,12 +12,13 @@ use Rattle.words.proofs.Stores.{sets-before, sets-after, length-wordBytes}
 use Rattle.dump.specs.declared.registration.Registration.{Registration}
 use Rattle.journal.specs.Journal.{wellFormed}
 use Rattle.journal.specs.Reportable.{reportable}
+use Rattle.nodes.specs.Head.{isReserved}
 use Rattle.nodes.specs.Run.{remains}
 use Rattle.journal.specs.Scope.{valid, rowOf}
 use Rattle.calls.specs.declared.status.Number.the-variants.{Given}
 use Rattle.calls.specs.declared.status.Status.the-variants.{Done, Again, Malformed, Parameter}
 use Rattle.calls.specs.Status.{numberOf, isGiven, isAnswer, statusWord}
-use Rattle.calls.specs.UpdateNodes.{areaAt, withArea, placed, reserved, goodState, areaStatus, areaAfter, nodesStatus, nodesMemory}
+use Rattle.calls.specs.UpdateNodes.{areaAt, withArea, placed, goodState, areaStatus, areaAfter, nodesStatus, nodesMemory}
 use Rattle.calls.specs.Buffer.{outputs, input, statusAt, numberFor, isNodes, isIndices, isDump, requestOf, Outcome, nodesOutcome, indicesOutcome, dumpOutcome, refusal, outcome, Found, leaves, Left, callOf}
 use Rattle.calls.specs.Terms.{HasStatus, Refused, Asks, Outside}
 use Rattle.calls.specs.Demands.{Confined, Demand1}
@@ -39,7 +40,7 @@ use Rattle.calls.proofs.Requests.{indices-refused, indices-outside, ind
 -- an area that is answered had a good state
 answers-state : (row j area : List ℕ) → isAnswer (areaStatus row j area) ≡ true → goodState row j area ≡ true
 unfolding areaStatus
-answers-state row j area = go (wellFormed j) (reserved area) (goodState row j area) (remains (reportable row j) (be32 area 0))
+answers-state row j area = go (wellFormed j) (isReserved area) (goodState row j area) (remains (reportable row j) (be32 area 0))
   where
     go : (w r g m : Bool) → isAnswer (cond w (cond r (cond g (cond m Again Done) Parameter) Parameter) Malformed) ≡ true → g ≡ true
     go w r true m e = refl

@@ -17,6 +17,7 @@ use Rattle.journal.specs.declared.operation.Operation.{Operation}
 use Rattle.journal.specs.Journal.{wellFormed}
 use Rattle.journal.specs.Scope.{negative, valid, rowOf}
 use Rattle.journal.specs.Reportable.{reportable}
+use Rattle.nodes.specs.Head.{isReserved}
 use Rattle.nodes.specs.Run.{cost, run, remains, nextState}
 use Rattle.nodes.specs.Area.{body, answer, written}
 use Rattle.nodes.specs.Claims.{Listed}
@@ -24,9 +25,10 @@ use Rattle.words.specs.Reading.{read}
 use Rattle.nodes.specs.Reading.{reading}
 use Rattle.nodes.proofs.Claims.{area-claims}
 use Rattle.nodes.proofs.Runs.{length-body}
+use Rattle.nodes.proofs.Carried.{state-of, reserved-of, written-head}
 use Rattle.calls.specs.declared.status.Status.{Status}
 use Rattle.calls.specs.Status.{statusWord}
-use Rattle.calls.specs.UpdateNodes.{areaAt, placed, reserved, goodState, areaStatus, nodesStatus, nodesMemory}
+use Rattle.calls.specs.UpdateNodes.{areaAt, placed, goodState, areaStatus, nodesStatus, nodesMemory}
 use Rattle.calls.specs.Terms.{minus, Exactly}
 use Rattle.calls.specs.ExactNodes as exact
 use Rattle.calls.specs.ExactNodes.{ExactNodes}
@@ -35,7 +37,6 @@ use Rattle.calls.proofs.Ladder.{ladder, isMalformed, ladder-malformed, 
 use Rattle.calls.proofs.Areas.{state-within}
 use Rattle.calls.proofs.Calls.{Passed, passed-is, nodes-answers, nodes-status, nodes-memory, word-either}
 use Rattle.calls.proofs.Memory.{part-length, part-stored, written-length}
-use Rattle.calls.proofs.Carried.{state-of, zeros-of, written-head}
 
 -- ---- the checks in the paper's numerals
 
@@ -101,7 +102,7 @@ module _ (m j : List ℕ) (address scope : ℕ) where
   abbrev after : List ℕ
   after = nodesMemory m address scope j
 
-  status-is : nodesStatus m address scope j ≡ ladder (placed m address) (valid scope) (wellFormed j) (reserved area) (goodState (rowOf scope) j area) (remains os state)
+  status-is : nodesStatus m address scope j ≡ ladder (placed m address) (valid scope) (wellFormed j) (isReserved area) (goodState (rowOf scope) j area) (remains os state)
   unfolding nodesStatus areaStatus
   status-is = refl
 
@@ -109,7 +110,7 @@ module _ (m j : List ℕ) (address scope : ℕ) where
   passed h = passed-is m address scope j (at-most status 1 .1 h)
 
   answered : Exactly (status ≤ 1) (exact.Asked m address scope × exact.Passed j area os)
-  unfolding reserved
+  unfolding isReserved
   answered = (
     (λ h. let p = passed h in (
       record { aligned = p .aligned; inside = p .inside; scoped = valid-exact scope .0 (p .scoped) },
@@ -127,7 +128,7 @@ module _ (m j : List ℕ) (address scope : ℕ) where
 
   malformed : Exactly (status ≡ minus 1) (exact.Asked m address scope × (wellFormed j ≡ false))
   malformed =
-      let test = ap isMalformed status-is ∙ ladder-malformed (placed m address) (valid scope) (wellFormed j) (reserved area) (goodState (rowOf scope) j area) (remains os state) in
+      let test = ap isMalformed status-is ∙ ladder-malformed (placed m address) (valid scope) (wellFormed j) (isReserved area) (goodState (rowOf scope) j area) (remains os state) in
       same (eqb status 4294967295) ((placed m address && valid scope) && not (wellFormed j)) test (equal status 4294967295)
       (both (placed m address && valid scope) (not (wellFormed j)) (asked-exact m address scope) (fails (wellFormed j)))
 
@@ -148,7 +149,7 @@ module _ (m j : List ℕ) (address scope : ℕ) where
         ∙ part-stored m address 4096 (p .inside) (written area os state) (written-length area os state size within)
 
     answers : Bytes j → exact.Answer area (areaAt after address) os (run os state) state status
-    unfolding remains nextState reserved
+    unfolding remains nextState isReserved
     answers bytes =
         let listed : Listed os = area-claims .reportable-listed (rowOf scope) j bytes (p .formed) in
         rw left-is
@@ -156,7 +157,7 @@ module _ (m j : List ℕ) (address scope : ℕ) where
           longest = area-claims .longest-run os state;
           remaining = ap statusWord (nodes-status m address scope j p) ∙ word-either (remains os state);
           new-state = state-of (written area os state) (nextState os state) (written-head area os state) (next-small os state (listed .few));
-          clear = zeros-of (written area os state) (nextState os state) (written-head area os state);
+          clear = reserved-of (written area os state) (nextState os state) (written-head area os state);
           terminator = ends-zero area os state;
           unchanged = behind area os state;
           reads-back = area-claims .round-trip area os state size listed within;
@@ -168,7 +169,7 @@ module _ (m j : List ℕ) (address scope : ℕ) where
       record {
         answered = answered;
         malformed = malformed;
-        otherwise = ladder-otherwise (placed m address) (valid scope) (wellFormed j) (reserved area) (goodState (rowOf scope) j area) (remains os state);
+        otherwise = ladder-otherwise (placed m address) (valid scope) (wellFormed j) (isReserved area) (goodState (rowOf scope) j area) (remains os state);
         answers = λ bytes h. answers h bytes;
         memory = λ h. nodes-memory m address scope j (passed h);
       }

@@ -7,7 +7,6 @@ pub mod Registrations
 pub mod Calls
 pub mod Requests
 pub mod IndicesCalls
-pub mod Carried
 pub mod ExactNodes
 pub mod ExactIndices
 pub mod ExactDump

@@ -21,16 +21,17 @@ use Rattle.nodes.specs.Area.{written}
 use Rattle.nodes.specs.Reading.{reading}
 use Rattle.nodes.specs.Claims.{Listed}
 use Rattle.nodes.proofs.Runs.{RunFacts, run-facts, operandWords-append, operandWords-le, length-le-operandWords}
+use Rattle.nodes.specs.Head.{headOf, carriedHead, stateIn}
+use Rattle.nodes.proofs.Carried.{state-of, reserved-of, written-head}
 use Rattle.nodes.proofs.Claims.{area-claims}
 use Rattle.calls.specs.Status.{isGiven}
-use Rattle.calls.specs.UpdateNodes.{areaAt, reserved, goodState}
+use Rattle.calls.specs.UpdateNodes.{areaAt, goodState}
 use Rattle.calls.specs.Buffer.{input, numberFor, asks, isNodes, Found}
 use Rattle.calls.specs.Session.{isAnswered, statusThen, Standing}
 use Rattle.calls.specs.NodeSession.{address, areaBefore, areaThen, carriedThen, start, standing, Continues, Session, WellMade, reported}
 use Rattle.calls.specs.Demands.{Bounded, Accounted, Ends, Demand3}
 use Rattle.calls.proofs.Memory.{part-length, part-stored, written-length}
 use Rattle.calls.proofs.Calls.{listed, Passed, Answered, answered-is, will-answer}
-use Rattle.calls.proofs.Carried.{carrying, state-of, zeros-of, written-head}
 use Rattle.calls.proofs.Session as session
 
 -- the words of a part of a list are no more than the list's
@@ -44,7 +45,7 @@ or-right false b e = e
 -- ---- the kind of session: sixteen bytes carry a state, and each area that does not end the list has 1,015 operand words
 
 abbrev Names : List ℕ → ℕ → Type 0
-Names carried k = carried ≡ carrying k
+Names carried k = carried ≡ carriedHead k
 
 module _ (j : List ℕ) (s : ℕ) (ls : Listed (listed s j)) where
   abbrev os : List Operation
@@ -75,7 +76,7 @@ module _ (j : List ℕ) (s : ℕ) (ls : Listed (listed s j)) where
 
     -- ---- an answered call of the session
     module _ (c : Found) (yes : isAnswered c ≡ true) (n : Continues j s st c) where
-      k-is : be32 (areaBefore c) 0 ≡ k
+      k-is : stateIn (areaBefore c) ≡ k
       k-is = state-of (areaBefore c) k (n .carries ∙ o .named) k-small
 
       left : Answered c
@@ -92,8 +93,8 @@ module _ (j : List ℕ) (s : ℕ) (ls : Listed (listed s j)) where
       runs : RunFacts os k
       runs = run-facts os k k-le
 
-      carried-then : carriedThen c ≡ carrying (nextState os k)
-      carried-then = ap (take 16) area-is ∙ written-head (areaBefore c) os k
+      carried-then : carriedThen c ≡ carriedHead (nextState os k)
+      carried-then = ap headOf area-is ∙ written-head (areaBefore c) os k
 
       -- an area that ends the list: only an empty list has one with nothing in it
       last : k + length (run os k) ≡ length os → Bounded (operandWords os) (length (st .areas) + 1)
@@ -138,7 +139,7 @@ module _ (j : List ℕ) (s : ℕ) (ls : Listed (listed s j)) where
         inside = m .inside;
         scoped = rw (m .of-scope) v;
         formed = rw (m .unchanged) w;
-        clear = zeros-of (areaBefore c) k (m .carries ∙ o .named);
+        clear = reserved-of (areaBefore c) k (m .carries ∙ o .named);
         begun = rw (state-of (areaBefore c) k (m .carries ∙ o .named) k-small, m .of-scope, m .unchanged) good-state;
       }
 
@@ -151,7 +152,7 @@ module _ (j : List ℕ) (s : ℕ) (ls : Listed (listed s j)) where
     open-demand : (st : Standing (List ℕ)) (k : ℕ) → Open st k → Accounted j s os st
     unfolding reported wordBytes beBytes
     open-demand st k o =
-        let state-is : be32 (st .carried) 0 ≡ k = state-of (st .carried) k (ap (take 16) (o .named)) (k-small st k o) in
+        let state-is : stateIn (st .carried) ≡ k = state-of (st .carried) k (ap headOf (o .named)) (k-small st k o) in
         record { handed = rw (o .unfinished, state-is) (o .handed); bounded = omega (arith, o .fills, words-part k os); answers = λ e. answers st k o w v }
 
     closed-demand : (st : Standing (List ℕ)) → session.Closed carriedThen areaThen reading os Names Fill End st → Accounted j s os st

@@ -12,7 +12,8 @@ use Rattle.records.specs.Records.{records, recordsFrom, whole, allGood, wellFor
 use Rattle.records.specs.Choosing.{chosenBy}
 use Rattle.journal.specs.Journal.{goodFrame, nodeType, goodRecord, wellFormed, operationOf, entries}
 use Rattle.journal.specs.Scope.{negative, valid, rowOf}
-use Rattle.journal.specs.Reportable.{reports, reportable, operandWords}
+use Rattle.journal.specs.Reportable.{reports, reportable, operandWords, chosen}
+use Rattle.nodes.specs.Head.{isReserved}
 use Rattle.nodes.specs.Run.{present, cost, longest, run, remains, nextState}
 use Rattle.nodes.specs.Area.{operandsOf, body, answer, written}
 use Rattle.inventory.specs.Inventory.{codeLimit, flagOf, typeOf, indexOf, codeOf, nonZero, goodHead, goodCode}
@@ -21,7 +22,7 @@ use Rattle.inventory.specs.Listing as listing
 use Rattle.indices.specs.Area.{codeField, entryBytes, entriesBytes, fitting}
 use Rattle.indices.specs.Area as index-area
 use Rattle.calls.specs.Lent.{partAt, withPart}
-use Rattle.calls.specs.UpdateNodes.{placed, reserved, goodState, areaStatus, areaAfter, nodesStatus, nodesMemory}
+use Rattle.calls.specs.UpdateNodes.{placed, goodState, areaStatus, areaAfter, nodesStatus, nodesMemory}
 use Rattle.calls.specs.GetIndices.{askable, lendable, goodNumber, dueFits, moreEntries, listStatus, indicesStatus, indicesMemory, nextNumber}
 use Rattle.calls.specs.Buffer.{numberFor, asks, nodesOutcome, indicesOutcome, outcome, callOf, answered}
 use Rattle.calls.specs.Session.{afterCall, none, counted, passed}
@@ -38,7 +39,7 @@ bytes-by (x ∷ xs) e zero = ltb-true x 256 (and-left _ _ e)
 bytes-by (x ∷ xs) e (suc i) = bytes-by xs (and-right (ltb x 256) _ e) i
 
 pub nodes-witness : NodesWitness
-unfolding be le beBytes wordBytes zeros records recordsFrom whole allGood wellFormedBy lengthOf kindOf goodFrame nodeType goodRecord wellFormed operationOf entries negative valid rowOf reports reportable operandWords present cost longest run remains nextState operandsOf body answer written partAt withPart placed reserved goodState areaStatus areaAfter nodesStatus nodesMemory numberFor asks nodesOutcome outcome callOf answered afterCall chosenBy
+unfolding be le beBytes wordBytes zeros records recordsFrom whole allGood wellFormedBy lengthOf kindOf goodFrame nodeType goodRecord wellFormed operationOf entries negative valid rowOf reports reportable operandWords present cost longest run remains nextState operandsOf body answer written partAt withPart placed goodState areaStatus areaAfter nodesStatus nodesMemory numberFor asks nodesOutcome outcome callOf answered afterCall chosenBy isReserved
 nodes-witness =
     record {
       bytes = bytes-by additions refl;

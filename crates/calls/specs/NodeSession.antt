@@ -3,9 +3,9 @@ use Prim.Native.Nat.{ℕ, _+_, _%_, _≤_}
 use mathlib.Core.Path.{_≡_}
 use mathlib.Core.Bool.{true, false, cond}
 use mathlib.Core.List.{List, []}
-use lib.ListN.{length, take, replicate}
-use Rattle.words.specs.Numbers.{be32}
+use lib.ListN.{length}
 use Rattle.journal.specs.declared.operation.Operation.{Operation}
+use Rattle.nodes.specs.Head.{headOf, carriedHead, stateIn}
 use Rattle.calls.specs.UpdateNodes.{areaAt}
 use Rattle.calls.specs.Buffer.{token, inputs, outputs, input, Found, callOf}
 use Rattle.calls.specs.Session.{isAnswered, Standing, afterCall, over, Each}
@@ -22,11 +22,11 @@ areaThen c = areaAt (callOf c .memory) (address c)
 
 -- "The first answered one finds sixteen zero bytes at the head of its work area"
 abbrev pub start : Standing (List ℕ)
-start = record { carried = replicate 16 0; done = false; areas = [] }
+start = record { carried = carriedHead 0; done = false; areas = [] }
 
 -- "each later one the first sixteen that the answered call before it left"
 abbrev pub carriedThen : Found → List ℕ
-carriedThen c = take 16 (areaThen c)
+carriedThen c = headOf (areaThen c)
 
 abbrev pub after : Standing (List ℕ) → Found → Standing (List ℕ)
 after st c = afterCall carriedThen areaThen st c
@@ -40,7 +40,7 @@ pub record Continues (j : List ℕ) (scope : ℕ) (st : Standing (List ℕ)) (c 
   pub unchanged : c .journal ≡ j
   pub nodes : token (c .args) ≡ 1
   pub of-scope : input (c .args) 1 ≡ scope
-  pub carries : take 16 (areaBefore c) ≡ st .carried
+  pub carries : headOf (areaBefore c) ≡ st .carried
 
 -- "any list of calls .. in which each is refused, for whatever reason, or is an answered update-nodes call of that scope"
 abbrev pub Rule : List ℕ → ℕ → Standing (List ℕ) → Found → Type 0
@@ -59,8 +59,8 @@ pub record WellMade (j : List ℕ) (scope : ℕ) (st : Standing (List ℕ)) (c :
   pub of-scope : input (c .args) 1 ≡ scope
   pub aligned : address c % 4096 ≡ 0
   pub inside : address c + 4096 ≤ length (c .memory)
-  pub carries : take 16 (areaBefore c) ≡ st .carried
+  pub carries : headOf (areaBefore c) ≡ st .carried
 
 -- "Here k is zero before any answer, then the state last returned, and the number of all once a call says done."
 unfoldable pub reported : List Operation → Standing (List ℕ) → ℕ
-reported os st = cond (st .done) (length os) (be32 (st .carried) 0)
+reported os st = cond (st .done) (length os) (stateIn (st .carried))

@@ -1,15 +1,15 @@
 -- update-nodes on partition memory (document 01, "Lent memory", "update-nodes").
 use Prim.Native.Nat.{ℕ, _+_, _%_}
-use mathlib.Core.Bool.{Bool, cond, _&&_, _||_}
+use mathlib.Core.Bool.{Bool, cond, _&&_}
 use mathlib.Core.List.{List}
-use lib.Dec.{leb, ltb, eqb}
+use lib.Dec.{leb, eqb}
 use lib.ListN.{length}
-use lib.Seq.{slice}
-use Rattle.words.specs.Numbers.{be32, zeros}
 use Rattle.journal.specs.Journal.{wellFormed}
 use Rattle.journal.specs.Scope.{valid, rowOf}
 use Rattle.journal.specs.Reportable.{reportable}
+use Rattle.nodes.specs.Head.{areaSize, stateIn, isReserved}
 use Rattle.nodes.specs.Run.{remains}
+use Rattle.nodes.specs.State.{isWithin}
 use Rattle.nodes.specs.Area.{written}
 use Rattle.calls.specs.declared.status.Status.{Status}
 use Rattle.calls.specs.declared.status.Status.the-variants.{Done, Again, Malformed, Parameter}
@@ -18,36 +18,32 @@ use Rattle.calls.specs.Lent.{partAt, withPart}
 
 -- the work area at an address, and memory with another there
 abbrev pub areaAt : List ℕ → ℕ → List ℕ
-areaAt m address = partAt m address 4096
+areaAt m address = partAt m address areaSize
 
 abbrev pub withArea : List ℕ → ℕ → List ℕ → List ℕ
-withArea m address area = withPart m address 4096 area
+withArea m address area = withPart m address areaSize area
 
 -- 01: "address a multiple of 4,096 and the area inside memory"
 unfoldable pub placed : List ℕ → ℕ → Bool
-placed m address = eqb (address % 4096) 0 && leb (address + 4096) (length m)
-
--- 01: "bytes 4 to 15 of the area zero"
-unfoldable pub reserved : List ℕ → Bool
-reserved area = zeros (slice 4 16 area)
+placed m address = eqb (address % areaSize) 0 && leb (address + areaSize) (length m)
 
 -- 01: "The state is 0, or above 0 and below the length of the reportable list."
 unfoldable pub goodState : List ℕ → List ℕ → List ℕ → Bool
-goodState row j area = eqb (be32 area 0) 0 || ltb (be32 area 0) (length (reportable row j))
+goodState row j area = isWithin (stateIn area) (length (reportable row j))
 
 -- The checks of the area, after those of address and scope: journal (-1), reserved bytes (-3), state (-3).
 unfoldable pub areaStatus : List ℕ → List ℕ → List ℕ → Status
 areaStatus row j area =
     cond (wellFormed j)
-    (cond (reserved area)
+    (cond (isReserved area)
     (cond (goodState row j area)
-    (cond (remains (reportable row j) (be32 area 0)) Again Done)
+    (cond (remains (reportable row j) (stateIn area)) Again Done)
     Parameter)
     Parameter)
     Malformed
 
 unfoldable pub areaAfter : List ℕ → List ℕ → List ℕ → List ℕ
-areaAfter row j area = cond (isAnswer (areaStatus row j area)) (written area (reportable row j) (be32 area 0)) area
+areaAfter row j area = cond (isAnswer (areaStatus row j area)) (written area (reportable row j) (stateIn area)) area
 
 -- 01: "Checks in order: address .. (-3); scope (-3); journal (-1); bytes 4 to 15 of the area zero (-3); state (-3)."
 unfoldable pub nodesStatus : List ℕ → ℕ → ℕ → List ℕ → Status

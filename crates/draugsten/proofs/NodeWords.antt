@@ -12,6 +12,7 @@ use borrow.Author.Tests.{eqb-true}
 use Rattle.words.proofs.Stores.{sets-append}
 use Rattle.journal.specs.declared.operation.Operation.{Operation}
 use Rattle.journal.specs.declared.operation.Operation.the-variants.{Delete, Update, Add}
+use Rattle.nodes.specs.Head.{areaSize}
 use Rattle.nodes.specs.declared.reading.Cursor.{Cursor}
 use Rattle.nodes.specs.declared.reading.Next.the-variants.{Entry, End}
 use Rattle.nodes.specs.declared.reading.Refusal.{Refusal}
@@ -90,13 +91,13 @@ whole-size true x os e = refl
 whole-size false x os e = cc
 
 -- so the state of an area that is read can be read
-area-size : (area : List ℕ) (os : List Operation) → reading area ≡ read os → length area ≡ 4096
+area-size : (area : List ℕ) (os : List Operation) → reading area ≡ read os → length area ≡ areaSize
 unfolding reading
-area-size area os e = eqb-true (length area) 4096 (whole-size (eqb (length area) 4096) _ os e)
+area-size area os e = eqb-true (length area) areaSize (whole-size (eqb (length area) areaSize) _ os e)
 
 -- an area that is read, of so many operations: those that a cursor at its start has before it
 pub record Good (area : List ℕ) (n : ℕ) : Type 0 where
-  pub size : length area ≡ 4096
+  pub size : length area ≡ areaSize
   pub is : reading area ≡ read (remaining area startOf)
   pub entries : length (remaining area startOf) ≡ n
 

@@ -10,6 +10,7 @@ use Rattle.words.specs.Reading.{Reading, read, refused}
 use Rattle.journal.specs.declared.operation.Operation.{Operation}
 use Rattle.journal.specs.declared.operation.Operation.the-variants.{Delete, Update, Add}
 use Rattle.nodes.specs.declared.reading.Refusal as nodes-refusal
+use Rattle.nodes.specs.Head.{stateIn}
 use Rattle.nodes.specs.Reading as nodes
 use Rattle.inventory.specs.Listing.{Entry}
 use Rattle.indices.specs.declared.reading.Refusal as indices-refusal
@@ -31,7 +32,7 @@ operationsWords (o ∷ os) = operationWords o ++ operationsWords os
 
 -- the refusal's number and offset, or the state and the number of operations
 abbrev pub nodeReading : List ℕ → Reading Operation nodes-refusal.Refusal → NodeReading
-nodeReading area (read os) = record { refusal = 0; state = be32 area 0; offset = 0; entries = length os }
+nodeReading area (read os) = record { refusal = 0; state = stateIn area; offset = 0; entries = length os }
 nodeReading area (refused r at) = record { refusal = nodes.refusalNumber r; state = 0; offset = at; entries = 0 }
 
 -- the buffer with as many whole operations as it has room for; a refusal leaves it as it was

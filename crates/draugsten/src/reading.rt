@@ -106,7 +106,7 @@ pub extern "C" fn draugsten_read_nodes(area: &[u8], out: &mut [u32]) -> NodeRead
             store_operations(area, out, words::least(entries, out.len() / 3));
             NodeReading {
                 refusal: 0,
-                state: words::read_be32(area, 0),
+                state: nodes::StateVariable::read(area).0,
                 offset: 0,
                 entries,
             }

@@ -14,7 +14,8 @@ use Rattle.journal.specs.Journal.{wellFormed, entries}
 use Rattle.journal.specs.Reportable.{chosen, reportable, countsOf}
 use Rattle.journal.proofs.Entries.{operations-few}
 use Rattle.journal.proofs.Walks.{within-limit}
-use Rattle.nodes.specs.Run.{partWords, cut, total, run, nextState}
+use Rattle.nodes.specs.Head.{areaSize, headSize, headWords, carriedHead}
+use Rattle.nodes.specs.Run.{areaWords, partWords, cut, total, run, nextState}
 use Rattle.nodes.specs.State.{passedOf, leftOf}
 use Rattle.nodes.specs.Area.{wordsOf, body, answer, written}
 use Rattle.nodes.specs.Writing.{partFrom, bodyFrom}
@@ -28,13 +29,13 @@ counts-small row j c w e = rw e (omega (arith, within-limit j w, operations-few 
 
 -- ---- the parts and the terminator
 
-pub body-stored : (l l₁ l₂ l₃ l₄ p₁ p₂ p₃ : List ℕ) (t₁ t₂ t₃ : ℕ) → l₁ ≡ sets l 16 (wordBytes p₁) → t₁ ≡ 16 + 4 * length p₁ → l₂ ≡ sets l₁ t₁ (wordBytes p₂) → t₂ ≡ t₁ + 4 * length p₂
-    → l₃ ≡ sets l₂ t₂ (wordBytes p₃) → t₃ ≡ t₂ + 4 * length p₃ → l₄ ≡ sets l₃ t₃ (beBytes 4 0) → l₄ ≡ sets l 16 (wordBytes (p₁ ++ (p₂ ++ (p₃ ++ (0 ∷ [])))))
+pub body-stored : (l l₁ l₂ l₃ l₄ p₁ p₂ p₃ : List ℕ) (t₁ t₂ t₃ : ℕ) → l₁ ≡ sets l headSize (wordBytes p₁) → t₁ ≡ headSize + 4 * length p₁ → l₂ ≡ sets l₁ t₁ (wordBytes p₂) → t₂ ≡ t₁ + 4 * length p₂
+    → l₃ ≡ sets l₂ t₂ (wordBytes p₃) → t₃ ≡ t₂ + 4 * length p₃ → l₄ ≡ sets l₃ t₃ (beBytes 4 0) → l₄ ≡ sets l headSize (wordBytes (p₁ ++ (p₂ ++ (p₃ ++ (0 ∷ [])))))
 body-stored l l₁ l₂ l₃ l₄ p₁ p₂ p₃ t₁ t₂ t₃ e₁ f₁ e₂ f₂ e₃ f₃ e₄ =
     store-first l₃ l₄ t₃ 0 e₄
     ∙ ap (λ (m : List ℕ). sets m t₃ (wordBytes (0 ∷ []))) e₃ ∙ words-behind l₂ t₂ t₃ p₃ (0 ∷ []) f₃
     ∙ ap (λ (m : List ℕ). sets m t₂ (wordBytes (p₃ ++ (0 ∷ [])))) e₂ ∙ words-behind l₁ t₁ t₂ p₂ (p₃ ++ (0 ∷ [])) f₂
-    ∙ ap (λ (m : List ℕ). sets m t₁ (wordBytes (p₂ ++ (p₃ ++ (0 ∷ []))))) e₁ ∙ words-behind l 16 t₁ p₁ (p₂ ++ (p₃ ++ (0 ∷ []))) f₁
+    ∙ ap (λ (m : List ℕ). sets m t₁ (wordBytes (p₂ ++ (p₃ ++ (0 ∷ []))))) e₁ ∙ words-behind l headSize t₁ p₁ (p₂ ++ (p₃ ++ (0 ∷ []))) f₁
 
 module _ (row j : List ℕ) (c : Counts) (k : ℕ) (counted : c ≡ countsOf row j) (inside : k ≤ total c) (r : Counts) (fitting : r ≡ cut (leftOf c k)) where
   -- what the writer of each part is asked: no more operations than are left, and room for them
@@ -42,7 +43,7 @@ module _ (row j : List ℕ) (c : Counts) (k : ℕ) (counted : c ≡ countsOf row
     pub deletes : r .deletes ≤ length (chosen row 1 (entries j)) - k
     pub updates : r .updates ≤ length (chosen row 2 (entries j)) - (k - c .deletes)
     pub additions : r .additions ≤ length (chosen row 3 (entries j)) - (k - c .deletes - c .updates)
-    pub room : partWords (1 * r .deletes) + partWords (1 * r .updates) + partWords (2 * r .additions) ≤ 1019
+    pub room : partWords (1 * r .deletes) + partWords (1 * r .updates) + partWords (2 * r .additions) ≤ areaWords
 
   pub asked : Asked
   asked =
@@ -69,14 +70,14 @@ module _ (row j : List ℕ) (c : Counts) (k : ℕ) (counted : c ≡ countsOf row
   unfolding bodyFrom
   body-written = sym (ap (λ (l : List ℕ). l ++ (0 ∷ [])) (body-is row j c k counted inside r fitting) ∙ simp append-assoc)
 
-  pub answer-stored : (l l₁ l₂ : List ℕ) → length l ≡ 4096 → l₁ ≡ sets l 0 (wordBytes (nextState (reportable row j) k ∷ 0 ∷ 0 ∷ 0 ∷ [])) → l₂ ≡ sets l₁ 16 (wordBytes (bodyFrom row j (passedOf c k) r))
+  pub answer-stored : (l l₁ l₂ : List ℕ) → length l ≡ areaSize → l₁ ≡ sets l 0 (carriedHead (nextState (reportable row j) k)) → l₂ ≡ sets l₁ headSize (wordBytes (bodyFrom row j (passedOf c k) r))
       → l₂ ≡ written l (reportable row j) k
   unfolding written answer
   answer-stored l l₁ l₂ n e f =
       let os = reportable row j in
-      let ws = nextState os k ∷ 0 ∷ 0 ∷ 0 ∷ (body (run os k) ++ (0 ∷ [])) in
+      let ws = headWords (nextState os k) ++ (body (run os k) ++ (0 ∷ [])) in
       let within : k ≤ length os = omega (arith, inside, total-is row j, ap total counted) in
-      let size : length (wordBytes ws) ≤ 4096 = rw (length-wordBytes ws, length-append (body (run os k)) (0 ∷ []), length-body (run os k)) (omega (arith, run-facts os k within .fits)) in
-      f ∙ ap (λ (v : List ℕ). sets l₁ 16 (wordBytes v)) body-written ∙ ap (λ (m : List ℕ). sets m 16 (wordBytes (body (run os k) ++ (0 ∷ [])))) e
-      ∙ words-behind l 0 16 (nextState os k ∷ 0 ∷ 0 ∷ 0 ∷ []) (body (run os k) ++ (0 ∷ [])) refl
+      let size : length (wordBytes ws) ≤ areaSize = rw (length-wordBytes ws, length-append (body (run os k)) (0 ∷ []), length-body (run os k)) (omega (arith, run-facts os k within .fits)) in
+      f ∙ ap (λ (v : List ℕ). sets l₁ headSize (wordBytes v)) body-written ∙ ap (λ (m : List ℕ). sets m headSize (wordBytes (body (run os k) ++ (0 ∷ [])))) e
+      ∙ words-behind l 0 headSize (headWords (nextState os k)) (body (run os k) ++ (0 ∷ [])) refl
       ∙ sets-eq (wordBytes ws) l 0 (omega arith) ∙ ap (λ (i : ℕ). wordBytes ws ++ drop i l) (zero-add (length (wordBytes ws)))

@@ -6,7 +6,6 @@ use Prim.Native.Nat.{ℕ, zero, suc, _≤_, _<_}
 use native.Mathlib.Omega.{arith}
 use lib.Dec.{eqb}
 use lib.ListN.{length, take, drop, length-append, length-drop}
-use lib.Seq.{slice}
 use borrow.Author.Tests.{ltb-true}
 use Rattle.words.specs.Numbers.{Small, beBytes, wordBytes, words, zeros}
 use Rattle.words.proofs.Stores.{length-wordBytes}
@@ -19,7 +18,8 @@ use Rattle.words.proofs.Choice.{choose}
 use Rattle.journal.proofs.Entries.{operations-few}
 use Rattle.journal.proofs.Operands.{SmallEntries, entries-small}
 use Rattle.journal.proofs.Walks.{within-limit}
-use Rattle.nodes.specs.Run.{present, cost, longest, run, remains, nextState}
+use Rattle.nodes.specs.Head.{areaSize, headSize, isReserved}
+use Rattle.nodes.specs.Run.{areaWords, present, cost, longest, run, remains, nextState}
 use Rattle.nodes.specs.Longest.{AllOf}
 use Rattle.nodes.specs.Area.{operandsOf, part, body, answer, written}
 use Rattle.words.specs.Reading.{read}
@@ -77,7 +77,7 @@ small-part : (code : ℕ) (ws : List ℕ) → code ≤ 3 → length ws < 1677721
 small-part code [] h l s = tt
 small-part code (w ∷ ws) h l s = (omega arith, s)
 
-small-body : (os : List Operation) → cost os ≤ 1019 → SmallOperands os → Small (body os)
+small-body : (os : List Operation) → cost os ≤ areaWords → SmallOperands os → Small (body os)
 unfolding body cost
 small-body os h s =
     let sum = length-operandsOf os in
@@ -107,7 +107,7 @@ sorted-drop zero least os s = s
 sorted-drop (suc n) least [] s = tt
 sorted-drop (suc n) least (o ∷ os) s = sorted-drop n least os (sorted-lower least (opcode o) os (s .0) (s .1))
 
-module _ (area : List ℕ) (os : List Operation) (state : ℕ) (size : length area ≡ 4096) (l : Listed os) (inside : state ≤ length os) where
+module _ (area : List ℕ) (os : List Operation) (state : ℕ) (size : length area ≡ areaSize) (l : Listed os) (inside : state ≤ length os) where
   abbrev behind : List ℕ
   behind = drop (length (wordBytes (answer os state))) area
 
@@ -119,7 +119,7 @@ module _ (area : List ℕ) (os : List Operation) (state : ℕ) (size : length ar
   unfolding run
   run-small = small-take (longest (length (drop state os)) (drop state os)) (drop state os) (small-drop state os (l .small))
 
-  run-fits : cost (run os state) ≤ 1019
+  run-fits : cost (run os state) ≤ areaWords
   run-fits = run-facts os state inside .fits
 
   answer-small : Small (answer os state)
@@ -127,12 +127,12 @@ module _ (area : List ℕ) (os : List Operation) (state : ℕ) (size : length ar
   answer-small =
       (omega (arith, next-le os state inside, l .few), (omega arith, (omega arith, (omega arith, small-append (body (run os state)) (0 ∷ []) (small-body (run os state) run-fits run-small) (omega arith, tt)))))
 
-  written-size : length (written area os state) ≡ 4096
+  written-size : length (written area os state) ≡ areaSize
   unfolding written answer
   written-size = simp (length-append, length-drop, length-wordBytes, length-body) (omega (arith, run-fits))
 
-  written-zeros : zeros (slice 4 16 (written area os state)) ≡ true
-  unfolding written answer wordBytes beBytes zeros
+  written-zeros : isReserved (written area os state) ≡ true
+  unfolding isReserved written answer wordBytes beBytes zeros
   written-zeros = refl
 
   written-words : drop 4 (words (written area os state)) ≡ body (run os state) ++ (0 ∷ words behind)
@@ -142,7 +142,7 @@ module _ (area : List ℕ) (os : List Operation) (state : ℕ) (size : length ar
   read-back : reading (written area os state) ≡ read (run os state)
   unfolding reading
   read-back =
-      let reads = body-reads (run os state) (words behind) run-sorted run-fits 16 0 (omega arith) in
+      let reads = body-reads (run os state) (words behind) run-sorted run-fits headSize 0 (omega arith) in
       rw (written-size, written-zeros, written-words, reads .0, reads .1)
 
 -- ---- all of them

@@ -13,7 +13,7 @@ use Rattle.journal.specs.declared.operation.Operation.{Operation}
 use Rattle.journal.specs.declared.operation.Operation.the-variants.{Delete, Update, Add}
 use Rattle.journal.specs.declared.scanning.Counts.{Counts}
 use Rattle.journal.specs.Journal.{opcode, operands}
-use Rattle.nodes.specs.Run.{cost, operator, partWords, onesIn, twosIn, cut}
+use Rattle.nodes.specs.Run.{areaWords, cost, operator, partWords, onesIn, twosIn, cut}
 use Rattle.nodes.specs.Longest.{LongestOf, AllOf, CutIsLongest}
 use Rattle.nodes.specs.Area.{wordsOf, operandsOf, part, body}
 use Rattle.nodes.proofs.Runs.{operator-zero, operator-pos, operator-le, length-part, length-body, longest-by}
@@ -125,28 +125,28 @@ module _ (ds us adds : List Operation) where
 -- what the cut of three counts is: the first operations, which fit, and with one operation more do not
 pub record Cut (d u a x y z : ℕ) : Type 0 where
   pub inside : Inside d u a x y z
-  pub fits : worth x y z ≤ 1019
-  pub full : x + y + z < d + u + a → (i : ℕ) × (j : ℕ) × (k : ℕ) × Inside d u a i j k × (i + j + k ≡ suc (x + y + z)) × (1019 < worth i j k)
+  pub fits : worth x y z ≤ areaWords
+  pub full : x + y + z < d + u + a → (i : ℕ) × (j : ℕ) × (k : ℕ) × Inside d u a i j k × (i + j + k ≡ suc (x + y + z)) × (areaWords < worth i j k)
 
 module _ (d u a : ℕ) where
   -- the deletes alone fill the room
-  cut-deletes : 1018 < d → Cut d u a 1018 0 0
+  cut-deletes : areaWords - 1 < d → Cut d u a (areaWords - 1) 0 0
   unfolding operator
-  cut-deletes h = record { inside = in-deletes 1018 (omega arith); fits = omega arith; full = λ _. (1019, 0, 0, in-deletes 1019 h, omega arith, omega arith) }
+  cut-deletes h = record { inside = in-deletes (areaWords - 1) (omega arith); fits = omega arith; full = λ _. (areaWords, 0, 0, in-deletes areaWords h, omega arith, omega arith) }
 
   -- the updates fill it, after all deletes
-  cut-updates : (y : ℕ) → partWords d + partWords y ≤ 1019 → 1019 < partWords d + (2 + y) → y < u → Cut d u a d y 0
+  cut-updates : (y : ℕ) → partWords d + partWords y ≤ areaWords → areaWords < partWords d + (2 + y) → y < u → Cut d u a d y 0
   unfolding operator
   cut-updates y f g h =
       record { inside = in-updates d y refl (omega arith); fits = omega arith; full = λ _. (d, suc y, 0, in-updates d (suc y) refl h, omega arith, omega arith) }
 
   -- the additions fill it, after all deletes and updates
-  cut-additions : (z : ℕ) → worth d u z ≤ 1019 → 1019 < partWords d + partWords u + (3 + 2 * z) → z < a → Cut d u a d u z
+  cut-additions : (z : ℕ) → worth d u z ≤ areaWords → areaWords < partWords d + partWords u + (3 + 2 * z) → z < a → Cut d u a d u z
   cut-additions z f g h =
       record { inside = in-additions d u z refl refl (omega arith); fits = f; full = λ _. (d, u, suc z, in-additions d u (suc z) refl refl h, omega arith, omega (arith, operator-pos (2 * suc z) (omega arith))) }
 
   -- all fit
-  cut-all : worth d u a ≤ 1019 → Cut d u a d u a
+  cut-all : worth d u a ≤ areaWords → Cut d u a d u a
   cut-all f = record { inside = in-additions d u a refl refl (omega arith); fits = f; full = λ h. absurd (omega arith) }
 
 -- a statement about the least of two numbers
@@ -164,14 +164,14 @@ fits-in (suc n) room h = omega (arith, operator-le (suc n))
 
 module _ (d u a : ℕ) where
   -- the additions, in the room that all deletes and updates leave
-  third : (room : ℕ) → partWords d + partWords u + room ≡ 1019 → Cut d u a d u (twosIn room a)
+  third : (room : ℕ) → partWords d + partWords u + room ≡ areaWords → Cut d u a d u (twosIn room a)
   third room e =
       min-either a ((room - 1) / 2) (Cut d u a d u)
       (λ h. cut-all d u a (omega (arith, fits-in (2 * a) room (omega arith))))
       (λ h. let z = (room - 1) / 2 in cut-additions d u a z (omega (arith, fits-in (2 * z) room (omega arith))) (omega arith) h)
 
   -- the updates and additions, in the room that all deletes leave
-  second : (room : ℕ) → partWords d + room ≡ 1019 → Cut d u a d (onesIn room u) (twosIn (room - partWords (onesIn room u)) a)
+  second : (room : ℕ) → partWords d + room ≡ areaWords → Cut d u a d (onesIn room u) (twosIn (room - partWords (onesIn room u)) a)
   second room e =
       min-either u (room - 1) (λ (y : ℕ). Cut d u a d y (twosIn (room - partWords y) a))
       (λ h. third (room - partWords u) (omega (arith, fits-in u room h)))
@@ -189,8 +189,8 @@ cut-is left =
     let d = left .deletes in
     let u = left .updates in
     let a = left .additions in
-    min-either d 1018 (λ (x : ℕ). let r = 1019 - partWords x in Cut d u a x (onesIn r u) (twosIn (r - partWords (onesIn r u)) a))
-    (λ h. second d u a (1019 - partWords d) (omega (arith, fits-in d 1019 h)))
+    min-either d (areaWords - 1) (λ (x : ℕ). let r = areaWords - partWords x in Cut d u a x (onesIn r u) (twosIn (r - partWords (onesIn r u)) a))
+    (λ h. second d u a (areaWords - partWords d) (omega (arith, fits-in d areaWords h)))
     (λ h. simp min-zero (cut-deletes d u a h))
 
 -- ---- the cut is the longest run

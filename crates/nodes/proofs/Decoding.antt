@@ -13,7 +13,7 @@ use Rattle.journal.specs.declared.operation.Operation.{Operation}
 use Rattle.journal.specs.declared.operation.Operation.the-variants.{Delete, Update, Add}
 use Rattle.journal.specs.Journal.{opcode, operands}
 use Rattle.nodes.specs.declared.reading.Fault.the-variants.{Fine}
-use Rattle.nodes.specs.Run.{cost}
+use Rattle.nodes.specs.Run.{areaWords, cost}
 use Rattle.nodes.specs.Longest.{AllOf}
 use Rattle.nodes.specs.Area.{wordsOf, part, body}
 use Rattle.nodes.specs.Reading.{opcodeIn, countIn, faultOf, good, verdict, operationsAt}
@@ -126,7 +126,7 @@ words-operands : (code : ℕ) (os : List Operation) → 1 ≤ code → code ≤ 
 words-operands code os low high short c =
     record { low = low; high = high; short = short; even = even-additions code os c; holds = λ ws. operations-of code os ws c }
 
-parts-read : (ds us adds : List Operation) (ws : List ℕ) → AllOf 1 ds → AllOf 2 us → AllOf 3 adds → cost (ds ++ (us ++ adds)) ≤ 1019 → Reads 0 (body (ds ++ (us ++ adds)) ++ (0 ∷ ws)) (ds ++ (us ++ adds))
+parts-read : (ds us adds : List Operation) (ws : List ℕ) → AllOf 1 ds → AllOf 2 us → AllOf 3 adds → cost (ds ++ (us ++ adds)) ≤ areaWords → Reads 0 (body (ds ++ (us ++ adds)) ++ (0 ∷ ws)) (ds ++ (us ++ adds))
 parts-read ds us adds ws cd cu ca short =
     let split = body-split ds us adds cd cu ca in
     let size = simp (length-append, length-part) at (sym (length-body (ds ++ (us ++ adds))) ∙ ap length split) in
@@ -136,7 +136,7 @@ parts-read ds us adds ws cd cu ca short =
     rw split (simp append-assoc (simp append-nil at (reads-lower 0 1 _ _ (omega arith) one)))
 
 -- the words of a sorted list, and a zero after them, hold the list
-pub body-reads : (os : List Operation) (ws : List ℕ) → Sorted 0 os → cost os ≤ 1019 → Reads 0 (body os ++ (0 ∷ ws)) os
+pub body-reads : (os : List Operation) (ws : List ℕ) → Sorted 0 os → cost os ≤ areaWords → Reads 0 (body os ++ (0 ∷ ws)) os
 body-reads os ws s short =
     let d = apart 1 os (from-one os s) in
     let u = apart 2 (d .others) (d .later) in

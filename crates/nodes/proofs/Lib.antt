@@ -1,3 +1,4 @@
+pub mod Carried
 pub mod Runs
 pub mod Cut
 pub mod Listed

@@ -15,7 +15,7 @@ use Rattle.journal.specs.declared.scanning.Counts.{Counts}
 use Rattle.journal.specs.Journal.{Entry, opcode, entries}
 use Rattle.journal.specs.Reportable.{reports, chosen, reportable, countsOf}
 use Rattle.words.proofs.Choice.{choose, and-left}
-use Rattle.nodes.specs.Run.{run, remains, nextState, partWords, cut, total}
+use Rattle.nodes.specs.Run.{areaWords, run, remains, nextState, partWords, cut, total}
 use Rattle.nodes.specs.Longest.{AllOf}
 use Rattle.nodes.specs.State.{leftOf}
 use Rattle.nodes.specs.Area.{wordsOf, part, body}
@@ -124,7 +124,7 @@ module _ (row j : List ℕ) (c : Counts) (k : ℕ) (counted : c ≡ countsOf row
   unfolding nextState
   next-is after next more e m f = f ∙ rw (m, remains-is after e, e, run-length)
 
-  pub fits : partWords (r .deletes) + partWords (r .updates) + partWords (2 * r .additions) ≤ 1019
+  pub fits : partWords (r .deletes) + partWords (r .updates) + partWords (2 * r .additions) ≤ areaWords
   fits = cut-here .fits
 
   pub few : k + total r ≤ total c

@@ -15,7 +15,7 @@ use Rattle.journal.specs.declared.operation.Operation.the-variants.{Delete, Upd
 use Rattle.journal.specs.Journal.{opcode, operands}
 use Rattle.journal.specs.Reportable.{operandWords}
 use Rattle.words.proofs.Choice.{choose}
-use Rattle.nodes.specs.Run.{present, cost, longest, run, remains, nextState, operator, partWords}
+use Rattle.nodes.specs.Run.{areaWords, filledWords, present, cost, longest, run, remains, nextState, operator, partWords}
 use Rattle.nodes.specs.Longest.{LongestOf, LongestRun}
 use Rattle.nodes.specs.Area.{operandsOf, part, body}
 
@@ -128,20 +128,20 @@ cost-shorter m n os h = subst (λ (x : List Operation). cost x ≤ cost (take n 
 longest-within : (n : ℕ) (os : List Operation) → longest n os ≤ n
 unfolding longest
 longest-within zero os = omega arith
-longest-within (suc n) os = choose (leb (cost (take (suc n) os)) 1019) (λ (m : ℕ). m ≤ suc n) (λ e. omega arith) (λ e. omega (arith, longest-within n os))
+longest-within (suc n) os = choose (leb (cost (take (suc n) os)) areaWords) (λ (m : ℕ). m ≤ suc n) (λ e. omega arith) (λ e. omega (arith, longest-within n os))
 
-longest-fits : (n : ℕ) (os : List Operation) → cost (take (longest n os) os) ≤ 1019
+longest-fits : (n : ℕ) (os : List Operation) → cost (take (longest n os) os) ≤ areaWords
 unfolding longest cost present operandWords
 longest-fits zero os = omega arith
-longest-fits (suc n) os = choose (leb (cost (take (suc n) os)) 1019) (λ (m : ℕ). cost (take m os) ≤ 1019) (λ e. leb-true _ _ e) (λ e. longest-fits n os)
+longest-fits (suc n) os = choose (leb (cost (take (suc n) os)) areaWords) (λ (m : ℕ). cost (take m os) ≤ areaWords) (λ e. leb-true _ _ e) (λ e. longest-fits n os)
 
-longest-most : (n : ℕ) (os : List Operation) (m : ℕ) → m ≤ n → longest n os < m → 1019 < cost (take m os)
+longest-most : (n : ℕ) (os : List Operation) (m : ℕ) → m ≤ n → longest n os < m → areaWords < cost (take m os)
 unfolding longest
 longest-most zero os m h = λ l. absurd (omega arith)
-longest-most (suc n) os m h = choose (leb (cost (take (suc n) os)) 1019) (λ (k : ℕ). k < m → 1019 < cost (take m os))
+longest-most (suc n) os m h = choose (leb (cost (take (suc n) os)) areaWords) (λ (k : ℕ). k < m → areaWords < cost (take m os))
     (λ e l. absurd (omega arith))
     (λ e l. ⊎-elim
-    (λ q. subst (λ (i : ℕ). 1019 < cost (take i os)) (sym q) (leb-false _ _ e))
+    (λ q. subst (λ (i : ℕ). areaWords < cost (take i os)) (sym q) (leb-false _ _ e))
     (λ g. longest-most n os m (omega arith) l)
     (eq-or-lt-of-le h))
 
@@ -152,7 +152,7 @@ longest-is os =
     record { first = rw t; fits = longest-fits (length os) os; no-longer = λ n l h. longest-most (length os) os n h (omega arith) }
 
 -- so are the first m operations that fit, where with one operation more they do not
-pub longest-by : (os : List Operation) (m : ℕ) → m ≤ length os → cost (take m os) ≤ 1019 → (m < length os → 1019 < cost (take (suc m) os)) → LongestOf os (take m os)
+pub longest-by : (os : List Operation) (m : ℕ) → m ≤ length os → cost (take m os) ≤ areaWords → (m < length os → areaWords < cost (take (suc m) os)) → LongestOf os (take m os)
 longest-by os m within fits full =
     let t : length (take m os) ≡ m = length-take-le m os within in
     record { first = rw t; fits = fits; no-longer = λ n h g. omega (arith, full (omega arith), cost-shorter (suc m) n os (omega arith)) }
@@ -182,11 +182,11 @@ longest-run os state = longest-is (drop state os)
 -- The run from a state on fits and ends within the list; with what stands before the state it is the list's first operations; it leaves something only
 -- after 1,015 operand words; and it is not empty where something is left.
 pub record RunFacts (os : List Operation) (k : ℕ) : Type 0 where
-  pub fits : cost (run os k) ≤ 1019
+  pub fits : cost (run os k) ≤ areaWords
   pub within : k + length (run os k) ≤ length os
   pub so-far : take k os ++ run os k ≡ take (k + length (run os k)) os
   pub words-so-far : operandWords (take (k + length (run os k)) os) ≡ operandWords (take k os) + operandWords (run os k)
-  pub many : k + length (run os k) < length os → 1015 ≤ operandWords (run os k)
+  pub many : k + length (run os k) < length os → filledWords ≤ operandWords (run os k)
   pub some-more : k < length os → 0 < length (run os k)
 
 pub run-facts : (os : List Operation) (k : ℕ) → k ≤ length os → RunFacts os k
@@ -196,7 +196,7 @@ run-facts os k h =
     let l : LongestOf r (run os k) = longest-run os k in
     let d : length r ≡ length os - k = length-drop k os in
     let joins : take k os ++ run os k ≡ take (k + m) os = ap (λ (x : List Operation). take k os ++ x) (l .first) ∙ sym (take-add k m os) in
-    let full : m < length r → 1015 ≤ operandWords (run os k) = λ g. omega (arith, l .no-longer (suc m) (omega arith) g, cost-le (take (suc m) r), operandWords-suc m r, ap operandWords (l .first)) in
+    let full : m < length r → filledWords ≤ operandWords (run os k) = λ g. omega (arith, l .no-longer (suc m) (omega arith) g, cost-le (take (suc m) r), operandWords-suc m r, ap operandWords (l .first)) in
     let inside : m ≤ length r = longest-inside r (run os k) l in
     record {
       fits = l .fits;

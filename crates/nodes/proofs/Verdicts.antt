@@ -8,9 +8,9 @@ use native.Mathlib.Numerals.{sub-one}
 use native.Mathlib.Omega.{arith}
 use lib.Dec.{leb, ltb, eqb}
 use lib.ListN.{length, drop, length-drop}
-use lib.Seq.{drop-drop, slice}
+use lib.Seq.{drop-drop}
 use borrow.Author.Tests.{eq-eqb, ne-eqb, ltb-false, eqb-true, eqb-false}
-use Rattle.words.specs.Numbers.{be, words, zeros}
+use Rattle.words.specs.Numbers.{be, words}
 use Rattle.words.proofs.Words.{words-step, words-short, words-drop, length-words}
 use Rattle.words.proofs.Choice.{choose}
 use Rattle.journal.specs.declared.operation.Operation.{Operation}
@@ -22,6 +22,7 @@ use Rattle.nodes.specs.declared.reading.Check.{Check}
 use Rattle.nodes.specs.declared.reading.Check.the-variants.{Entries, Refused}
 use Rattle.words.specs.Reading.{read, refused}
 use Rattle.nodes.specs.Reading.{opcodeIn, countIn, faultOf, Verdict, good, bad, verdict, single, operationsAt, operationsIn, readBy, reading, checkOf}
+use Rattle.nodes.specs.Head.{areaSize, headSize, isReserved}
 use Rattle.nodes.specs.Cursor.{remaining, EntriesInOrder}
 
 -- ---- a fine operator
@@ -122,7 +123,7 @@ module _ (w at last : ℕ) (ws : List ℕ) where
   unfolding verdict
   verdict-fine h e = rw (ne-eqb w 0 h, e) (verdict-passed (countIn w) (at + 4) (opcodeIn w) ws (operator w last (length ws) e .fits))
 
-pub verdict-none : (at last : ℕ) → verdict 0 at last [] ≡ bad Unterminated 4096
+pub verdict-none : (at last : ℕ) → verdict 0 at last [] ≡ bad Unterminated areaSize
 unfolding verdict
 verdict-none at last = refl
 
@@ -142,7 +143,7 @@ checked a = checkOf (readBy (verdict 0 16 0 (words (drop 16 a))) (operationsAt (
 
 -- a check that stands at the place of an operator: what it finds from there on is what the whole check finds
 pub record Stands (a : List ℕ) (at last entries : ℕ) : Type 0 where
-  pub inside : at ≤ 4096
+  pub inside : at ≤ areaSize
   pub place : at % 4 ≡ 0
   pub few : entries ≤ at
   pub finds : checked a ≡ found a at last entries
@@ -165,32 +166,32 @@ few-operations : (w : ℕ) → operationsIn w ≤ countIn w
 few-operations w = choose (eqb (opcodeIn w) 3) (λ (k : ℕ). k ≤ countIn w) (λ _. omega arith) (λ _. omega arith)
 
 module _ (a : List ℕ) (at last entries : ℕ) (s : Stands a at last entries) where
-  pub stands-out : length a ≤ at → Refused Unterminated 4096 ≡ checked a
+  pub stands-out : length a ≤ at → Refused Unterminated areaSize ≡ checked a
   unfolding found
   stands-out h = rw (s .finds, words-short a at (omega arith), verdict-none at last)
 
   -- at an operator
-  module _ (w : ℕ) (size : length a ≡ 4096) (more : at < 4096) (word : w ≡ be 4 a at) where
+  module _ (w : ℕ) (size : length a ≡ areaSize) (more : at < areaSize) (word : w ≡ be 4 a at) where
     ahead : words (drop at a) ≡ w ∷ words (drop (at + 4) a)
     ahead = rw word (words-step a at (omega (arith, s .place)))
 
-    behind : (4092 - at) / 4 ≡ length (words (drop (at + 4) a))
-    behind = sym (length-words ((4092 - at) / 4) (drop (at + 4) a) (omega (arith, s .place, length-drop (at + 4) a)))
+    behind : (areaSize - (at + 4)) / 4 ≡ length (words (drop (at + 4) a))
+    behind = sym (length-words ((areaSize - (at + 4)) / 4) (drop (at + 4) a) (omega (arith, s .place, length-drop (at + 4) a)))
 
     pub stands-end : w ≡ 0 → Entries entries ≡ checked a
     unfolding found
     stands-end e = rw (s .finds, ahead, verdict-end w at last _ e, operations-end last w _ e, add-zero entries)
 
-    pub stands-bad : (r : Refusal) → (w ≡ 0 → ⊥) → faultOf w last ((4092 - at) / 4) ≡ Bad r → Refused r at ≡ checked a
+    pub stands-bad : (r : Refusal) → (w ≡ 0 → ⊥) → faultOf w last ((areaSize - (at + 4)) / 4) ≡ Bad r → Refused r at ≡ checked a
     unfolding found
     stands-bad r h e = rw (s .finds, ahead, verdict-bad w at last _ r h (rw behind at e))
 
-    pub stands-fine : (w ≡ 0 → ⊥) → faultOf w last ((4092 - at) / 4) ≡ Fine → Stands a (at + 4 + 4 * countIn w) (opcodeIn w) (entries + operationsIn w)
+    pub stands-fine : (w ≡ 0 → ⊥) → faultOf w last ((areaSize - (at + 4)) / 4) ≡ Fine → Stands a (at + 4 + 4 * countIn w) (opcodeIn w) (entries + operationsIn w)
     unfolding found
     stands-fine h e =
         let n = countIn w in
         let ws = words (drop (at + 4) a) in
-        let o = operator w last ((4092 - at) / 4) e in
+        let o = operator w last ((areaSize - (at + 4)) / 4) e in
         let passed = operations-passed (opcodeIn w) n ws (rw behind at (o .fits)) (o .even) in
         let rest : drop n ws ≡ words (drop (at + 4 + 4 * n) a) = words-drop n (drop (at + 4) a) ∙ ap words (drop-drop (4 * n) (at + 4) a) in
         record {
@@ -212,4 +213,4 @@ pub entries-in-order : EntriesInOrder
 unfolding reading remaining
 entries-in-order area os e =
     let ws = drop 4 (words area) in
-    rw (words-drop 4 area) at (read-found (not (eqb (length area) 4096)) (not (zeros (slice 4 16 area))) (verdict 0 16 0 ws) (operationsAt ws 0 0) os e)
+    rw (words-drop 4 area) at (read-found (not (eqb (length area) areaSize)) (not (isReserved area)) (verdict 0 headSize 0 ws) (operationsAt ws 0 0) os e)

@@ -22,7 +22,7 @@ use Rattle.journal.proofs.Opcodes.{each-code}
 use Rattle.journal.proofs.Entries.{each-entry}
 use Rattle.journal.proofs.Judging.{judged-kind}
 use Rattle.journal.proofs.Walks.{all-good, walked, walked-on, walked-fits, walked-size, walked-operands}
-use Rattle.nodes.specs.Run.{partWords, operator}
+use Rattle.nodes.specs.Run.{partWords, operator, areaWords}
 use Rattle.nodes.specs.Longest.{AllOf}
 use Rattle.nodes.specs.Area.{wordsOf, part}
 use Rattle.nodes.specs.Writing.{width, Due, dueWords, partFrom}
@@ -195,9 +195,9 @@ module _ (row j : List ℕ) (code k from n : ℕ) (r : Resumes row j code k from
 pub record Sized (width r n : ℕ) : Type 0 where
   pub is : r * n ≡ width * n
   pub some : 0 < r * n
-  pub few : r * n ≤ 2038
+  pub few : r * n ≤ 2 * areaWords
 
-pub sized : (code r n : ℕ) → r ≡ width code → 0 < n → n ≤ 1019 → Sized (width code) r n
+pub sized : (code r n : ℕ) → r ≡ width code → 0 < n → n ≤ areaWords → Sized (width code) r n
 sized code r n e l h =
     let b = width-some code in
     rw e (record { is = refl; some = omega (arith, mul-one-le (width code) n l); few = omega (arith, mul-le-mul (b .1) h) })

@@ -7,6 +7,7 @@ use lib.ListN.{length, drop}
 use Rattle.words.specs.Numbers.{wordBytes}
 use Rattle.journal.specs.declared.operation.Operation.{Operation}
 use Rattle.journal.specs.Journal.{opcode, operands}
+use Rattle.nodes.specs.Head.{headWords}
 use Rattle.nodes.specs.Run.{run, nextState}
 
 -- the operand words of operations, in order
@@ -31,7 +32,7 @@ body os = part 1 (operandsOf 1 os) ++ (part 2 (operandsOf 2 os) ++ part 3 (opera
 
 -- 01: "The answer: new state (0 when nothing remains), twelve zero bytes, one operator and its operands for each opcode present, then 0x00000000."
 unfoldable pub answer : List Operation → ℕ → List ℕ
-answer os state = nextState os state ∷ 0 ∷ 0 ∷ 0 ∷ (body (run os state) ++ (0 ∷ []))
+answer os state = headWords (nextState os state) ++ (body (run os state) ++ (0 ∷ []))
 
 -- 01: "Bytes after the terminator stay unchanged."
 unfoldable pub written : List ℕ → List Operation → ℕ → List ℕ

@@ -11,7 +11,8 @@ use Rattle.journal.specs.declared.operation.Operation.{Operation}
 use Rattle.journal.specs.declared.operation.Operation.the-variants.{Delete, Update, Add}
 use Rattle.journal.specs.Journal.{opcode, operands, wellFormed}
 use Rattle.journal.specs.Reportable.{reportable, operandWords}
-use Rattle.nodes.specs.Run.{run, remains, nextState}
+use Rattle.nodes.specs.Head.{areaSize}
+use Rattle.nodes.specs.Run.{filledWords, run, remains, nextState}
 use Rattle.nodes.specs.Longest.{LongestRun}
 use Rattle.nodes.specs.Area.{written}
 use Rattle.words.specs.Reading.{read}
@@ -38,7 +39,7 @@ ReportableListed = (row j : List ℕ) → Bytes j → wellFormed j ≡ true → 
 
 -- Reading what was written gives back the run, so it is never refused.
 abbrev pub RoundTrip : Type 0
-RoundTrip = (area : List ℕ) (os : List Operation) (state : ℕ) → length area ≡ 4096 → Listed os → state ≤ length os → reading (written area os state) ≡ read (run os state)
+RoundTrip = (area : List ℕ) (os : List Operation) (state : ℕ) → length area ≡ areaSize → Listed os → state ≤ length os → reading (written area os state) ≡ read (run os state)
 
 -- The run is never empty while operations remain.
 abbrev pub NeverEmpty : Type 0
@@ -46,7 +47,7 @@ NeverEmpty = (os : List Operation) (state : ℕ) → state < length os → 0 < l
 
 -- An area that does not finish the list hands out at least 1,015 operand words.
 abbrev pub WellFilled : Type 0
-WellFilled = (os : List Operation) (state : ℕ) → state ≤ length os → remains os state ≡ true → 1015 ≤ operandWords (run os state)
+WellFilled = (os : List Operation) (state : ℕ) → state ≤ length os → remains os state ≡ true → filledWords ≤ operandWords (run os state)
 
 -- 01, "Readings on both sides of the lines", as runs: so many deletes, updates and additions, the state given and the state left.
 pub record RunCase : Type 0 where

@@ -13,6 +13,7 @@ use Rattle.nodes.specs.declared.reading.Next.{Next}
 use Rattle.nodes.specs.declared.reading.Next.the-variants.{Entry, End}
 use Rattle.words.specs.Reading.{read}
 use Rattle.nodes.specs.Reading.{opcodeIn, countIn, single, operationsAt, reading}
+use Rattle.nodes.specs.Head.{headSize}
 
 -- the operations that a cursor has before it
 unfoldable pub remaining : List ℕ → Cursor → List Operation
@@ -43,7 +44,7 @@ abbrev pub StepsGive : Type 0
 StepsGive = (area : List ℕ) (c : Cursor) → Gives area (remaining area c) (nextOf area c)
 
 abbrev pub startOf : Cursor
-startOf = record { at = 16; code = 0; left = 0 }
+startOf = record { at = headSize; code = 0; left = 0 }
 
 -- From the start a cursor has the operations of the area's reading before it, in order.
 abbrev pub EntriesInOrder : Type 0

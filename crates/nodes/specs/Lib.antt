@@ -1,3 +1,4 @@
+pub mod Head
 pub mod Run
 pub mod Longest
 pub mod State

@@ -5,13 +5,13 @@ use mathlib.Core.List.{List, [], _∷_, _++_}
 use lib.ListN.{length, take, drop}
 use Rattle.journal.specs.declared.operation.Operation.{Operation}
 use Rattle.journal.specs.Journal.{opcode}
-use Rattle.nodes.specs.Run.{cost, run, cut}
+use Rattle.nodes.specs.Run.{areaWords, cost, run, cut}
 
 -- 01: "the longest run of operations .. that fits 1,019 words": the first operations of a list, which fit, and no more of them do
 pub record LongestOf (os run : List Operation) : Type 0 where
   pub first : run ≡ take (length run) os
-  pub fits : cost run ≤ 1019
-  pub no-longer : (n : ℕ) → length run < n → n ≤ length os → 1019 < cost (take n os)
+  pub fits : cost run ≤ areaWords
+  pub no-longer : (n : ℕ) → length run < n → n ≤ length os → areaWords < cost (take n os)
 
 -- every operation has the opcode
 abbrev pub AllOf : ℕ → List Operation → Type 0

@@ -9,6 +9,7 @@ use Rattle.words.specs.Reading.{Reading, read, refused}
 use Rattle.words.specs.Numbers.{words, zeros}
 use Rattle.journal.specs.declared.operation.Operation.{Operation}
 use Rattle.journal.specs.declared.operation.Operation.the-variants.{Delete, Update, Add}
+use Rattle.nodes.specs.Head.{areaSize, headSize, isReserved}
 use Rattle.nodes.specs.declared.reading.Refusal.{Refusal}
 use Rattle.nodes.specs.declared.reading.Refusal.the-variants.{Size, Reserved, Opcode, Count, Past, Odd, Order, Unterminated}
 use Rattle.nodes.specs.declared.reading.Fault.{Fault}
@@ -57,12 +58,12 @@ judgedBy (Bad r) at more = bad r at
 -- 01: "Then operators from byte 16: word zero ends the list; .. each at the operator's offset, in this order. 27 the area ends without a terminator (offset 4096)."
 -- The words from byte offset `at` on; the first k are operands of an operator that was judged.
 unfoldable pub verdict : ℕ → ℕ → ℕ → List ℕ → Verdict
-verdict zero at last [] = bad Unterminated 4096
+verdict zero at last [] = bad Unterminated areaSize
 verdict zero at last (w ∷ ws) =
     let more = verdict (countIn w) (at + 4) (opcodeIn w) ws in
     let judged = judgedBy (faultOf w last (length ws)) at more in
     cond (eqb w 0) good judged
-verdict (suc k) at last [] = bad Unterminated 4096
+verdict (suc k) at last [] = bad Unterminated areaSize
 verdict (suc k) at last (w ∷ ws) = verdict k (at + 4) last ws
 
 -- The operation of one operand word.
@@ -89,9 +90,9 @@ readBy (bad r at) os = refused r at
 unfoldable pub reading : List ℕ → Reading Operation Refusal
 reading area =
     let ws = drop 4 (words area) in
-    let found = readBy (verdict 0 16 0 ws) (operationsAt ws 0 0) in
-    cond (not (eqb (length area) 4096)) (refused Size 0)
-    (cond (not (zeros (slice 4 16 area))) (refused Reserved 4)
+    let found = readBy (verdict 0 headSize 0 ws) (operationsAt ws 0 0) in
+    cond (not (eqb (length area) areaSize)) (refused Size 0)
+    (cond (not (isReserved area)) (refused Reserved 4)
     found)
 
 -- What a check of an area tells of its reading: the number of its operations, or the refusal.

@@ -19,12 +19,20 @@ present code (o ∷ os) =
 unfoldable pub cost : List Operation → ℕ
 cost os = present 1 os + present 2 os + present 3 os + operandWords os
 
--- The length of the longest run at the head of a list, of no more than n operations, that fits 1,019 words.
+-- 01: "that fits 1,019 words"
+abbrev pub areaWords : ℕ
+areaWords = 1019
+
+-- The operand words that a run has at least where operations remain: the next one does not fit beside three operators.
+abbrev pub filledWords : ℕ
+filledWords = 1015
+
+-- The length of the longest run at the head of a list, of no more than n operations, that fits.
 unfoldable pub longest : ℕ → List Operation → ℕ
 longest zero os = 0
 longest (suc n) os =
     let shorter = longest n os in
-    cond (leb (cost (take (suc n) os)) 1019) (suc n) shorter
+    cond (leb (cost (take (suc n) os)) areaWords) (suc n) shorter
 
 -- 01: "The call hands out the longest run of operations, from the state on, that fits 1,019 words."
 unfoldable pub run : List Operation → ℕ → List Operation
@@ -56,8 +64,8 @@ twosIn room left = min left ((room - 1) / 2)
 
 unfoldable pub cut : Counts → Counts
 cut left =
-    let deletes = onesIn 1019 (left .deletes) in
-    let room₂ = 1019 - partWords deletes in
+    let deletes = onesIn areaWords (left .deletes) in
+    let room₂ = areaWords - partWords deletes in
     let updates = onesIn room₂ (left .updates) in
     let room₃ = room₂ - partWords updates in
     record { deletes = deletes; updates = updates; additions = twosIn room₃ (left .additions) }

@@ -5,9 +5,13 @@ ghost use lib.Dec.{leb, eqb};
 ghost use Prim.Native.Nat.{_-_, _%_, _<_};
 ghost use lib.ListN.{length, drop};
 ghost use Rattle.words.specs.Numbers.{words};
+ghost use Rattle.nodes.specs.Head.{areaSize, headSize};
 ghost use Rattle.nodes.specs.Reading.{faultOf, operationsIn, verdict, operationsAt, single, readBy, reading, checkOf};
 ghost use Rattle.nodes.specs.ReadingCases.{ReadingCases};
 ghost use Rattle.nodes.specs.Cursor.{stepAt, nextOf, StepsGive, startOf, EntriesInOrder};
+use crate::head::AREA_SIZE;
+use crate::head::HEAD_SIZE;
+use crate::head::is_reserved;
 use journal::Operation;
 
 // Why an area is refused.
@@ -77,20 +81,21 @@ fn operations_in(word: u32) -> usize
     count
 }
 
-// The operators of an area from byte 16 on.
+// The operators of an area, which begin behind its head.
 fn check_operators(area: &[u8]) -> Check
-    requires { ⌜ length (now area) ≡ 4096 ⌝ }
-    ensures { λ r. ⌜ r ≡ checkOf (readBy (verdict 0 16 0 (words (drop 16 (now (area .entry))))) (operationsAt (words (drop 16 (now (area .entry)))) 0 0)) ⌝ }
+    requires { ⌜ length (now area) ≡ areaSize ⌝ }
+    ensures { λ r. ⌜ r ≡ checkOf (readBy (verdict 0 headSize 0 (words (drop headSize (now (area .entry))))) (operationsAt (words (drop headSize (now (area .entry)))) 0 0)) ⌝ }
 {
-    let mut at: usize = 16;
+    let mut at = HEAD_SIZE;
     let mut last: u32 = 0;
     let mut entries: usize = 0;
-    while at < 4096 {
+    while at < AREA_SIZE {
         let word = words::read_be32(area, at);
         if word == 0 {
             return Check::Entries(entries);
         }
-        let found = fault_of(word, last, (4092 - at) / 4);
+        let behind = at + 4;
+        let found = fault_of(word, last, (AREA_SIZE - behind) / 4);
         match found {
             Fault::Bad(r) => {
                 return Check::Refused(r, at);
@@ -98,11 +103,11 @@ fn check_operators(area: &[u8]) -> Check
             Fault::Fine => {
                 entries += operations_in(word);
                 last = word / 16777216;
-                at = at + 4 + 4 * ((word % 16777216) as usize);
+                at = behind + 4 * ((word % 16777216) as usize);
             }
         }
     }
-    Check::Refused(Refusal::Unterminated, 4096)
+    Check::Refused(Refusal::Unterminated, AREA_SIZE)
 }
 
 // The whole area judged: the number of its operations, or the first refusal.
@@ -110,10 +115,10 @@ pub fn check_area(area: &[u8]) -> Check
     ensures { λ r. ⌜ r ≡ checkOf (reading (now (area .entry))) ⌝ }
     ensures cases { λ _. ⌜ ReadingCases ⌝ }
 {
-    if area.len() != 4096 {
+    if area.len() != AREA_SIZE {
         return Check::Refused(Refusal::Size, 0);
     }
-    if !words::is_zero(area, 4, 16) {
+    if !is_reserved(area) {
         return Check::Refused(Refusal::Reserved, 4);
     }
     check_operators(area)
@@ -190,7 +195,7 @@ impl Cursor {
         ensures order { λ _. ⌜ EntriesInOrder ⌝ }
     {
         Cursor {
-            at: 16,
+            at: HEAD_SIZE,
             code: 0,
             left: 0,
         }

@@ -5,6 +5,9 @@ ghost use Rattle.nodes.specs.Run.{partWords, cut};
 ghost use Rattle.nodes.specs.Longest.{CutIsLongest};
 use journal::Counts;
 
+// The words that a run may cost.
+const AREA_WORDS: usize = 1019;
+
 // The words left of a room once n operand words stand in it with their operator.
 fn room_after(room: usize, n: usize) -> usize
     ensures { λ r. ⌜ r ≡ room - partWords n ⌝ }
@@ -20,8 +23,8 @@ pub fn longest_run(left: Counts) -> Counts
     ensures { λ r. ⌜ r ≡ cut left ⌝ }
     ensures longest { λ _. ⌜ CutIsLongest ⌝ }
 {
-    let deletes = words::least(left.deletes, 1018);
-    let second = room_after(1019, deletes);
+    let deletes = words::least(left.deletes, AREA_WORDS - 1);
+    let second = room_after(AREA_WORDS, deletes);
     let updates = words::least(left.updates, words::saturating_sub(second, 1));
     let third = room_after(second, updates);
     let additions = words::least(left.additions, words::saturating_sub(third, 1) / 2);

@@ -1,14 +1,15 @@
 // The State Variable, and what is asked of it.
 ghost use mathlib.Core.Path.{_≡_};
-ghost use mathlib.Core.Bool.{cond, _||_};
+ghost use mathlib.Core.Bool.{cond};
 ghost use mathlib.Core.List.{[], _∷_};
 ghost use Prim.Native.Nat.{_+_, _<_, _≤_};
-ghost use lib.Dec.{eqb, ltb};
+ghost use lib.Dec.{ltb};
 ghost use lib.ListN.{length};
 ghost use lib.Seq.{sets};
-ghost use Rattle.words.specs.Numbers.{be32, wordBytes};
+ghost use Rattle.words.specs.Numbers.{wordBytes};
+ghost use Rattle.nodes.specs.Head.{stateIn};
 ghost use Rattle.nodes.specs.Run.{total};
-ghost use Rattle.nodes.specs.State.{passedOf, leftOf};
+ghost use Rattle.nodes.specs.State.{isWithin, passedOf, leftOf};
 use journal::Counts;
 
 // The State Variable: how many operations were reported before. It counts from 0.
@@ -18,7 +19,7 @@ impl StateVariable {
     // The state in the first word of an area.
     pub fn read(area: &[u8]) -> StateVariable
         requires { ⌜ 4 ≤ length (now area) ⌝ }
-        ensures { λ r. ⌜ r .0 ≡ be32 (now (area .entry)) 0 ⌝ }
+        ensures { λ r. ⌜ r .0 ≡ stateIn (now (area .entry)) ⌝ }
     {
         StateVariable(words::read_be32(area, 0))
     }
@@ -42,7 +43,7 @@ impl StateVariable {
     // Whether the state is 0 or below the number of all operations.
     pub fn is_within(self, all: Counts) -> bool
         requires { ⌜ total all < 18446744073709551616 ⌝ }
-        ensures { λ r. ⌜ r ≡ (eqb (self .0) 0 || ltb (self .0) (total all)) ⌝ }
+        ensures { λ r. ⌜ r ≡ isWithin (self .0) (total all) ⌝ }
     {
         self.0 == 0 || self.has_more(all)
     }

@@ -1,7 +1,6 @@
 // Writing the answer of a call into its work area.
 ghost use mathlib.Core.Path.{_≡_};
 ghost use mathlib.Core.Bool.{true};
-ghost use mathlib.Core.List.{[], _∷_};
 ghost use Prim.Native.Nat.{_+_, _*_, _-_, _<_, _≤_};
 ghost use lib.ListN.{length};
 ghost use lib.Seq.{sets};
@@ -9,12 +8,15 @@ ghost use Rattle.words.specs.Numbers.{wordBytes};
 ghost use Rattle.journal.specs.Journal.{wellFormed, entries};
 ghost use Rattle.journal.specs.Reportable.{chosen, reportable};
 ghost use Rattle.journal.specs.Marks.{operandsAt, operandsEnd, Marked};
-ghost use Rattle.nodes.specs.Run.{partWords, cut, total, remains};
+ghost use Rattle.nodes.specs.Run.{partWords, cut, total, remains, areaWords};
+ghost use Rattle.nodes.specs.Head.{areaSize, headSize};
 ghost use Rattle.nodes.specs.State.{passedOf, leftOf};
 ghost use Rattle.nodes.specs.Area.{written};
 ghost use Rattle.nodes.specs.Claims.{AreaClaims};
 ghost use Rattle.nodes.specs.Source.{Source};
 ghost use Rattle.nodes.specs.Writing.{width, Due, dueWords, partFrom, bodyFrom};
+use crate::head::HEAD_SIZE;
+use crate::head::write_head;
 use crate::run::longest_run;
 use crate::state::StateVariable;
 use journal::Counts;
@@ -76,7 +78,7 @@ fn write_part(
     count: usize,
     to: usize,
 ) -> usize
-    requires { ⌜ (wellFormed (now j) ≡ true) × Marked (now row) (now j) (now marks) noted × (1 ≤ code) × (code ≤ 3) × (count ≤ length (chosen (now row) code (entries (now j))) - k) × (count ≤ 1019) × (to + 4 * partWords (width code * count) ≤ length (now area)) ⌝ }
+    requires { ⌜ (wellFormed (now j) ≡ true) × Marked (now row) (now j) (now marks) noted × (1 ≤ code) × (code ≤ 3) × (count ≤ length (chosen (now row) code (entries (now j))) - k) × (count ≤ areaWords) × (to + 4 * partWords (width code * count) ≤ length (now area)) ⌝ }
     ensures { λ r. ⌜ r ≡ to + 4 * partWords (width code * count) ⌝ }
     ensures { λ _. ⌜ now (area .exit) ≡ sets (now (area .entry)) to (wordBytes (partFrom (now (row .entry)) (now (j .entry)) code k count)) ⌝ }
 {
@@ -90,18 +92,7 @@ fn write_part(
     to + 4 * (1 + operands)
 }
 
-// The first sixteen bytes: the state, and twelve zero bytes.
-fn write_head(area: &mut [u8], state: StateVariable)
-    requires { ⌜ 16 ≤ length (now area) ⌝ }
-    ensures { λ _. ⌜ now (area .exit) ≡ sets (now (area .entry)) 0 (wordBytes (state .0 ∷ 0 ∷ 0 ∷ 0 ∷ [])) ⌝ }
-{
-    state.store(area);
-    words::store_be32(area, 4, 0);
-    words::store_be32(area, 8, 0);
-    words::store_be32(area, 12, 0);
-}
-
-// The three parts of a run and the terminator, from byte 16 on.
+// The three parts of a run and the terminator, behind the head.
 fn write_body(
     area: &mut [u8],
     j: &[u8],
@@ -112,11 +103,21 @@ fn write_body(
     state: StateVariable,
     run: Counts,
 )
-    requires { ⌜ (length (now area) ≡ 4096) × Source (now row) (now j) counts (now marks) noted × (state .0 ≤ total counts) × (run ≡ cut (leftOf counts (state .0))) ⌝ }
-    ensures { λ _. ⌜ now (area .exit) ≡ sets (now (area .entry)) 16 (wordBytes (bodyFrom (now (row .entry)) (now (j .entry)) (passedOf counts (state .0)) run)) ⌝ }
+    requires { ⌜ (length (now area) ≡ areaSize) × Source (now row) (now j) counts (now marks) noted × (state .0 ≤ total counts) × (run ≡ cut (leftOf counts (state .0))) ⌝ }
+    ensures { λ _. ⌜ now (area .exit) ≡ sets (now (area .entry)) headSize (wordBytes (bodyFrom (now (row .entry)) (now (j .entry)) (passedOf counts (state .0)) run)) ⌝ }
 {
     let from = state.passed(counts);
-    let a = write_part(area, j, row, marks, noted, 1, from.deletes, run.deletes, 16);
+    let a = write_part(
+        area,
+        j,
+        row,
+        marks,
+        noted,
+        1,
+        from.deletes,
+        run.deletes,
+        HEAD_SIZE,
+    );
     let b = write_part(area, j, row, marks, noted, 2, from.updates, run.updates, a);
     let c = write_part(
         area,
@@ -142,7 +143,7 @@ pub fn write_answer(
     noted: usize,
     state: StateVariable,
 ) -> bool
-    requires { ⌜ (length (now area) ≡ 4096) × Source (now row) (now j) counts (now marks) noted × (state .0 ≤ total counts) ⌝ }
+    requires { ⌜ (length (now area) ≡ areaSize) × Source (now row) (now j) counts (now marks) noted × (state .0 ≤ total counts) ⌝ }
     ensures { λ r. ⌜ r ≡ remains (reportable (now (row .entry)) (now (j .entry))) (state .0) ⌝ }
     ensures { λ _. ⌜ now (area .exit) ≡ written (now (area .entry)) (reportable (now (row .entry)) (now (j .entry))) (state .0) ⌝ }
     ensures claims { λ _. ⌜ AreaClaims ⌝ }

@@ -6,9 +6,9 @@ use Prim.Native.Nat.{ℕ, zero, suc, _+_, _*_, _-_, _/_, _%_, _≤_}
 use native.Mathlib.Omega.{arith}
 use lib.Dec.{ltb, eqb}
 use lib.ListN.{length, take, drop, length-append, length-drop}
-use lib.Seq.{slice, sets, length-sets, length-take-le}
+use lib.Seq.{sets, length-sets, length-take-le}
 use borrow.Author.Tests.{eqb-true, ne-eqb, not-false}
-use Rattle.words.specs.Numbers.{words, zeros, be32}
+use Rattle.words.specs.Numbers.{words}
 use Rattle.words.proofs.Words.{length-words}
 use Rattle.journal.specs.declared.operation.Operation.{Operation}
 use Rattle.journal.specs.declared.operation.Operation.the-variants.{Delete, Update, Add}
@@ -18,6 +18,7 @@ use Rattle.nodes.specs.declared.reading.Refusal.the-variants.{Size, Reserved}
 use Rattle.nodes.specs.declared.reading.Check.the-variants.{Entries, Refused}
 use Rattle.words.specs.Reading.{Reading, read, refused}
 use Rattle.nodes.specs.Reading.{Verdict, good, bad, verdict, reading, readBy, refusalNumber, operationsAt, opcodeIn, countIn, checkOf}
+use Rattle.nodes.specs.Head.{areaSize, headSize, stateIn, isReserved}
 use Rattle.nodes.specs.Cursor.{remaining, startOf}
 use Rattle.nodes.proofs.Verdicts.{entries-in-order}
 use Rattle.print_nodes.specs.Put.{Fits}
@@ -77,15 +78,15 @@ read-of false false (bad r at) os ps e = (cc, cc)
 
 -- an area that is read
 record Area (area : List ℕ) (os : List Operation) : Type 0 where
-  pub size : length area ≡ 4096
+  pub size : length area ≡ areaSize
   pub few : length os ≤ 1024
 
 area-read : (area : List ℕ) (os : List Operation) → reading area ≡ read os → Area area os
 unfolding reading
 area-read area os e =
     let ws = drop 4 (words area) in
-    let r = read-of (not (eqb (length area) 4096)) (not (zeros (slice 4 16 area))) (verdict 0 16 0 ws) (operationsAt ws 0 0) os e in
-    let size : length area ≡ 4096 = eqb-true (length area) 4096 (not-false (eqb (length area) 4096) (r .0)) in
+    let r = read-of (not (eqb (length area) areaSize)) (not (isReserved area)) (verdict 0 headSize 0 ws) (operationsAt ws 0 0) os e in
+    let size : length area ≡ areaSize = eqb-true (length area) areaSize (not-false (eqb (length area) areaSize) (r .0)) in
     record { size = size; few = rw (← (r .1)) (omega (arith, length-operations ws 0 0, length-drop 4 (words area), length-words 1024 area size)) }
 
 -- ---- the text, from what a check tells of an area
@@ -95,13 +96,13 @@ contrary z = absurd (omega arith)
 
 module _ (input : List ℕ) where
   -- the text of an area with n operations
-  pub area-text : (n state : ℕ) → checkOf (reading input) ≡ Entries n → state ≡ be32 input 0
-      → (length input ≡ 4096) × (text input ≡ ended state- state ++ (lines (remaining input startOf) ++ ended end- n))
+  pub area-text : (n state : ℕ) → checkOf (reading input) ≡ Entries n → state ≡ stateIn input
+      → (length input ≡ areaSize) × (text input ≡ ended state- state ++ (lines (remaining input startOf) ++ ended end- n))
   unfolding text
   area-text n state e w = go (reading input) refl e
     where
       go : (r : Reading Operation Refusal) → reading input ≡ r → checkOf r ≡ Entries n
-          → (length input ≡ 4096) × (textOf (be32 input 0) (reading input) ≡ ended state- state ++ (lines (remaining input startOf) ++ ended end- n))
+          → (length input ≡ areaSize) × (textOf (stateIn input) (reading input) ≡ ended state- state ++ (lines (remaining input startOf) ++ ended end- n))
       go (read os) g h = let same : length os ≡ n = cc in (area-read input os g .size, rw (g, entries-in-order input os g, same, w))
       go (refused r at) g h = contrary (cc)
 
@@ -109,9 +110,9 @@ module _ (input : List ℕ) where
   unfolding text
   refused-text r at e = go (reading input) refl e
     where
-      go : (x : Reading Operation Refusal) → reading input ≡ x → checkOf x ≡ Refused r at → textOf (be32 input 0) (reading input) ≡ numbered refused- (refusalNumber r) ++ ended -at- at
+      go : (x : Reading Operation Refusal) → reading input ≡ x → checkOf x ≡ Refused r at → textOf (stateIn input) (reading input) ≡ numbered refused- (refusalNumber r) ++ ended -at- at
       go (read os) g h = contrary (cc)
-      go (refused q k) g h = let same : _≡_ {A = Reading Operation Refusal} (refused q k) (refused r at) = cc in rw g (ap (textOf (be32 input 0)) same)
+      go (refused q k) g h = let same : _≡_ {A = Reading Operation Refusal} (refused q k) (refused r at) = cc in rw g (ap (textOf (stateIn input)) same)
 
 -- ---- the text fits
 
@@ -122,11 +123,11 @@ pub text-fits : (input : List ℕ) → Fits 0 (text input)
 unfolding text
 text-fits input = go (reading input) refl
   where
-    go : (r : Reading Operation Refusal) → reading input ≡ r → Fits 0 (textOf (be32 input 0) (reading input))
+    go : (r : Reading Operation Refusal) → reading input ≡ r → Fits 0 (textOf (stateIn input) (reading input))
     go (read os) g =
-        let first = ended state- (be32 input 0) in
+        let first = ended state- (stateIn input) in
         let last = ended end- (length os) in
-        rw g (omega (arith, area-read input os g .few, length-append first (lines os ++ last), length-append (lines os) last, length-ended state- (be32 input 0), length-lines os, length-ended end- (length os)))
+        rw g (omega (arith, area-read input os g .few, length-append first (lines os ++ last), length-append (lines os) last, length-ended state- (stateIn input), length-lines os, length-ended end- (length os)))
     go (refused r at) g = rw g (refusal-fits (refusalNumber r) at)
 
 -- the text stays inside its buffer
@@ -135,9 +136,9 @@ text-room input l m r size e s = rw (s, length-sets l 0 (text input)) (omega (ar
 
 -- ---- an input that is no area
 
-wrong-size : (input : List ℕ) → (length input ≡ 4096 → ⊥) → text input ≡ numbered refused- 20 ++ ended -at- 0
+wrong-size : (input : List ℕ) → (length input ≡ areaSize → ⊥) → text input ≡ numbered refused- 20 ++ ended -at- 0
 unfolding text reading
-wrong-size input h = rw (ne-eqb (length input) 4096 h)
+wrong-size input h = rw (ne-eqb (length input) areaSize h)
 
 pub long-input : LongInput
 long-input input h = wrong-size (take 4097 input) (λ e. omega (arith, length-take-le 4097 input (omega arith))) ∙ sym (wrong-size input (λ e. omega arith))

@@ -5,12 +5,12 @@ use mathlib.Core.Bool.{cond}
 use mathlib.Core.List.{List, [], _∷_, _++_}
 use lib.Dec.{ltb}
 use lib.ListN.{length, take}
-use Rattle.words.specs.Numbers.{be32}
 use Rattle.journal.specs.declared.operation.Operation.{Operation}
 use Rattle.journal.specs.declared.operation.Operation.the-variants.{Delete, Update, Add}
 use Rattle.nodes.specs.declared.reading.Refusal.{Refusal}
 use Rattle.words.specs.Reading.{Reading, read, refused}
 use Rattle.nodes.specs.Reading.{reading, refusalNumber}
+use Rattle.nodes.specs.Head.{stateIn}
 
 -- The decimal digits of a number, at most n of them, with no zero in front.
 unfoldable pub digits : ℕ → ℕ → List ℕ
@@ -92,7 +92,7 @@ textOf state (read os) = ended state- state ++ (lines os ++ ended end- (length o
 textOf state (refused r at) = numbered refused- (refusalNumber r) ++ ended -at- at
 
 unfoldable pub text : List ℕ → List ℕ
-text input = textOf (be32 input 0) (reading input)
+text input = textOf (stateIn input) (reading input)
 
 -- An input that is longer than an area has the text of its first 4,097 bytes, so that no more is read.
 abbrev pub LongInput : Type 0

@@ -13,6 +13,7 @@ use nodes::Check;
 use nodes::Cursor;
 use nodes::Next;
 use nodes::Refusal;
+use nodes::StateVariable;
 
 fn put_bytes(bytes: &[u8], out: &mut [u8; 32768], at: usize) -> usize
     requires { ⌜ Fits at (now bytes) ⌝ }
@@ -107,7 +108,7 @@ fn put_area(input: &[u8], count: usize, out: &mut [u8; 32768]) -> usize
     requires { ⌜ checkOf (reading (now input)) ≡ Entries count ⌝ }
     ensures { λ r. ⌜ Put (now (out .entry)) (now (out .exit)) 0 r (text (now (input .entry))) ⌝ }
 {
-    let state = words::read_be32(input, 0);
+    let state = StateVariable::read(input).0;
     let first = put_ended(b"state ", state as u64, out, 0);
     let last = put_lines(input, out, first);
     put_ended(b"end ", count as u64, out, last)

@@ -2,6 +2,7 @@
 ghost use mathlib.Core.Path.{_≡_};
 ghost use Prim.Native.Nat.{_<_};
 ghost use lib.ListN.{length};
+ghost use Rattle.nodes.specs.Head.{areaSize};
 ghost use Rattle.nodes.specs.Source.{Source};
 ghost use Rattle.calls.specs.UpdateNodes.{placed, areaStatus, areaAfter, nodesStatus, nodesMemory};
 use calls::Status;
@@ -14,7 +15,7 @@ fn is_placed(memory: &[u8], address: usize) -> bool
     requires { ⌜ address < 4294967296 ⌝ }
     ensures { λ r. ⌜ r ≡ placed (now (memory .entry)) address ⌝ }
 {
-    address % 4096 == 0 && address + 4096 <= memory.len()
+    address % nodes::AREA_SIZE == 0 && address + nodes::AREA_SIZE <= memory.len()
 }
 
 // The answer of a call over a well-formed journal, in its work area.
@@ -26,11 +27,11 @@ fn answer_counted(
     marks: &[u64; 128],
     noted: usize,
 ) -> Status
-    requires { ⌜ (length (now area) ≡ 4096) × Source (now row) (now j) counts (now marks) noted ⌝ }
+    requires { ⌜ (length (now area) ≡ areaSize) × Source (now row) (now j) counts (now marks) noted ⌝ }
     ensures { λ r. ⌜ r ≡ areaStatus (now (row .entry)) (now (j .entry)) (now (area .entry)) ⌝ }
     ensures { λ _. ⌜ now (area .exit) ≡ areaAfter (now (row .entry)) (now (j .entry)) (now (area .entry)) ⌝ }
 {
-    if !words::is_zero(area, 4, 16) {
+    if !nodes::is_reserved(area) {
         return Status::Parameter;
     }
     let state = StateVariable::read(area);
@@ -46,7 +47,7 @@ fn answer_counted(
 
 // The answer of a call in its work area: the journal is judged first.
 fn answer_area(area: &mut [u8], j: &[u8], row: &[u8; 15]) -> Status
-    requires { ⌜ length (now area) ≡ 4096 ⌝ }
+    requires { ⌜ length (now area) ≡ areaSize ⌝ }
     ensures { λ r. ⌜ r ≡ areaStatus (now (row .entry)) (now (j .entry)) (now (area .entry)) ⌝ }
     ensures { λ _. ⌜ now (area .exit) ≡ areaAfter (now (row .entry)) (now (j .entry)) (now (area .entry)) ⌝ }
 {
@@ -74,5 +75,5 @@ pub fn update_nodes(memory: &mut [u8], j: &[u8], address: u32, scope: u32) -> St
         return Status::Parameter;
     }
     let sets = row.sets;
-    answer_area(&mut memory[at..at + 4096], j, &sets)
+    answer_area(&mut memory[at..at + nodes::AREA_SIZE], j, &sets)
 }

@@ -29,8 +29,8 @@ found c = good _ _ _ (c .before .before .check-area .ensures .0) (c .found2 .giv
 store-operations-requires : tie.Need-store-operations-requires
 store-operations-requires c κs = let g = found (c .before .before .before) in let least = c .least .ensures in (omega arith, omega arith)
 
-read-be32-requires : tie.Need-read-be32-requires
-read-be32-requires c κs = omega (arith, found (c .before .before .before .before .before .before) .size)
+read-requires : tie.Need-read-requires
+read-requires c κs = omega (arith, found (c .before .before .before .before .before .before) .size)
 
 returns : tie.Need-returns
 returns c = rw (refused-reading _ _ _ _ (c .before .before .before .before .check-area .ensures .0) (c .before .before .found .given .1), c .node-refusal .ensures) (refl, refl)
@@ -41,7 +41,7 @@ same-length c = search needs
 returns-2 : tie.Need-returns-2
 returns-2 c =
     let g = found (c .before .before .before .before .before .before .before) in
-    (rw (g .is, g .entries, c .read-be32 .ensures), good-out g _ _ _ (c .before .before .before .before .least .ensures) (c .before .before .before .store-operations .ensures))
+    (rw (g .is, g .entries, c .read .ensures), good-out g _ _ _ (c .before .before .before .before .least .ensures) (c .before .before .before .store-operations .ensures))
 
 pub draugsten-read-nodes-spec : {M : Type 1} → statement M
 draugsten-read-nodes-spec =
@@ -53,7 +53,7 @@ draugsten-read-nodes-spec =
     enum-known-found-2
     least-requires
     store-operations-requires
-    read-be32-requires
+    read-requires
     returns
     same-length
     returns-2)

@@ -1,6 +1,7 @@
 -- `reading::check_area` meets its contract.
 use borrow.Author.Needs.{needs}
 use borrow.Author.Tests.{eq-eqb, ne-eqb}
+use Rattle.nodes.specs.Head.{areaSize}
 use Rattle.nodes.specs.Reading.{reading}
 use Rattle.words.proofs.Words.{words-drop}
 use Rattle.nodes.proofs.ReadingCases.{reading-cases}
@@ -9,22 +10,22 @@ use Rattle.nodes.proofs.reading.check_area.Tie as tie
 
 returns : tie.Need-returns
 unfolding reading
-returns c = (rw (ne-eqb _ 4096 (c .if1 .taken)), reading-cases)
+returns c = (rw (ne-eqb _ areaSize (c .if1 .taken)), reading-cases)
 
-is-zero-requires : tie.Need-is-zero-requires
-is-zero-requires c κs = search needs
+is-reserved-requires : tie.Need-is-reserved-requires
+is-reserved-requires c κs = search needs
 
 returns-2 : tie.Need-returns-2
 unfolding reading
-returns-2 c = (rw (eq-eqb _ 4096 (c .before .before .if1 .left), ← c .before .is-zero .ensures, c .if2 .taken), reading-cases)
+returns-2 c = (rw (eq-eqb _ areaSize (c .before .before .if1 .left), ← c .before .is-reserved .ensures, c .if2 .taken), reading-cases)
 
 check-operators-requires : tie.Need-check-operators-requires
 check-operators-requires c κs = search needs
 
 returns-3 : tie.Need-returns-3
 unfolding reading
-returns-3 c = (rw (eq-eqb _ 4096 (c .before .before .before .if1 .left), ← c .before .before .is-zero .ensures, c .before .if2 .left, words-drop 4 _) (c .check-operators .ensures), reading-cases)
+returns-3 c = (rw (eq-eqb _ areaSize (c .before .before .before .if1 .left), ← c .before .before .is-reserved .ensures, c .before .if2 .left, words-drop 4 _) (c .check-operators .ensures), reading-cases)
 
 pub check-area-spec : {M : Type 1} → statement M
 check-area-spec =
-    tie.close (tie.spec returns is-zero-requires returns-2 check-operators-requires returns-3)
+    tie.close (tie.spec returns is-reserved-requires returns-2 check-operators-requires returns-3)

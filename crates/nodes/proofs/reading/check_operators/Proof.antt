@@ -5,6 +5,7 @@ use native.Mathlib.Omega.{arith}
 use borrow.Author.Needs.{needs}
 use denote.Ref.{now}
 use Rattle.nodes.proofs.Verdicts.{Stands, stands-first, stands-out, stands-end, stands-bad, stands-fine}
+use Rattle.nodes.specs.Head.{areaSize}
 use Rattle.nodes.specs.Reading.{opcodeIn, countIn}
 use Rattle.nodes.proofs.reading.check_operators.Statement.{statement}
 use Rattle.nodes.proofs.reading.check_operators.Tie as tie
@@ -13,7 +14,7 @@ abbrev Inv-loop : tie.InvT-loop
 Inv-loop area at₀ last₀ entries₀ at last entries = Stands area at last entries
 
 abbrev μ-loop : tie.MeasureT-loop
-μ-loop area at₀ last₀ entries₀ at last entries = 4096 - at
+μ-loop area at₀ last₀ entries₀ at last entries = areaSize - at
 
 loop-holds : tie.Need-loop-holds Inv-loop μ-loop
 loop-holds c = stands-first (now (c .before .args .area))
@@ -23,6 +24,9 @@ read-be32-requires c κs = omega (arith, c .before .loop .inv .place)
 
 returns : tie.Need-returns Inv-loop μ-loop
 returns c = stands-end (now (c .before .before .before .before .before .args .area)) (c .before .before .before .loop .at) (c .before .before .before .loop .last) (c .before .before .before .loop .entries) (c .before .before .before .loop .inv) _ (c .before .before .before .before .before .pre) (c .before .before .loop-test .taken) (c .before .read-be32 .ensures) (c .if1 .taken)
+
+add-behind : tie.Need-add-behind Inv-loop μ-loop
+add-behind c = omega arith
 
 sub-fault-of : tie.Need-sub-fault-of Inv-loop μ-loop
 sub-fault-of c = omega (arith, c .before .before .before .loop .inv .place)
@@ -49,17 +53,14 @@ turn c = rw (c .operations-in .ensures) (stands-fine (now (c .before .before .be
 add-entries : tie.Need-add-entries Inv-loop μ-loop
 add-entries c = omega (arith, turn c)
 
-add-at : tie.Need-add-at Inv-loop μ-loop
-add-at c = omega arith
-
 cast-at : tie.Need-cast-at Inv-loop μ-loop
 cast-at c = omega arith
 
 mul-at : tie.Need-mul-at Inv-loop μ-loop
 mul-at c = omega (arith, turn c)
 
-add-at-2 : tie.Need-add-at-2 Inv-loop μ-loop
-add-at-2 c = omega (arith, turn c)
+add-at : tie.Need-add-at Inv-loop μ-loop
+add-at c = omega (arith, turn c)
 
 loop-less : tie.Need-loop-less Inv-loop μ-loop
 loop-less c = omega arith
@@ -79,6 +80,7 @@ check-operators-spec =
     loop-holds
     read-be32-requires
     returns
+    add-behind
     sub-fault-of
     fault-of-requires
     enum-known-found
@@ -86,10 +88,9 @@ check-operators-spec =
     enum-told
     operations-in-requires
     add-entries
-    add-at
     cast-at
     mul-at
-    add-at-2
+    add-at
     loop-less
     loop-again
     returns-3)

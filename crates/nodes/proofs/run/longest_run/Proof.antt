@@ -5,6 +5,9 @@ use Rattle.nodes.proofs.Cut.{cut-is-longest}
 use Rattle.nodes.proofs.run.longest_run.Statement.{statement}
 use Rattle.nodes.proofs.run.longest_run.Tie as tie
 
+sub-least : tie.Need-sub-least
+sub-least c = search needs
+
 least-requires : tie.Need-least-requires
 least-requires c κs = search needs
 
@@ -34,6 +37,7 @@ pub longest-run-spec : {M : Type 1} → statement M
 longest-run-spec =
     tie.close
     (tie.spec
+    sub-least
     least-requires
     room-after-requires
     saturating-sub-requires

@@ -1,5 +1,4 @@
 -- `writing::write_answer` meets its contract.
-use mathlib.Core.List.{[], _∷_}
 use mathlib.Core.Path.{_≡_, ap, _∙_}
 use Prim.Native.Nat.{ℕ, _+_, _≤_}
 use native.Mathlib.Omega.{arith}
@@ -9,9 +8,9 @@ use denote.Ref.{now}
 use Rattle.nodes.proofs.Answers.{counts-small, answer-stored}
 use Rattle.nodes.proofs.Claims.{area-claims}
 use Rattle.nodes.proofs.Listed.{few, remains-is, next-is}
+use Rattle.nodes.specs.Head.{carriedHead}
 use Rattle.nodes.specs.Run.{cut, total}
 use Rattle.nodes.specs.State.{leftOf}
-use Rattle.words.specs.Numbers.{wordBytes}
 use Rattle.nodes.proofs.writing.write_answer.Statement.{statement}
 use Rattle.nodes.proofs.writing.write_answer.Tie as tie
 
@@ -62,7 +61,7 @@ returns c =
       more .ensures ∙ remains-is row j (a .counts) k (p .1 .counted) (p .2) _ f _ (after .ensures),
       (
         answer-stored row j (a .counts) k (p .1 .counted) (p .2) _ f (now (a .area)) (c .before .before .before .before .before .before .write-head .last .0) (c .before .before .write-body .last .0) (p .0)
-            (c .before .before .before .before .before .before .write-head .ensures ∙ ap (λ (n : ℕ). sets (now (a .area)) 0 (wordBytes (n ∷ 0 ∷ 0 ∷ 0 ∷ []))) (next-is row j (a .counts) k (p .1 .counted) (p .2) _ f (after .result .0) (next .result .0) (more .result) (after .ensures) (more .ensures) (next .ensures))) (c .before .before .write-body .ensures),
+            (c .before .before .before .before .before .before .write-head .ensures ∙ ap (λ (n : ℕ). sets (now (a .area)) 0 (carriedHead n)) (next-is row j (a .counts) k (p .1 .counted) (p .2) _ f (after .result .0) (next .result .0) (more .result) (after .ensures) (more .ensures) (next .ensures))) (c .before .before .write-body .ensures),
         area-claims,
       ),
     )

@@ -12,8 +12,8 @@ use Rattle.print_nodes.proofs.Sizes.{area-text, text-fits}
 use Rattle.print_nodes.proofs.text.put_area.Statement.{statement}
 use Rattle.print_nodes.proofs.text.put_area.Tie as tie
 
-read-be32-requires : tie.Need-read-be32-requires
-read-be32-requires c κs = omega (arith, area-text _ _ _ (c .before .pre) refl .0)
+read-requires : tie.Need-read-requires
+read-requires c κs = omega (arith, area-text _ _ _ (c .before .pre) refl .0)
 
 slice-aggregate-put-ended : tie.Need-slice-aggregate-put-ended
 slice-aggregate-put-ended c = search needs
@@ -21,8 +21,8 @@ slice-aggregate-put-ended c = search needs
 cast-put-ended : tie.Need-cast-put-ended
 cast-put-ended c = search needs
 
-whole : (c : tie.After-read-be32) → Fits 0 (ended state- (c .read-be32 .result) ++ (lines (remaining (now (c .before .before .args .input)) startOf) ++ ended end- (c .before .before .args .count)))
-whole c = rw (area-text _ _ _ (c .before .before .pre) (c .read-be32 .ensures) .1) at (text-fits (now (c .before .before .args .input)))
+whole : (c : tie.After-read) → Fits 0 (ended state- (c .read .result .0) ++ (lines (remaining (now (c .before .before .args .input)) startOf) ++ ended end- (c .before .before .args .count)))
+whole c = rw (area-text _ _ _ (c .before .before .pre) (c .read .ensures) .1) at (text-fits (now (c .before .before .args .input)))
 
 put-ended-requires : tie.Need-put-ended-requires
 put-ended-requires c κs = fits-first 0 (ended state- _) _ (whole (c .before .before))
@@ -40,13 +40,13 @@ put-ended-requires-2 : tie.Need-put-ended-requires-2
 put-ended-requires-2 c κs = fits-then (ended end- _) (behind (c .before .before .before .before)) (c .before .before .put-lines .ensures)
 
 returns : tie.Need-returns
-returns c = rw (area-text _ _ _ (c .before .before .before .before .before .before .before .before .before .before .pre) (c .before .before .before .before .before .before .before .before .read-be32 .ensures) .1) (put-then (c .before .before .before .before .before .put-ended .ensures) (put-then (c .before .before .before .put-lines .ensures) (c .put-ended2 .ensures)))
+returns c = rw (area-text _ _ _ (c .before .before .before .before .before .before .before .before .before .before .pre) (c .before .before .before .before .before .before .before .before .read .ensures) .1) (put-then (c .before .before .before .before .before .put-ended .ensures) (put-then (c .before .before .before .put-lines .ensures) (c .put-ended2 .ensures)))
 
 pub put-area-spec : {M : Type 1} → statement M
 put-area-spec =
     tie.close
     (tie.spec
-    read-be32-requires
+    read-requires
     slice-aggregate-put-ended
     cast-put-ended
     put-ended-requires

@@ -10,27 +10,27 @@ use Rattle.journal.specs.Reportable.{reportable}
 use Rattle.nodes.proofs.Answers.{counts-small}
 use Rattle.nodes.proofs.Listed.{total-is}
 use Rattle.nodes.specs.Area.{written}
+use Rattle.nodes.specs.Head.{isReserved}
 use Rattle.nodes.specs.Run.{total}
 use Rattle.calls.proofs.Areas.{left-reserved, left-state, left-again, left-done, state-is, state-within}
-use Rattle.calls.specs.UpdateNodes.{reserved, goodState}
+use Rattle.calls.specs.UpdateNodes.{goodState}
 use Rattle.rtas.proofs.nodes_call.answer_counted.Statement.{statement}
 use Rattle.rtas.proofs.nodes_call.answer_counted.Tie as tie
 
-is-zero-requires : tie.Need-is-zero-requires
-is-zero-requires c κs = search needs
+is-reserved-requires : tie.Need-is-reserved-requires
+is-reserved-requires c κs = search needs
 
 same-length : tie.Need-same-length
 same-length c = search needs
 
 -- the tests of the code are those of the definition
-zero-is : (c : tie.After-is-zero) → c .is-zero .result ≡ reserved (now (c .before .before .before .before .args .area))
-unfolding reserved
-zero-is c = c .is-zero .ensures
+reserved-is : (c : tie.After-is-reserved) → c .is-reserved .result ≡ isReserved (now (c .before .before .before .before .args .area))
+reserved-is c = c .is-reserved .ensures
 
 returns : tie.Need-returns
 returns c =
     let s = c .before .before .before .before .before in
-    left-reserved (now (s .args .row)) (now (s .args .j)) (now (s .args .area)) (s .pre .1 .good) (sym (zero-is (c .before)) ∙ not-true _ (c .if1 .taken))
+    left-reserved (now (s .args .row)) (now (s .args .j)) (now (s .args .area)) (s .pre .1 .good) (sym (reserved-is (c .before)) ∙ not-true _ (c .if1 .taken))
 
 read-requires : tie.Need-read-requires
 read-requires c κs = search needs
@@ -41,8 +41,8 @@ is-within-requires c κs = let s = c .before .before .before .before .before .be
 good-is : (c : tie.After-is-within) → c .is-within .result ≡ goodState (now (c .before .before .before .before .before .before .before .before .args .row)) (now (c .before .before .before .before .before .before .before .before .args .j)) (now (c .before .before .before .before .before .before .before .before .args .area))
 good-is c = let s = c .before .before .before .before .before .before .before .before in c .is-within .ensures ∙ state-is (now (s .args .row)) (now (s .args .j)) (now (s .args .area)) _ _ (c .before .read .ensures) (s .pre .1 .counted)
 
-zero-yes : (c : tie.Else2) → reserved (now (c .before .before .before .before .before .before .before .before .before .args .area)) ≡ true
-zero-yes c = sym (zero-is (c .before .before .before .before .before)) ∙ not-false _ (c .before .before .before .before .if1 .left)
+reserved-yes : (c : tie.Else2) → isReserved (now (c .before .before .before .before .before .before .before .before .before .args .area)) ≡ true
+reserved-yes c = sym (reserved-is (c .before .before .before .before .before)) ∙ not-false _ (c .before .before .before .before .if1 .left)
 
 good-yes : (c : tie.Else2) → goodState (now (c .before .before .before .before .before .before .before .before .before .args .row)) (now (c .before .before .before .before .before .before .before .before .before .args .j)) (now (c .before .before .before .before .before .before .before .before .before .args .area)) ≡ true
 good-yes c = sym (good-is (c .before)) ∙ not-false _ (c .if2 .left)
@@ -58,7 +58,7 @@ same-length-2 c = search needs
 returns-2 : tie.Need-returns-2
 returns-2 c =
     let s = c .before .before .before .before .before .before .before .before .before in
-    left-state (now (s .args .row)) (now (s .args .j)) (now (s .args .area)) (s .pre .1 .good) (sym (zero-is (c .before .before .before .before .before)) ∙ not-false _ (c .before .before .before .before .if1 .left)) (sym (good-is (c .before)) ∙ not-true _ (c .if2 .taken))
+    left-state (now (s .args .row)) (now (s .args .j)) (now (s .args .area)) (s .pre .1 .good) (sym (reserved-is (c .before .before .before .before .before)) ∙ not-false _ (c .before .before .before .before .if1 .left)) (sym (good-is (c .before)) ∙ not-true _ (c .if2 .taken))
 
 write-answer-requires : tie.Need-write-answer-requires
 write-answer-requires c κs = let p = c .before .before .before .before .before .before .before .before .before .before .pre in (p .0, p .1, within (c .before))
@@ -74,7 +74,7 @@ returns-3 c =
     let area = now (s .args .area) in
     let w = c .before .before .before .write-answer in
     let e = c .before .before .before .before .before .before .before .read .ensures in
-    let l = left-again row j area (s .pre .1 .good) (zero-yes (c .before .before .before .before .before)) (good-yes (c .before .before .before .before .before)) (rw e at (sym (w .ensures .0) ∙ c .if3 .taken)) in
+    let l = left-again row j area (s .pre .1 .good) (reserved-yes (c .before .before .before .before .before)) (good-yes (c .before .before .before .before .before)) (rw e at (sym (w .ensures .0) ∙ c .if3 .taken)) in
     (l .0, w .ensures .1 .0 ∙ ap (written area (reportable row j)) e ∙ l .1)
 
 same-length-4 : tie.Need-same-length-4
@@ -88,14 +88,14 @@ returns-4 c =
     let area = now (s .args .area) in
     let w = c .before .before .before .write-answer in
     let e = c .before .before .before .before .before .before .before .read .ensures in
-    let l = left-done row j area (s .pre .1 .good) (zero-yes (c .before .before .before .before .before)) (good-yes (c .before .before .before .before .before)) (rw e at (sym (w .ensures .0) ∙ c .if3 .left)) in
+    let l = left-done row j area (s .pre .1 .good) (reserved-yes (c .before .before .before .before .before)) (good-yes (c .before .before .before .before .before)) (rw e at (sym (w .ensures .0) ∙ c .if3 .left)) in
     (l .0, w .ensures .1 .0 ∙ ap (written area (reportable row j)) e ∙ l .1)
 
 pub answer-counted-spec : {M : Type 1} → statement M
 answer-counted-spec =
     tie.close
     (tie.spec
-    is-zero-requires
+    is-reserved-requires
     same-length
     returns
     read-requires

@@ -1,11 +1,11 @@
--- `writing::write_head` meets its contract.
+-- `head::write_head` meets its contract.
 use mathlib.Core.List.{[], _∷_}
 use mathlib.Core.Path.{refl}
 use borrow.Author.Needs.{needs}
 use denote.Ref.{now}
 use Rattle.words.proofs.Stores.{store-next}
-use Rattle.nodes.proofs.writing.write_head.Statement.{statement}
-use Rattle.nodes.proofs.writing.write_head.Tie as tie
+use Rattle.nodes.proofs.head.write_head.Statement.{statement}
+use Rattle.nodes.proofs.head.write_head.Tie as tie
 
 store-requires : tie.Need-store-requires
 store-requires c κs = search needs
