@@ -125,7 +125,8 @@ module _ (area : List ℕ) (os : List Operation) (state : ℕ) (size : length ar
   answer-small : Small (answer os state)
   unfolding answer
   answer-small =
-      (omega (arith, next-le os state inside, l .few), (omega arith, (omega arith, (omega arith, small-append (body (run os state)) (0 ∷ []) (small-body (run os state) run-fits run-small) (omega arith, tt)))))
+      let behind = small-append (body (run os state)) (0 ∷ []) (small-body (run os state) run-fits run-small) (omega arith, tt) in
+      (omega (arith, next-le os state inside, l .few), (omega arith, (omega arith, (omega arith, behind))))
 
   written-size : length (written area os state) ≡ areaSize
   unfolding written answer

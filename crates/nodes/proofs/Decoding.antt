@@ -95,7 +95,8 @@ record Operands (code : ℕ) (vs : List ℕ) (os : List Operation) : Type 0 wher
   even : (eqb code 3 && eqb (length vs % 2) 1) ≡ false
   holds : (ws : List ℕ) → operationsAt (vs ++ ws) code (length vs) ≡ os ++ operationsAt ws code 0
 
-no-fault : (code : ℕ) (vs : List ℕ) (os : List Operation) (word last left : ℕ) → Operands code vs os → opcodeIn word ≡ code → countIn word ≡ length vs → 0 < length vs → last ≤ code → length vs ≤ left → faultOf word last left ≡ Fine
+no-fault : (code : ℕ) (vs : List ℕ) (os : List Operation) (word last left : ℕ) → Operands code vs os
+    → opcodeIn word ≡ code → countIn word ≡ length vs → 0 < length vs → last ≤ code → length vs ≤ left → faultOf word last left ≡ Fine
 unfolding faultOf
 no-fault code vs os word last left p q c some order fits =
     rw (q, c) (simp (le-leb 1 code (p .low), le-leb code 3 (p .high), ne-eqb (length vs) 0 (λ e. omega arith), p .even, le-ltb code last order, le-ltb left (length vs) fits))
@@ -126,7 +127,8 @@ words-operands : (code : ℕ) (os : List Operation) → 1 ≤ code → code ≤ 
 words-operands code os low high short c =
     record { low = low; high = high; short = short; even = even-additions code os c; holds = λ ws. operations-of code os ws c }
 
-parts-read : (ds us adds : List Operation) (ws : List ℕ) → AllOf 1 ds → AllOf 2 us → AllOf 3 adds → cost (ds ++ (us ++ adds)) ≤ areaWords → Reads 0 (body (ds ++ (us ++ adds)) ++ (0 ∷ ws)) (ds ++ (us ++ adds))
+parts-read : (ds us adds : List Operation) (ws : List ℕ) → AllOf 1 ds → AllOf 2 us → AllOf 3 adds
+    → cost (ds ++ (us ++ adds)) ≤ areaWords → Reads 0 (body (ds ++ (us ++ adds)) ++ (0 ∷ ws)) (ds ++ (us ++ adds))
 parts-read ds us adds ws cd cu ca short =
     let split = body-split ds us adds cd cu ca in
     let size = simp (length-append, length-part) at (sym (length-body (ds ++ (us ++ adds))) ∙ ap length split) in

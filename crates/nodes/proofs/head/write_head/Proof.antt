@@ -23,12 +23,18 @@ same-length : tie.Need-same-length
 same-length c = search needs
 
 returns : tie.Need-returns
-returns c = let l = now (c .before .before .before .before .before .before .before .before .before .before .before .before .before .before .before .before .before .args .area) in
-    let s = c .before .before .before .before .before .before .before .before .before .before .before .before .before .before .before .before .before .args .state .0 in
-    store-next l (c .before .before .before .before .before .before .store-be322 .last .0) 0 0 (c .before .before .store-be323 .last .0) 12 (s ∷ 0 ∷ 0 ∷ [])
-    (store-next l (c .before .before .before .before .before .before .before .before .before .before .store-be32 .last .0) 0 0 (c .before .before .before .before .before .before .store-be322 .last .0) 8 (s ∷ 0 ∷ [])
-    (store-next l (c .before .before .before .before .before .before .before .before .before .before .before .before .before .before .store .last .1 .0) 0 0 (c .before .before .before .before .before .before .before .before .before .before .store-be32 .last .0) 4 (s ∷ []) (c .before .before .before .before .before .before .before .before .before .before .before .before .before .before .store .ensures) (c .before .before .before .before .before .before .before .before .before .before .store-be32 .ensures) refl)
-    (c .before .before .before .before .before .before .store-be322 .ensures) refl) (c .before .before .store-be323 .ensures) refl
+returns c =
+    let a = c .before .before .before .before .before .before .before .before .before .before .before .before .before .before .before .before .before .args in
+    let l = now (a .area) in
+    let s = a .state .0 in
+    let state = c .before .before .before .before .before .before .before .before .before .before .before .before .before .before .store in
+    let first = c .before .before .before .before .before .before .before .before .before .before .store-be32 in
+    let second = c .before .before .before .before .before .before .store-be322 in
+    let third = c .before .before .store-be323 in
+    store-next l (second .last .0) 0 0 (third .last .0) 12 (s ∷ 0 ∷ 0 ∷ [])
+    (store-next l (first .last .0) 0 0 (second .last .0) 8 (s ∷ 0 ∷ [])
+    (store-next l (state .last .1 .0) 0 0 (first .last .0) 4 (s ∷ []) (state .ensures) (first .ensures) refl)
+    (second .ensures) refl) (third .ensures) refl
 
 pub write-head-spec : {M : Type 1} → statement M
 write-head-spec =

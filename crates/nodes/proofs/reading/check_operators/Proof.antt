@@ -23,7 +23,10 @@ read-be32-requires : tie.Need-read-be32-requires Inv-loop μ-loop
 read-be32-requires c κs = omega (arith, c .before .loop .inv .place)
 
 returns : tie.Need-returns Inv-loop μ-loop
-returns c = stands-end (now (c .before .before .before .before .before .args .area)) (c .before .before .before .loop .at) (c .before .before .before .loop .last) (c .before .before .before .loop .entries) (c .before .before .before .loop .inv) _ (c .before .before .before .before .before .pre) (c .before .before .loop-test .taken) (c .before .read-be32 .ensures) (c .if1 .taken)
+returns c =
+    let s = c .before .before .before .before .before in
+    let l = c .before .before .before .loop in
+    stands-end (now (s .args .area)) (l .at) (l .last) (l .entries) (l .inv) _ (s .pre) (c .before .before .loop-test .taken) (c .before .read-be32 .ensures) (c .if1 .taken)
 
 add-behind : tie.Need-add-behind Inv-loop μ-loop
 add-behind c = omega arith
@@ -38,7 +41,13 @@ enum-known-found : tie.Need-enum-known-found Inv-loop μ-loop
 enum-known-found c = search needs
 
 returns-2 : tie.Need-returns-2 Inv-loop μ-loop
-returns-2 c = stands-bad (now (c .before .before .before .before .before .before .before .before .before .args .area)) (c .before .before .before .before .before .before .before .loop .at) (c .before .before .before .before .before .before .before .loop .last) (c .before .before .before .before .before .before .before .loop .entries) (c .before .before .before .before .before .before .before .loop .inv) _ (c .before .before .before .before .before .before .before .before .before .pre) (c .before .before .before .before .before .before .loop-test .taken) (c .before .before .before .before .before .read-be32 .ensures) _ (c .before .before .before .before .if1 .left) (sym (c .before .before .before .fault-of .ensures) ∙ c .before .found .given .1)
+returns-2 c =
+    let s = c .before .before .before .before .before .before .before .before .before in
+    let l = c .before .before .before .before .before .before .before .loop in
+    let more = c .before .before .before .before .before .before .loop-test .taken in
+    let word = c .before .before .before .before .before .read-be32 .ensures in
+    let some = c .before .before .before .before .if1 .left in
+    stands-bad (now (s .args .area)) (l .at) (l .last) (l .entries) (l .inv) _ (s .pre) more word _ some (sym (c .before .before .before .fault-of .ensures) ∙ c .before .found .given .1)
 
 enum-told : tie.Need-enum-told Inv-loop μ-loop
 enum-told c = search needs
@@ -47,8 +56,18 @@ operations-in-requires : tie.Need-operations-in-requires Inv-loop μ-loop
 operations-in-requires c κs = search needs
 
 -- past an operator and its operands
-turn : (c : tie.After-operations-in Inv-loop μ-loop) → Stands (now (c .before .before .before .before .before .before .before .before .before .args .area)) (c .before .before .before .before .before .before .before .loop .at + 4 + 4 * countIn (c .before .before .before .before .before .read-be32 .result)) (opcodeIn (c .before .before .before .before .before .read-be32 .result)) (c .before .before .before .before .before .before .before .loop .entries + c .operations-in .result)
-turn c = rw (c .operations-in .ensures) (stands-fine (now (c .before .before .before .before .before .before .before .before .before .args .area)) (c .before .before .before .before .before .before .before .loop .at) (c .before .before .before .before .before .before .before .loop .last) (c .before .before .before .before .before .before .before .loop .entries) (c .before .before .before .before .before .before .before .loop .inv) _ (c .before .before .before .before .before .before .before .before .before .pre) (c .before .before .before .before .before .before .loop-test .taken) (c .before .before .before .before .before .read-be32 .ensures) (c .before .before .before .before .if1 .left) (sym (c .before .before .before .fault-of .ensures) ∙ c .before .enum-told .given .1))
+turn : (c : tie.After-operations-in Inv-loop μ-loop)
+    → let l = c .before .before .before .before .before .before .before .loop in
+    let w = c .before .before .before .before .before .read-be32 .result in
+    Stands (now (c .before .before .before .before .before .before .before .before .before .args .area)) (l .at + 4 + 4 * countIn w) (opcodeIn w) (l .entries + c .operations-in .result)
+turn c =
+    let s = c .before .before .before .before .before .before .before .before .before in
+    let l = c .before .before .before .before .before .before .before .loop in
+    let more = c .before .before .before .before .before .before .loop-test .taken in
+    let word = c .before .before .before .before .before .read-be32 .ensures in
+    let some = c .before .before .before .before .if1 .left in
+    rw (c .operations-in .ensures)
+    (stands-fine (now (s .args .area)) (l .at) (l .last) (l .entries) (l .inv) _ (s .pre) more word some (sym (c .before .before .before .fault-of .ensures) ∙ c .before .enum-told .given .1))
 
 add-entries : tie.Need-add-entries Inv-loop μ-loop
 add-entries c = omega (arith, turn c)
@@ -69,7 +88,9 @@ loop-again : tie.Need-loop-again Inv-loop μ-loop
 loop-again c = turn c
 
 returns-3 : tie.Need-returns-3 Inv-loop μ-loop
-returns-3 c = stands-out (now (c .before .before .before .args .area)) (c .before .loop .at) (c .before .loop .last) (c .before .loop .entries) (c .before .loop .inv) (omega arith)
+returns-3 c =
+    let l = c .before .loop in
+    stands-out (now (c .before .before .before .args .area)) (l .at) (l .last) (l .entries) (l .inv) (omega arith)
 
 pub check-operators-spec : {M : Type 1} → statement M
 check-operators-spec =

@@ -25,14 +25,16 @@ is-odd-addition-requires : tie.Need-is-odd-addition-requires
 is-odd-addition-requires c κs = search needs
 
 -- the opcode is one of the three, and there are operands
-known : (c : tie.Else3) → ((leb 1 (opcodeIn (c .before .before .before .args .word)) && leb (opcodeIn (c .before .before .before .args .word)) 3) ≡ true) × (eqb (countIn (c .before .before .before .args .word)) 0 ≡ false)
+known : (c : tie.Else3)
+    → let word = c .before .before .before .args .word in
+    ((leb 1 (opcodeIn word) && leb (opcodeIn word) 3) ≡ true) × (eqb (countIn word) 0 ≡ false)
 known c = (rw (le-leb 1 _ (c .before .before .if1 .left), le-leb _ 3 (c .before .if2 .left)), ne-eqb _ 0 (c .if3 .left))
 
 returns-4 : tie.Need-returns-4
 unfolding faultOf
 returns-4 c = rw (known (c .before .before) .0, known (c .before .before) .1, ← c .before .is-odd-addition .ensures, c .if4 .taken)
 
-even : (c : tie.Else4) → (eqb (opcodeIn (c .before .before .before .before .before .args .word)) 3 && eqb (countIn (c .before .before .before .before .before .args .word) % 2) 1) ≡ false
+even : (c : tie.Else4) → let word = c .before .before .before .before .before .args .word in (eqb (opcodeIn word) 3 && eqb (countIn word % 2) 1) ≡ false
 even c = sym (c .before .is-odd-addition .ensures) ∙ c .if4 .left
 
 returns-5 : tie.Need-returns-5

@@ -12,7 +12,9 @@ has-word-requires : tie.Need-has-word-requires
 has-word-requires c κs = search needs
 
 returns : tie.Need-returns
-returns c = ends-out (now (c .before .before .before .args .area)) (c .before .before .before .args .at) (c .before .before .before .args .code) (c .before .before .before .args .left) (no-room _ _ _ (c .before .has-word .ensures) (c .if1 .taken))
+returns c =
+    let a = c .before .before .before .args in
+    ends-out (now (a .area)) (a .at) (a .code) (a .left) (no-room _ _ _ (c .before .has-word .ensures) (c .if1 .taken))
 
 -- a whole word stands there
 fits : (c : tie.Else1) → c .before .before .before .args .at + 4 ≤ length (now (c .before .before .before .args .area))
@@ -28,10 +30,14 @@ has-word-requires-2 : tie.Need-has-word-requires-2
 has-word-requires-2 c κs = search needs
 
 returns-2 : tie.Need-returns-2
-returns-2 c = ends-half (now (c .before .before .before .before .before .before .before .args .area)) (c .before .before .before .before .before .before .before .args .at) (c .before .before .before .before .before .before .before .args .code) (c .before .before .before .before .before .before .before .args .left) (fits (c .before .before .before .before)) (c .before .before .before .before .before .before .before .pre) (c .before .before .if2 .taken) (no-room _ _ _ (c .before .has-word2 .ensures) (c .if3 .taken))
+returns-2 c =
+    let s = c .before .before .before .before .before .before .before in
+    let a = s .args in
+    let out = no-room _ _ _ (c .before .has-word2 .ensures) (c .if3 .taken) in
+    ends-half (now (a .area)) (a .at) (a .code) (a .left) (fits (c .before .before .before .before)) (s .pre) (c .before .before .if2 .taken) out
 
 -- and a second one behind it
-fits-two : (c : tie.Else3) → c .before .before .before .before .before .before .before .args .at + 4 + 4 ≤ length (now (c .before .before .before .before .before .before .before .args .area))
+fits-two : (c : tie.Else3) → let a = c .before .before .before .before .before .before .before .args in a .at + 4 + 4 ≤ length (now (a .area))
 fits-two c = room _ _ _ (c .before .has-word2 .ensures) (c .if3 .left)
 
 read-be32-requires-2 : tie.Need-read-be32-requires-2
@@ -47,7 +53,11 @@ saturating-sub-requires : tie.Need-saturating-sub-requires
 saturating-sub-requires c κs = search needs
 
 returns-3 : tie.Need-returns-3
-returns-3 c = rw (c .saturating-sub .ensures, c .before .read-be322 .ensures, c .before .before .before .before .before .read-be32 .ensures) (gives-pair (now (c .before .before .before .before .before .before .before .before .before .args .area)) (c .before .before .before .before .before .before .before .before .before .args .at) (c .before .before .before .before .before .before .before .before .before .args .code) (c .before .before .before .before .before .before .before .before .before .args .left) (fits (c .before .before .before .before .before .before)) (c .before .before .before .before .before .before .before .before .before .pre) (c .before .before .before .before .if2 .taken) (fits-two (c .before .before)))
+returns-3 c =
+    let s = c .before .before .before .before .before .before .before .before .before in
+    let a = s .args in
+    rw (c .saturating-sub .ensures, c .before .read-be322 .ensures, c .before .before .before .before .before .read-be32 .ensures)
+    (gives-pair (now (a .area)) (a .at) (a .code) (a .left) (fits (c .before .before .before .before .before .before)) (s .pre) (c .before .before .before .before .if2 .taken) (fits-two (c .before .before)))
 
 single-of-requires : tie.Need-single-of-requires
 single-of-requires c κs = search needs
@@ -56,7 +66,11 @@ sub-t18 : tie.Need-sub-t18
 sub-t18 c = search needs
 
 returns-4 : tie.Need-returns-4
-returns-4 c = rw (c .single-of .ensures, c .before .before .read-be32 .ensures) (gives-single (now (c .before .before .before .before .before .before .args .area)) (c .before .before .before .before .before .before .args .at) (c .before .before .before .before .before .before .args .code) (c .before .before .before .before .before .before .args .left) (fits (c .before .before .before)) (c .before .before .before .before .before .before .pre) (c .before .if2 .left))
+returns-4 c =
+    let s = c .before .before .before .before .before .before in
+    let a = s .args in
+    rw (c .single-of .ensures, c .before .before .read-be32 .ensures)
+    (gives-single (now (a .area)) (a .at) (a .code) (a .left) (fits (c .before .before .before)) (s .pre) (c .before .if2 .left))
 
 pub operation-at-spec : {M : Type 1} → statement M
 operation-at-spec =

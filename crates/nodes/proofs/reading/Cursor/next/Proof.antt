@@ -25,7 +25,10 @@ has-word-requires c κs = search needs
 
 returns : tie.Need-returns Inv-loop μ-loop
 unfolding nextOf
-returns c = (ends-out (now (c .before .before .before .before .before .args .area)) (c .before .before .before .loop .at) (c .before .before .before .loop .code) (c .before .before .before .loop .left) (no-room _ _ _ (c .before .has-word .ensures) (c .if1 .taken)) ∙ sym (c .before .before .before .loop .inv), steps-give)
+returns c =
+    let area = now (c .before .before .before .before .before .args .area) in
+    let l = c .before .before .before .loop in
+    (ends-out area (l .at) (l .code) (l .left) (no-room _ _ _ (c .before .has-word .ensures) (c .if1 .taken)) ∙ sym (l .inv), steps-give)
 
 -- a whole word stands there
 fits : (c : tie.Else1 Inv-loop μ-loop) → c .before .before .before .loop .at + 4 ≤ length (now (c .before .before .before .before .before .args .area))
@@ -36,7 +39,11 @@ read-be32-requires c κs = fits c
 
 returns-2 : tie.Need-returns-2 Inv-loop μ-loop
 unfolding nextOf
-returns-2 c = (ends-zero (now (c .before .before .before .before .before .before .before .args .area)) (c .before .before .before .before .before .loop .at) (c .before .before .before .before .before .loop .code) (c .before .before .before .before .before .loop .left) (fits (c .before .before)) (c .before .before .before .before .loop-test .taken) (sym (c .before .read-be32 .ensures) ∙ c .if2 .taken) ∙ sym (c .before .before .before .before .before .loop .inv), steps-give)
+returns-2 c =
+    let area = now (c .before .before .before .before .before .before .before .args .area) in
+    let l = c .before .before .before .before .before .loop in
+    let zero = sym (c .before .read-be32 .ensures) ∙ c .if2 .taken in
+    (ends-zero area (l .at) (l .code) (l .left) (fits (c .before .before)) (c .before .before .before .before .loop-test .taken) zero ∙ sym (l .inv), steps-give)
 
 cast-left : tie.Need-cast-left Inv-loop μ-loop
 cast-left c = search needs
@@ -48,7 +55,11 @@ loop-less : tie.Need-loop-less Inv-loop μ-loop
 loop-less c = omega (arith, fits (c .before .before))
 
 loop-again : tie.Need-loop-again Inv-loop μ-loop
-loop-again c = rw (c .before .read-be32 .ensures) (c .before .before .before .before .before .loop .inv ∙ goes-on (now (c .before .before .before .before .before .before .before .args .area)) (c .before .before .before .before .before .loop .at) (c .before .before .before .before .before .loop .code) (c .before .before .before .before .before .loop .left) (fits (c .before .before)) (c .before .before .before .before .loop-test .taken) (λ e. c .if2 .left (c .before .read-be32 .ensures ∙ e)))
+loop-again c =
+    let area = now (c .before .before .before .before .before .before .before .args .area) in
+    let l = c .before .before .before .before .before .loop in
+    let word = c .before .read-be32 .ensures in
+    rw word (l .inv ∙ goes-on area (l .at) (l .code) (l .left) (fits (c .before .before)) (c .before .before .before .before .loop-test .taken) (λ e. c .if2 .left (word ∙ e)))
 
 operation-at-requires : tie.Need-operation-at-requires Inv-loop μ-loop
 operation-at-requires c κs = search needs
