@@ -5,7 +5,7 @@ use mathlib.Core.List.{List, [], _∷_, _++_, append-assoc}
 use Prim.Native.Nat.{ℕ, _+_, _-_, _*_, _≤_}
 use native.Mathlib.Nat.{zero-add, one-mul}
 use native.Mathlib.Omega.{arith}
-use lib.ListN.{length, take, drop, length-append, length-drop}
+use lib.ListN.{length, drop, length-append, length-drop}
 use lib.Seq.{sets, sets-eq}
 use Rattle.words.specs.Numbers.{beBytes, wordBytes}
 use Rattle.words.proofs.Stores.{length-wordBytes, words-behind, store-first}
@@ -15,13 +15,13 @@ use Rattle.journal.specs.Reportable.{chosen, reportable, countsOf}
 use Rattle.journal.proofs.Entries.{operations-few}
 use Rattle.journal.proofs.Walks.{within-limit}
 use Rattle.nodes.specs.Head.{areaSize, headSize, headWords, carriedHead}
-use Rattle.nodes.specs.Run.{areaWords, partWords, cut, total, run, nextState}
-use Rattle.nodes.specs.State.{passedOf, leftOf}
-use Rattle.nodes.specs.Area.{wordsOf, body, answer, written}
-use Rattle.nodes.specs.Writing.{partFrom, bodyFrom}
+use Rattle.nodes.specs.Run.{cut, total, run, nextState}
+use Rattle.nodes.specs.State.{passedOf, remainingOf}
+use Rattle.nodes.specs.Area.{body, answer, written}
+use Rattle.nodes.specs.Writing.{Handed, bodyFrom}
 use Rattle.nodes.proofs.Cut.{Parts}
-use Rattle.nodes.proofs.Listed.{parts, fits, body-is, total-is, words-ds, words-us, words-adds}
-use Rattle.nodes.proofs.Runs.{length-part, length-body, run-facts}
+use Rattle.nodes.proofs.Listed.{parts, fits, body-is, total-is}
+use Rattle.nodes.proofs.Runs.{length-body, run-facts}
 
 -- counts of a well-formed journal are small
 pub counts-small : (row j : List ℕ) (c : Counts) → wellFormed j ≡ true → c ≡ countsOf row j → total c ≤ 3145728
@@ -37,16 +37,10 @@ body-stored l l₁ l₂ l₃ l₄ p₁ p₂ p₃ t₁ t₂ t₃ e₁ f₁ e₂ f
     ∙ ap (λ (m : List ℕ). sets m t₂ (wordBytes (p₃ ++ (0 ∷ [])))) e₂ ∙ words-behind l₁ t₁ t₂ p₂ (p₃ ++ (0 ∷ [])) f₂
     ∙ ap (λ (m : List ℕ). sets m t₁ (wordBytes (p₂ ++ (p₃ ++ (0 ∷ []))))) e₁ ∙ words-behind l headSize t₁ p₁ (p₂ ++ (p₃ ++ (0 ∷ []))) f₁
 
-module _ (row j : List ℕ) (c : Counts) (k : ℕ) (counted : c ≡ countsOf row j) (inside : k ≤ total c) (r : Counts) (fitting : r ≡ cut (leftOf c k)) where
-  -- what the writer of each part is asked: no more operations than are left, and room for them
-  pub record Asked : Type 0 where
-    pub deletes : r .deletes ≤ length (chosen row 1 (entries j)) - k
-    pub updates : r .updates ≤ length (chosen row 2 (entries j)) - (k - c .deletes)
-    pub additions : r .additions ≤ length (chosen row 3 (entries j)) - (k - c .deletes - c .updates)
-    pub room : partWords (1 * r .deletes) + partWords (1 * r .updates) + partWords (2 * r .additions) ≤ areaWords
-
-  pub asked : Asked
-  asked =
+module _ (row j : List ℕ) (c : Counts) (k : ℕ) (counted : c ≡ countsOf row j) (inside : k ≤ total c) (r : Counts) (fitting : r ≡ cut (remainingOf c k)) where
+  -- what the writer of the parts is asked
+  pub handed : Handed row j (passedOf c k) r
+  handed =
       let p : Parts _ _ _ (r .deletes) (r .updates) (r .additions) = parts row j c k counted inside r fitting in
       record {
         deletes = rw (← length-drop k (chosen row 1 (entries j))) (p .x-in);
@@ -54,16 +48,6 @@ module _ (row j : List ℕ) (c : Counts) (k : ℕ) (counted : c ≡ countsOf row
         additions = rw (← length-drop (k - c .deletes - c .updates) (chosen row 3 (entries j))) (p .z-in);
         room = rw (one-mul (r .deletes), one-mul (r .updates)) (fits row j c k counted inside r fitting);
       }
-
-  -- how long each part is
-  pub length-deletes : length (partFrom row j 1 k (r .deletes)) ≡ partWords (1 * r .deletes)
-  length-deletes = length-part 1 (wordsOf (take (r .deletes) (drop k (chosen row 1 (entries j))))) ∙ ap partWords (words-ds row j c k counted inside r fitting ∙ sym (one-mul (r .deletes)))
-
-  pub length-updates : length (partFrom row j 2 (k - c .deletes) (r .updates)) ≡ partWords (1 * r .updates)
-  length-updates = length-part 2 (wordsOf (take (r .updates) (drop (k - c .deletes) (chosen row 2 (entries j))))) ∙ ap partWords (words-us row j c k counted inside r fitting ∙ sym (one-mul (r .updates)))
-
-  pub length-additions : length (partFrom row j 3 (k - c .deletes - c .updates) (r .additions)) ≡ partWords (2 * r .additions)
-  length-additions = length-part 3 (wordsOf (take (r .additions) (drop (k - c .deletes - c .updates) (chosen row 3 (entries j))))) ∙ ap partWords (words-adds row j c k counted inside r fitting)
 
   -- the head, and behind it the parts and the terminator, are the whole answer
   body-written : bodyFrom row j (passedOf c k) r ≡ body (run (reportable row j) k) ++ (0 ∷ [])

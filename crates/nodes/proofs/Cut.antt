@@ -74,9 +74,12 @@ module _ (ds us adds : List Operation) (hd : AllOf 1 ds) (hu : AllOf 2 us) (ha :
   pub body-split : body (ds ++ (us ++ adds)) ≡ part 1 (wordsOf ds) ++ (part 2 (wordsOf us) ++ part 3 (wordsOf adds))
   unfolding body
   body-split =
-      let one : operandsOf 1 (ds ++ (us ++ adds)) ≡ wordsOf ds = operandsOf-three 1 ds us adds ∙ rw (operandsOf-same 1 ds hd, operandsOf-other 1 2 us (λ e. omega arith) hu, operandsOf-other 1 3 adds (λ e. omega arith) ha) (append-nil (wordsOf ds)) in
-      let two : operandsOf 2 (ds ++ (us ++ adds)) ≡ wordsOf us = operandsOf-three 2 ds us adds ∙ rw (operandsOf-other 2 1 ds (λ e. omega arith) hd, operandsOf-same 2 us hu, operandsOf-other 2 3 adds (λ e. omega arith) ha) (append-nil (wordsOf us)) in
-      let three : operandsOf 3 (ds ++ (us ++ adds)) ≡ wordsOf adds = operandsOf-three 3 ds us adds ∙ rw (operandsOf-other 3 1 ds (λ e. omega arith) hd, operandsOf-other 3 2 us (λ e. omega arith) hu, operandsOf-same 3 adds ha) in
+      let one : operandsOf 1 (ds ++ (us ++ adds)) ≡ wordsOf ds =
+      operandsOf-three 1 ds us adds ∙ rw (operandsOf-same 1 ds hd, operandsOf-other 1 2 us (λ e. omega arith) hu, operandsOf-other 1 3 adds (λ e. omega arith) ha) (append-nil (wordsOf ds)) in
+      let two : operandsOf 2 (ds ++ (us ++ adds)) ≡ wordsOf us =
+      operandsOf-three 2 ds us adds ∙ rw (operandsOf-other 2 1 ds (λ e. omega arith) hd, operandsOf-same 2 us hu, operandsOf-other 2 3 adds (λ e. omega arith) ha) (append-nil (wordsOf us)) in
+      let three : operandsOf 3 (ds ++ (us ++ adds)) ≡ wordsOf adds =
+      operandsOf-three 3 ds us adds ∙ rw (operandsOf-other 3 1 ds (λ e. omega arith) hd, operandsOf-other 3 2 us (λ e. omega arith) hu, operandsOf-same 3 adds ha) in
       rw (one, two, three)
 
   pub cost-split : cost (ds ++ (us ++ adds)) ≡ worth (length ds) (length us) (length adds)
@@ -143,7 +146,8 @@ module _ (d u a : ℕ) where
   -- the additions fill it, after all deletes and updates
   cut-additions : (z : ℕ) → worth d u z ≤ areaWords → areaWords < partWords d + partWords u + (3 + 2 * z) → z < a → Cut d u a d u z
   cut-additions z f g h =
-      record { inside = in-additions d u z refl refl (omega arith); fits = f; full = λ _. (d, u, suc z, in-additions d u (suc z) refl refl h, omega arith, omega (arith, operator-pos (2 * suc z) (omega arith))) }
+      let more = operator-pos (2 * suc z) (omega arith) in
+      record { inside = in-additions d u z refl refl (omega arith); fits = f; full = λ _. (d, u, suc z, in-additions d u (suc z) refl refl h, omega arith, omega (arith, more)) }
 
   -- all fit
   cut-all : worth d u a ≤ areaWords → Cut d u a d u a
@@ -183,12 +187,12 @@ module _ (d u a : ℕ) where
       none (suc zero) = omega arith
       none (suc (suc n)) = omega (arith, operator-pos (suc n) (omega arith))
 
-pub cut-is : (left : Counts) → let c = cut left in Cut (left .deletes) (left .updates) (left .additions) (c .deletes) (c .updates) (c .additions)
+pub cut-is : (remaining : Counts) → let c = cut remaining in Cut (remaining .deletes) (remaining .updates) (remaining .additions) (c .deletes) (c .updates) (c .additions)
 unfolding cut operator
-cut-is left =
-    let d = left .deletes in
-    let u = left .updates in
-    let a = left .additions in
+cut-is remaining =
+    let d = remaining .deletes in
+    let u = remaining .updates in
+    let a = remaining .additions in
     min-either d (areaWords - 1) (λ (x : ℕ). let r = areaWords - partWords x in Cut d u a x (onesIn r u) (twosIn (r - partWords (onesIn r u)) a))
     (λ h. second d u a (areaWords - partWords d) (omega (arith, fits-in d areaWords h)))
     (λ h. simp min-zero (cut-deletes d u a h))

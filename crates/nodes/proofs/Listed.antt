@@ -17,10 +17,10 @@ use Rattle.journal.specs.Reportable.{reports, chosen, reportable, countsOf}
 use Rattle.words.proofs.Choice.{choose, and-left}
 use Rattle.nodes.specs.Run.{areaWords, run, remains, nextState, partWords, cut, total}
 use Rattle.nodes.specs.Longest.{AllOf}
-use Rattle.nodes.specs.State.{leftOf}
+use Rattle.nodes.specs.State.{remainingOf}
 use Rattle.nodes.specs.Area.{wordsOf, part, body}
 use Rattle.nodes.proofs.Runs.{longest-one, longest-run, run-facts}
-use Rattle.nodes.proofs.Cut.{code-take, code-drop, words-one, words-two, body-split, Parts, parts-in, Cut, cut-is, cut-longest}
+use Rattle.nodes.proofs.Cut.{code-take, code-drop, body-split, Parts, parts-in, Cut, cut-is, cut-longest}
 
 -- an entry that is reported under an opcode is an operation of it
 pub report-code : (row : List ℕ) (code : ℕ) (e : Entry) → reports row code e ≡ true → opcode (e .operation) ≡ code
@@ -57,12 +57,12 @@ module _ (row j : List ℕ) (code skip : ℕ) where
   later-length : (n : ℕ) → n ≡ length (chosen row code (entries j)) → length (later row j code skip) ≡ n - skip
   later-length n e = length-drop skip (chosen row code (entries j)) ∙ rw (← e)
 
-  first-code : (n : ℕ) → AllOf code (take n (later row j code skip))
+  pub first-code : (n : ℕ) → AllOf code (take n (later row j code skip))
   first-code n = code-take code n (later row j code skip) later-code
 
 -- ---- the run of a call
 
-module _ (row j : List ℕ) (c : Counts) (k : ℕ) (counted : c ≡ countsOf row j) (inside : k ≤ total c) (r : Counts) (fitting : r ≡ cut (leftOf c k)) where
+module _ (row j : List ℕ) (c : Counts) (k : ℕ) (counted : c ≡ countsOf row j) (inside : k ≤ total c) (r : Counts) (fitting : r ≡ cut (remainingOf c k)) where
   abbrev ds : List Operation
   ds = later row j 1 k
 
@@ -95,7 +95,7 @@ module _ (row j : List ℕ) (c : Counts) (k : ℕ) (counted : c ≡ countsOf row
         later-length row j 3 (k - c .deletes - c .updates) (c .additions) additions-are,
         fitting,
       )
-      (cut-is (leftOf c k))
+      (cut-is (remainingOf c k))
 
   -- the run takes no more of an opcode than are left
   pub parts : Parts (length ds) (length us) (length adds) (r .deletes) (r .updates) (r .additions)
@@ -144,13 +144,3 @@ module _ (row j : List ℕ) (c : Counts) (k : ℕ) (counted : c ≡ countsOf row
   body-is =
       rw run-parts
       (body-split (take (r .deletes) ds) (take (r .updates) us) (take (r .additions) adds) code-ds code-us code-adds)
-
-  -- how many operand words each part has
-  pub words-ds : length (wordsOf (take (r .deletes) ds)) ≡ r .deletes
-  words-ds = words-one 1 _ (omega arith) code-ds ∙ length-take-le (r .deletes) ds (parts .x-in)
-
-  pub words-us : length (wordsOf (take (r .updates) us)) ≡ r .updates
-  words-us = words-one 2 _ (omega arith) code-us ∙ length-take-le (r .updates) us (parts .y-in)
-
-  pub words-adds : length (wordsOf (take (r .additions) adds)) ≡ 2 * r .additions
-  words-adds = words-two _ code-adds ∙ ap (λ (n : ℕ). 2 * n) (length-take-le (r .additions) adds (parts .z-in))

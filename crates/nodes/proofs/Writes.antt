@@ -7,7 +7,7 @@ use native.Mathlib.Nat.{mul-zero, mul-one, mul-le-mul-left, mul-le-mul}
 use native.Mathlib.Numerals.{sub-one}
 use native.Mathlib.Omega.{arith}
 use lib.Dec.{eqb}
-use lib.ListN.{length, take, drop}
+use lib.ListN.{length, take, drop, length-drop}
 use lib.Seq.{sets, length-sets, length-take-le}
 use borrow.Author.Tests.{eqb-true, eq-eqb, ne-eqb}
 use Rattle.words.specs.Numbers.{beBytes, wordBytes}
@@ -26,8 +26,9 @@ use Rattle.nodes.specs.Run.{partWords, operator, areaWords}
 use Rattle.nodes.specs.Longest.{AllOf}
 use Rattle.nodes.specs.Area.{wordsOf, part}
 use Rattle.nodes.specs.Writing.{width, Due, dueWords, partFrom}
+use Rattle.nodes.proofs.Runs.{length-part}
 use Rattle.nodes.proofs.Cut.{code-take, words-one, words-two}
-use Rattle.nodes.proofs.Listed.{chosen-code}
+use Rattle.nodes.proofs.Listed.{chosen-code, first-code}
 
 -- ---- how many words are due
 
@@ -181,6 +182,14 @@ pub operands-other : (j : List ℕ) (code at : ℕ) → (code ≡ 3 → ⊥) →
 operands-other j code at h = rw (ne-eqb code 3 h)
 
 -- ---- one opcode's part
+
+pub part-length : (row j : List ℕ) (code first count : ℕ) → 1 ≤ code → code ≤ 3 → count ≤ length (chosen row code (entries j)) - first
+    → length (partFrom row j code first count) ≡ partWords (width code * count)
+part-length row j code first count low high inside =
+    let rest = drop first (chosen row code (entries j)) in
+    let all : length (take count rest) ≡ count = length-take-le count rest (rw length-drop inside) in
+    length-part code (wordsOf (take count rest))
+    ∙ ap partWords (words-width code (take count rest) low high (first-code row j code first count) ∙ ap (λ (n : ℕ). width code * n) all)
 
 -- the operations from a place that was found are those of the whole journal from number k on
 module _ (row j : List ℕ) (code k from n : ℕ) (r : Resumes row j code k from 0) where

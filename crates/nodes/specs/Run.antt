@@ -45,7 +45,7 @@ remains os state = ltb (state + length (run os state)) (length os)
 unfoldable pub nextState : List Operation → ℕ → ℕ
 nextState os state = cond (remains os state) (state + length (run os state)) 0
 
--- ---- the same run by arithmetic, from how many deletes, updates and additions are left
+-- ---- the same run by arithmetic, from how many deletes, updates and additions remain
 
 -- the words of one opcode's n operands with their operator, which stands only before operands
 unfoldable pub operator : ℕ → ℕ
@@ -57,18 +57,18 @@ partWords n = operator n + n
 
 -- how many operations of one operand word, or of two, fit into so many words with their operator
 abbrev pub onesIn : ℕ → ℕ → ℕ
-onesIn room left = min left (room - 1)
+onesIn room remaining = min remaining (room - 1)
 
 abbrev pub twosIn : ℕ → ℕ → ℕ
-twosIn room left = min left ((room - 1) / 2)
+twosIn room remaining = min remaining ((room - 1) / 2)
 
 unfoldable pub cut : Counts → Counts
-cut left =
-    let deletes = onesIn areaWords (left .deletes) in
+cut remaining =
+    let deletes = onesIn areaWords (remaining .deletes) in
     let room₂ = areaWords - partWords deletes in
-    let updates = onesIn room₂ (left .updates) in
+    let updates = onesIn room₂ (remaining .updates) in
     let room₃ = room₂ - partWords updates in
-    record { deletes = deletes; updates = updates; additions = twosIn room₃ (left .additions) }
+    record { deletes = deletes; updates = updates; additions = twosIn room₃ (remaining .additions) }
 
 abbrev pub total : Counts → ℕ
 total c = c .deletes + c .updates + c .additions

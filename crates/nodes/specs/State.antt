@@ -12,8 +12,8 @@ isWithin state all = eqb state 0 || ltb state all
 abbrev pub passedOf : Counts → ℕ → Counts
 passedOf all state = record { deletes = state; updates = state - all .deletes; additions = state - all .deletes - all .updates }
 
--- what is left of the counts of a list after its first `state` operations
-abbrev pub leftOf : Counts → ℕ → Counts
-leftOf all state =
+-- how many operations of each opcode remain of a list after its first `state` operations
+abbrev pub remainingOf : Counts → ℕ → Counts
+remainingOf all state =
     let passed = passedOf all state in
     record { deletes = all .deletes - passed .deletes; updates = all .updates - passed .updates; additions = all .additions - passed .additions }

@@ -9,7 +9,7 @@ ghost use lib.Seq.{sets};
 ghost use Rattle.words.specs.Numbers.{wordBytes};
 ghost use Rattle.nodes.specs.Head.{stateIn};
 ghost use Rattle.nodes.specs.Run.{total};
-ghost use Rattle.nodes.specs.State.{isWithin, passedOf, leftOf};
+ghost use Rattle.nodes.specs.State.{isWithin, passedOf, remainingOf};
 use journal::Counts;
 
 // The State Variable: how many operations were reported before. It counts from 0.
@@ -62,9 +62,9 @@ impl StateVariable {
         }
     }
 
-    // What is left of the counts behind the state.
-    pub fn left_of(self, all: Counts) -> Counts
-        ensures { λ r. ⌜ r ≡ leftOf all (self .0) ⌝ }
+    // How many deletes, updates and additions remain behind the state.
+    pub fn remaining(self, all: Counts) -> Counts
+        ensures { λ r. ⌜ r ≡ remainingOf all (self .0) ⌝ }
     {
         let passed = self.passed(all);
         Counts {

@@ -11,10 +11,11 @@ ghost use Rattle.journal.specs.Marks.{operandsAt, operandsEnd, Marked};
 ghost use Rattle.nodes.specs.Run.{partWords, cut, total, remains, areaWords};
 ghost use Rattle.nodes.specs.Head.{areaSize, headSize};
 ghost use Rattle.nodes.specs.State.{passedOf, leftOf};
+ghost use Rattle.nodes.specs.Run.{areaWords, partWords, total, remains};
 ghost use Rattle.nodes.specs.Area.{written};
 ghost use Rattle.nodes.specs.Claims.{AreaClaims};
 ghost use Rattle.nodes.specs.Source.{Source};
-ghost use Rattle.nodes.specs.Writing.{width, Due, dueWords, partFrom, bodyFrom};
+ghost use Rattle.nodes.specs.Writing.{width, Due, dueWords, partFrom, Handed, bodyFrom};
 use crate::head::HEAD_SIZE;
 use crate::head::write_head;
 use crate::run::longest_run;
@@ -56,36 +57,44 @@ fn write_operands(
     let step = 4 * width_of(code);
     let mut at = from;
     let mut to = start;
-    let mut left = count;
-    while 0 < left {
+    let mut due = count;
+    while 0 < due {
         let p = journal::pass(j, row, code, at);
         store_operands(area, to, j, at, code);
         at += p.size;
         to += step * p.reported;
-        left -= p.reported;
+        due -= p.reported;
     }
 }
 
-// One opcode's part from operation number k on: the operator and its operands, or nothing without operations. Gives the place after it.
+// Operations of one opcode: so many from a number on, of those that the journal has.
+struct Part {
+    code: usize,
+    first: usize,
+    count: usize,
+}
+
+// One opcode's part of the area: the operator and its operands, or nothing without operations. Gives the place after it.
 fn write_part(
     area: &mut [u8],
     j: &[u8],
     row: &[u8; 15],
     marks: &[u64; 128],
     noted: usize,
-    code: usize,
-    k: usize,
-    count: usize,
+    part: Part,
     to: usize,
 ) -> usize
-    requires { ⌜ (wellFormed (now j) ≡ true) × Marked (now row) (now j) (now marks) noted × (1 ≤ code) × (code ≤ 3) × (count ≤ length (chosen (now row) code (entries (now j))) - k) × (count ≤ areaWords) × (to + 4 * partWords (width code * count) ≤ length (now area)) ⌝ }
-    ensures { λ r. ⌜ r ≡ to + 4 * partWords (width code * count) ⌝ }
-    ensures { λ _. ⌜ now (area .exit) ≡ sets (now (area .entry)) to (wordBytes (partFrom (now (row .entry)) (now (j .entry)) code k count)) ⌝ }
+    requires { ⌜ (wellFormed (now j) ≡ true) × Marked (now row) (now j) (now marks) noted × (1 ≤ part .code) × (part .code ≤ 3) × (part .count ≤ length (chosen (now row) (part .code) (entries (now j))) - part .first) × (part .count ≤ areaWords) × (to + 4 * partWords (width (part .code) * part .count) ≤ length (now area)) ⌝ }
+    ensures { λ r. ⌜ r ≡ to + 4 * partWords (width (part .code) * part .count) ⌝ }
+    ensures { λ _. ⌜ now (area .exit) ≡ sets (now (area .entry)) to (wordBytes (partFrom (now (row .entry)) (now (j .entry)) (part .code) (part .first) (part .count))) ⌝ }
 {
+    let code = part.code;
+    let first = part.first;
+    let count = part.count;
     if count == 0 {
         return to;
     }
-    let from = journal::find(j, row, marks, noted, code, k);
+    let from = journal::find(j, row, marks, noted, code, first);
     let operands = width_of(code) * count;
     words::store_be32(area, to, (code * 16777216 + operands) as u32);
     write_operands(area, j, row, code, from, count, to + 4);
@@ -97,40 +106,33 @@ fn write_body(
     area: &mut [u8],
     j: &[u8],
     row: &[u8; 15],
-    counts: Counts,
     marks: &[u64; 128],
     noted: usize,
-    state: StateVariable,
+    passed: Counts,
     run: Counts,
 )
-    requires { ⌜ (length (now area) ≡ areaSize) × Source (now row) (now j) counts (now marks) noted × (state .0 ≤ total counts) × (run ≡ cut (leftOf counts (state .0))) ⌝ }
-    ensures { λ _. ⌜ now (area .exit) ≡ sets (now (area .entry)) headSize (wordBytes (bodyFrom (now (row .entry)) (now (j .entry)) (passedOf counts (state .0)) run)) ⌝ }
+    requires { ⌜ (length (now area) ≡ areaSize) × (wellFormed (now j) ≡ true) × Marked (now row) (now j) (now marks) noted × Handed (now row) (now j) passed run ⌝ }
+    ensures { λ _. ⌜ now (area .exit) ≡ sets (now (area .entry)) headSize (wordBytes (bodyFrom (now (row .entry)) (now (j .entry)) passed run)) ⌝ }
 {
-    let from = state.passed(counts);
-    let a = write_part(
-        area,
-        j,
-        row,
-        marks,
-        noted,
-        1,
-        from.deletes,
-        run.deletes,
-        HEAD_SIZE,
-    );
-    let b = write_part(area, j, row, marks, noted, 2, from.updates, run.updates, a);
-    let c = write_part(
-        area,
-        j,
-        row,
-        marks,
-        noted,
-        3,
-        from.additions,
-        run.additions,
-        b,
-    );
-    words::store_be32(area, c, 0);
+    let deletes = Part {
+        code: 1,
+        first: passed.deletes,
+        count: run.deletes,
+    };
+    let updates = Part {
+        code: 2,
+        first: passed.updates,
+        count: run.updates,
+    };
+    let additions = Part {
+        code: 3,
+        first: passed.additions,
+        count: run.additions,
+    };
+    let second = write_part(area, j, row, marks, noted, deletes, HEAD_SIZE);
+    let third = write_part(area, j, row, marks, noted, updates, second);
+    let end = write_part(area, j, row, marks, noted, additions, third);
+    words::store_be32(area, end, 0);
 }
 
 // The answer of a call, from a well-formed journal, what its scan told, and a state within it. Says whether operations remain.
@@ -148,10 +150,10 @@ pub fn write_answer(
     ensures { λ _. ⌜ now (area .exit) ≡ written (now (area .entry)) (reportable (now (row .entry)) (now (j .entry))) (state .0) ⌝ }
     ensures claims { λ _. ⌜ AreaClaims ⌝ }
 {
-    let run = longest_run(state.left_of(counts));
+    let run = longest_run(state.remaining(counts));
     let after = state.after(run);
     let more = after.has_more(counts);
     write_head(area, after.carried(more));
-    write_body(area, j, row, counts, marks, noted, state, run);
+    write_body(area, j, row, marks, noted, state.passed(counts), run);
     more
 }

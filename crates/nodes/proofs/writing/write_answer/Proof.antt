@@ -5,29 +5,34 @@ use native.Mathlib.Omega.{arith}
 use lib.Seq.{sets}
 use borrow.Author.Needs.{needs}
 use denote.Ref.{now}
-use Rattle.nodes.proofs.Answers.{counts-small, answer-stored}
+use Rattle.nodes.proofs.Answers.{counts-small, handed, answer-stored}
 use Rattle.nodes.proofs.Claims.{area-claims}
 use Rattle.nodes.proofs.Listed.{few, remains-is, next-is}
 use Rattle.nodes.specs.Head.{carriedHead}
 use Rattle.nodes.specs.Run.{cut, total}
-use Rattle.nodes.specs.State.{leftOf}
+use Rattle.nodes.specs.State.{remainingOf}
 use Rattle.nodes.proofs.writing.write_answer.Statement.{statement}
 use Rattle.nodes.proofs.writing.write_answer.Tie as tie
 
-left-of-requires : tie.Need-left-of-requires
-left-of-requires c κs = search needs
+remaining-requires : tie.Need-remaining-requires
+remaining-requires c κs = search needs
 
 longest-run-requires : tie.Need-longest-run-requires
 longest-run-requires c κs = search needs
 
-fitting : (c : tie.After-longest-run) → c .longest-run .result ≡ cut (leftOf (c .before .before .before .before .args .counts) (c .before .before .before .before .args .state .0))
-fitting c = c .longest-run .ensures .0 ∙ ap cut (c .before .left-of .ensures)
+fitting : (c : tie.After-longest-run) → let a = c .before .before .before .before .args in c .longest-run .result ≡ cut (remainingOf (a .counts) (a .state .0))
+fitting c = c .longest-run .ensures .0 ∙ ap cut (c .before .remaining .ensures)
 
 -- the operations reported by then are no more than all, which are few
-sums : (c : tie.After-longest-run) → (c .before .before .before .before .args .state .0 + total (c .longest-run .result) ≤ total (c .before .before .before .before .args .counts)) × (total (c .before .before .before .before .args .counts) ≤ 3145728)
+sums : (c : tie.After-longest-run)
+    → let a = c .before .before .before .before .args in
+    (a .state .0 + total (c .longest-run .result) ≤ total (a .counts)) × (total (a .counts) ≤ 3145728)
 sums c =
     let s = c .before .before .before .before in
-    (few (now (s .args .row)) (now (s .args .j)) (s .args .counts) (s .args .state .0) (s .pre .1 .counted) (s .pre .2) _ (fitting c), counts-small (now (s .args .row)) (now (s .args .j)) _ (s .pre .1 .good) (s .pre .1 .counted))
+    let row = now (s .args .row) in
+    let j = now (s .args .j) in
+    let p = s .pre in
+    (few row j (s .args .counts) (s .args .state .0) (p .1 .counted) (p .2) _ (fitting c), counts-small row j _ (p .1 .good) (p .1 .counted))
 
 after-requires : tie.Need-after-requires
 after-requires c κs = omega (arith, sums c)
@@ -41,27 +46,39 @@ carried-requires c κs = search needs
 write-head-requires : tie.Need-write-head-requires
 write-head-requires c κs = search needs
 
+passed-requires : tie.Need-passed-requires
+passed-requires c κs = search needs
+
 write-body-requires : tie.Need-write-body-requires
-write-body-requires c κs = let p = c .before .before .before .before .before .before .before .before .before .before .before .before .pre in (c .before .before .before .write-head .kept .0 ∙ p .0, p .1, p .2, fitting (c .before .before .before .before .before .before .before .before))
+write-body-requires c κs =
+    let s = c .before .before .before .before .before .before .before .before .before .before .before .before .before in
+    let p = s .pre in
+    let f = fitting (c .before .before .before .before .before .before .before .before .before) in
+    let h = handed (now (s .args .row)) (now (s .args .j)) (s .args .counts) (s .args .state .0) (p .1 .counted) (p .2) _ f in
+    (c .before .before .before .before .write-head .kept .0 ∙ p .0, p .1 .good, p .1 .marked, rw (c .passed .ensures) h)
 
 same-length : tie.Need-same-length
 same-length c = search needs
 
 returns : tie.Need-returns
 returns c =
-    let a = c .before .before .before .before .before .before .before .before .before .before .before .before .before .before .before .args in
-    let p = c .before .before .before .before .before .before .before .before .before .before .before .before .before .before .before .pre in
+    let s = c .before .before .before .before .before .before .before .before .before .before .before .before .before .before .before .before in
+    let a = s .args in
+    let p = s .pre in
     let row = now (a .row) in
     let j = now (a .j) in
     let k = a .state .0 in
-    let f = fitting (c .before .before .before .before .before .before .before .before .before .before .before) in
-    let after = c .before .before .before .before .before .before .before .before .before .before .after in
-    let more = c .before .before .before .before .before .before .before .before .before .has-more in
-    let next = c .before .before .before .before .before .before .before .carried in (
+    let f = fitting (c .before .before .before .before .before .before .before .before .before .before .before .before) in
+    let after = c .before .before .before .before .before .before .before .before .before .before .before .after in
+    let more = c .before .before .before .before .before .before .before .before .before .before .has-more in
+    let next = c .before .before .before .before .before .before .before .before .carried in
+    let head = c .before .before .before .before .before .before .before .write-head in
+    let body = c .before .before .write-body in
+    let state = next-is row j (a .counts) k (p .1 .counted) (p .2) _ f (after .result .0) (next .result .0) (more .result) (after .ensures) (more .ensures) (next .ensures) in (
       more .ensures ∙ remains-is row j (a .counts) k (p .1 .counted) (p .2) _ f _ (after .ensures),
       (
-        answer-stored row j (a .counts) k (p .1 .counted) (p .2) _ f (now (a .area)) (c .before .before .before .before .before .before .write-head .last .0) (c .before .before .write-body .last .0) (p .0)
-            (c .before .before .before .before .before .before .write-head .ensures ∙ ap (λ (n : ℕ). sets (now (a .area)) 0 (carriedHead n)) (next-is row j (a .counts) k (p .1 .counted) (p .2) _ f (after .result .0) (next .result .0) (more .result) (after .ensures) (more .ensures) (next .ensures))) (c .before .before .write-body .ensures),
+        answer-stored row j (a .counts) k (p .1 .counted) (p .2) _ f (now (a .area)) (head .last .0) (body .last .0) (p .0)
+            (head .ensures ∙ ap (λ (n : ℕ). sets (now (a .area)) 0 (carriedHead n)) state) (rw (c .before .before .before .passed .ensures) at (body .ensures)),
         area-claims,
       ),
     )
@@ -70,12 +87,13 @@ pub write-answer-spec : {M : Type 1} → statement M
 write-answer-spec =
     tie.close
     (tie.spec
-    left-of-requires
+    remaining-requires
     longest-run-requires
     after-requires
     has-more-requires
     carried-requires
     write-head-requires
+    passed-requires
     write-body-requires
     same-length
     returns)

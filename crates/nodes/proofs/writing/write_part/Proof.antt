@@ -16,22 +16,31 @@ use Rattle.nodes.proofs.writing.write_part.Statement.{statement}
 use Rattle.nodes.proofs.writing.write_part.Tie as tie
 
 returns : tie.Need-returns
-returns c = no-part (now (c .before .before .before .args .area)) (now (c .before .before .before .args .row)) (now (c .before .before .before .args .j)) (c .before .before .before .args .code) (c .before .before .before .args .k) (c .before .before .before .args .count) (c .before .before .before .args .to) (c .if1 .taken)
+returns c =
+    let a = c .before .before .before .args in
+    no-part (now (a .area)) (now (a .row)) (now (a .j)) (a .part .code) (a .part .first) (a .part .count) (a .to) (c .if1 .taken)
 
 find-requires : tie.Need-find-requires
-find-requires c κs = (c .before .before .before .pre .0, c .before .before .before .pre .1, c .before .before .before .pre .2, c .before .before .before .pre .3, omega (arith, c .before .before .before .pre .4, c .if1 .left))
+find-requires c κs = let p = c .before .before .before .pre in (p .0, p .1, p .2, p .3, omega (arith, p .4, c .if1 .left))
 
 width-of-requires : tie.Need-width-of-requires
 width-of-requires c κs = search needs
 
-sizes : (c : tie.After-width-of) → Sized (width (c .before .before .before .before .before .args .code)) (c .width-of .result) (c .before .before .before .before .before .args .count)
-sizes c = sized (c .before .before .before .before .before .args .code) _ _ (c .width-of .ensures) (omega (arith, c .before .before .if1 .left)) (c .before .before .before .before .before .pre .5)
+sizes : (c : tie.After-width-of) → let a = c .before .before .before .before .before .args in Sized (width (a .part .code)) (c .width-of .result) (a .part .count)
+sizes c =
+    let s = c .before .before .before .before .before in
+    sized (s .args .part .code) _ _ (c .width-of .ensures) (omega (arith, c .before .before .if1 .left)) (s .pre .5)
 
-room : (c : tie.After-width-of) → c .before .before .before .before .before .args .to + 4 * (1 + width (c .before .before .before .before .before .args .code) * c .before .before .before .before .before .args .count) ≤ length (now (c .before .before .before .before .before .args .area))
-room c = omega (arith, c .before .before .before .before .before .pre .6, operator-pos (width (c .before .before .before .before .before .args .code) * c .before .before .before .before .before .args .count) (omega (arith, sizes c)))
+room : (c : tie.After-width-of) → let a = c .before .before .before .before .before .args in a .to + 4 * (1 + width (a .part .code) * a .part .count) ≤ length (now (a .area))
+room c =
+    let s = c .before .before .before .before .before in
+    omega (arith, s .pre .6, operator-pos (width (s .args .part .code) * s .args .part .count) (omega (arith, sizes c)))
 
-due : (c : tie.After-width-of) → Due (now (c .before .before .before .before .before .args .row)) (now (c .before .before .before .before .before .args .j)) (c .before .before .before .before .before .args .code) (c .before .find .result) (c .before .before .before .before .before .args .count)
-due c = found-due (now (c .before .before .before .before .before .args .row)) (now (c .before .before .before .before .before .args .j)) _ _ _ _ (c .before .find .ensures) (c .before .before .before .before .before .pre .0) (c .before .before .before .before .before .pre .2) (c .before .before .before .before .before .pre .3) (omega (arith, c .before .before .before .before .before .pre .4, c .before .before .if1 .left))
+due : (c : tie.After-width-of) → let a = c .before .before .before .before .before .args in Due (now (a .row)) (now (a .j)) (a .part .code) (c .before .find .result) (a .part .count)
+due c =
+    let s = c .before .before .before .before .before in
+    let p = s .pre in
+    found-due (now (s .args .row)) (now (s .args .j)) _ _ _ _ (c .before .find .ensures) (p .0) (p .2) (p .3) (omega (arith, p .4, c .before .before .if1 .left))
 
 mul-operands : tie.Need-mul-operands
 mul-operands c = omega (arith, sizes c)
@@ -52,7 +61,9 @@ add-write-operands : tie.Need-add-write-operands
 add-write-operands c = search needs
 
 write-operands-requires : tie.Need-write-operands-requires
-write-operands-requires c κs = (due (c .before .before .before .before .before), omega (arith, room (c .before .before .before .before .before), c .before .before .before .store-be32 .kept .0))
+write-operands-requires c κs =
+    let w = c .before .before .before .before .before in
+    (due w, omega (arith, room w, c .before .before .before .store-be32 .kept .0))
 
 add-result : tie.Need-add-result
 add-result c = omega (arith, sizes (c .before .before .before .before .before .before .before .before))
@@ -67,12 +78,19 @@ same-length : tie.Need-same-length
 same-length c = search needs
 
 returns-2 : tie.Need-returns-2
-returns-2 c = let w = c .before .before .before .before .before .before .before .before in
-    let n = sizes w in (
-      omega (arith, n .is, operator-pos (width (c .before .before .before .before .before .before .before .before .before .before .before .before .before .args .code) * c .before .before .before .before .before .before .before .before .before .before .before .before .before .args .count) (omega (arith, n .is, n .some))),
-      part-stored (now (c .before .before .before .before .before .before .before .before .before .before .before .before .before .args .area)) (c .before .before .before .before .before .before .store-be32 .last .0) (c .before .before .write-operands .last .0) (c .before .before .before .before .before .before .before .before .before .before .before .before .before .args .to) (c .before .before .before .before .before .before .before .before .before .before .before .before .before .args .code) _ (wordsOf (take (c .before .before .before .before .before .before .before .before .before .before .before .before .before .args .count) (drop (c .before .before .before .before .before .before .before .before .before .before .before .before .before .args .k) (chosen (now (c .before .before .before .before .before .before .before .before .before .before .before .before .before .args .row)) (c .before .before .before .before .before .before .before .before .before .before .before .before .before .args .code) (entries (now (c .before .before .before .before .before .before .before .before .before .before .before .before .before .args .j)))))))
-          (n .is ∙ sym (due-length (now (c .before .before .before .before .before .before .before .before .before .before .before .before .before .args .row)) (now (c .before .before .before .before .before .before .before .before .before .before .before .before .before .args .j)) _ _ _ (due w)) ∙ ap (λ (l : List ℕ). length l) (found-words (now (c .before .before .before .before .before .before .before .before .before .before .before .before .before .args .row)) (now (c .before .before .before .before .before .before .before .before .before .before .before .before .before .args .j)) _ _ _ (c .before .before .before .before .before .before .before .before .before .before .before .before .before .args .count) (c .before .before .before .before .before .before .before .before .before .find .ensures))) (n .some) (c .before .before .before .before .before .before .store-be32 .ensures)
-          (c .before .before .write-operands .ensures ∙ rw (found-words (now (c .before .before .before .before .before .before .before .before .before .before .before .before .before .args .row)) (now (c .before .before .before .before .before .before .before .before .before .before .before .before .before .args .j)) _ _ _ (c .before .before .before .before .before .before .before .before .before .before .before .before .before .args .count) (c .before .before .before .before .before .before .before .before .before .find .ensures))),
+returns-2 c =
+    let w = c .before .before .before .before .before .before .before .before in
+    let a = w .before .before .before .before .before .args in
+    let row = now (a .row) in
+    let j = now (a .j) in
+    let n = sizes w in
+    let operator = c .before .before .before .before .before .before .store-be32 in
+    let operands = c .before .before .write-operands in
+    let found = found-words row j _ _ _ (a .part .count) (w .before .find .ensures) in (
+      omega (arith, n .is, operator-pos (width (a .part .code) * a .part .count) (omega (arith, n .is, n .some))),
+      part-stored (now (a .area)) (operator .last .0) (operands .last .0) (a .to) (a .part .code) _ (wordsOf (take (a .part .count) (drop (a .part .first) (chosen row (a .part .code) (entries j)))))
+          (n .is ∙ sym (due-length row j _ _ _ (due w)) ∙ ap (λ (l : List ℕ). length l) found) (n .some) (operator .ensures)
+          (operands .ensures ∙ rw found),
     )
 
 pub write-part-spec : {M : Type 1} → statement M

@@ -1,7 +1,7 @@
--- `state::StateVariable::left_of` meets its contract.
+-- `state::StateVariable::remaining` meets its contract.
 use borrow.Author.Needs.{needs}
-use Rattle.nodes.proofs.state.StateVariable.left_of.Statement.{statement}
-use Rattle.nodes.proofs.state.StateVariable.left_of.Tie as tie
+use Rattle.nodes.proofs.state.StateVariable.remaining.Statement.{statement}
+use Rattle.nodes.proofs.state.StateVariable.remaining.Tie as tie
 
 passed-requires : tie.Need-passed-requires
 passed-requires c κs = search needs
@@ -18,5 +18,5 @@ saturating-sub-requires-3 c κs = search needs
 returns : tie.Need-returns
 returns c = cc
 
-pub left-of-spec : {M : Type 1} → statement M
-left-of-spec = tie.close (tie.spec passed-requires saturating-sub-requires saturating-sub-requires-2 saturating-sub-requires-3 returns)
+pub remaining-spec : {M : Type 1} → statement M
+remaining-spec = tie.close (tie.spec passed-requires saturating-sub-requires saturating-sub-requires-2 saturating-sub-requires-3 returns)
