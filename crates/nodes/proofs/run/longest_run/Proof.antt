@@ -31,7 +31,11 @@ least-requires-3 c κs = search needs
 
 returns : tie.Need-returns
 unfolding cut
-returns c = (cc, cut-is-longest)
+returns c =
+    let first = c .before .before .before .before .before .before .least .ensures in
+    let second = c .before .before .before .before .before .room-after .ensures in
+    let third = c .before .before .room-after2 .ensures in
+    (rw (c .least3 .ensures, c .before .saturating-sub2 .ensures, third, c .before .before .before .least2 .ensures, c .before .before .before .before .saturating-sub .ensures, second, first), cut-is-longest)
 
 pub longest-run-spec : {M : Type 1} → statement M
 longest-run-spec =
