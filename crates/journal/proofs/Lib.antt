@@ -1,6 +1,6 @@
 pub mod Opcodes
 pub mod Entries
-pub mod Judging
+pub mod RecordLaws
 pub mod Reaching
 pub mod WeightLaws
 pub mod MarkLaws

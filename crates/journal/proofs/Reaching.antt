@@ -1,13 +1,13 @@
 -- A scan going on: past a record, past four of the same header, at a bad record, at the end.
 use mathlib.Core.Path.{_≡_, refl, sym, ap, _∙_}
-use mathlib.Core.Bool.{true, false, _&&_}
+use mathlib.Core.Bool.{true, false}
 use mathlib.Core.List.{List}
 use Prim.Native.Nat.{ℕ, _+_, _*_, _/_, _%_, _<_, _≤_}
 use native.Mathlib.Nat.{div-one, div-div-eq-div-mul, mod-eq-of-lt}
 use native.Mathlib.Omega.{arith}
 use lib.ListN.{length, drop}
 use Rattle.words.specs.Numbers.{le}
-use Rattle.records.specs.Records.{firstRecord, records, whole, allGood, sizeLimit}
+use Rattle.records.specs.Records.{records, allGood, sizeLimit}
 use Rattle.records.proofs.Choosing.{before-step, before-none, before-all}
 use Rattle.records.proofs.Steps.{good-step, bad-step, none-good, formed, not-formed}
 use Rattle.journal.specs.declared.scanning.Judgement.the-variants.{Malformed, Counted}
@@ -17,10 +17,10 @@ use Rattle.journal.specs.declared.stride.Step.the-variants.{Bad, Upto}
 use Rattle.journal.specs.Journal.{goodRecord, wellFormed, entries}
 use Rattle.journal.specs.Reportable.{operation, reports, chosen, judgementOf}
 use Rattle.journal.specs.Marks.{countLimit, count}
-use Rattle.journal.specs.Scanning.{packedLimit, largestWeight, Before, Reached, Went, Judged, fourHeaded, Known, unpacked}
+use Rattle.journal.specs.Scanning.{goodHere, packedLimit, largestWeight, Before, Reached, Went, Weighed, fourHeaded, Known, unpacked}
 use Rattle.journal.proofs.Opcodes.{each-code}
 use Rattle.journal.proofs.Entries.{each-entry}
-use Rattle.journal.proofs.Judging.{four-equal, judged-size, judged-fits, judged-light, judged-adds}
+use Rattle.journal.proofs.RecordLaws.{four-equal, weighed-size, weighed-fits, weighed-light, weighed-adds}
 
 -- ---- packed counts
 
@@ -81,23 +81,23 @@ reached-none row j =
 
 module _ (row j : List ℕ) (at counts : ℕ) (small : length j ≤ sizeLimit) (t : Reached row j (position at counts)) where
   -- past a good record
-  pub reached-step : (size weight : ℕ) → at < length j → Judged row j at size weight → Reached row j (position (at + size) (counts + weight))
+  pub reached-step : (size weight : ℕ) → at < length j → Weighed row j at size weight → Reached row j (position (at + size) (counts + weight))
   reached-step size weight h g =
-      let light = judged-light row j at size weight g in
+      let light = weighed-light row j at size weight g in
       let f = t .few in
       let sums : (code : ℕ) → 1 ≤ code → code ≤ 3 → count code (counts + weight) ≡ count code counts + count code weight = count-sum counts weight (omega arith) (omega arith) (omega arith) in
-      let fits = judged-fits row j at size weight g in
-      let large = judged-size row j at size weight g in
+      let fits = weighed-fits row j at size weight g in
+      let large = weighed-size row j at size weight g in
       record {
         inside = omega arith;
         good = t .good ∙ good-step goodRecord j at h (g .good) ∙ ap (λ (n : ℕ). allGood goodRecord (records (drop (at + n) j))) (g .size-is);
-        before = λ code a b. rw (sums code a b, judged-adds row j at size weight g code a b, ← g .size-is) (before-step (reports row code) operation each-entry j at (count code counts) (t .before code a b) h);
+        before = λ code a b. rw (sums code a b, weighed-adds row j at size weight g code a b, ← g .size-is) (before-step (reports row code) operation each-entry j at (count code counts) (t .before code a b) h);
         few = omega (arith, sums 1 (omega arith) (omega arith), sums 2 (omega arith) (omega arith), sums 3 (omega arith) (omega arith));
         packed = packed-more counts weight at (t .packed) (omega arith) (omega (arith, t .inside)) (light .1);
       }
 
   -- at a bad one
-  pub reached-bad : at < length j → (whole (firstRecord (drop at j)) && goodRecord (firstRecord (drop at j))) ≡ false → wellFormed j ≡ false
+  pub reached-bad : at < length j → goodHere j at ≡ false → wellFormed j ≡ false
   unfolding wellFormed
   reached-bad h e = not-formed sizeLimit goodRecord j (t .good ∙ bad-step goodRecord j at h e)
 

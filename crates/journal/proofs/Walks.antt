@@ -1,22 +1,21 @@
 -- A walk over good records, and how it resumes the list of an opcode.
-use mathlib.Core.Path.{_≡_, refl, sym, ap, _∙_}
-use mathlib.Core.Bool.{true, _&&_}
+use mathlib.Core.Path.{_≡_, sym, ap, _∙_}
+use mathlib.Core.Bool.{true}
 use mathlib.Core.List.{List, _∷_}
 use Prim.Native.Nat.{ℕ, _+_, _-_, _<_, _≤_}
 use native.Mathlib.Omega.{arith}
 use lib.ListN.{length, drop}
-use Rattle.words.specs.Numbers.{le}
-use Rattle.records.specs.Records.{kindOf, sizeOf, firstRecord, records, whole, allGood, sizeLimit}
+use Rattle.records.specs.Records.{kindOf, sizeOf, firstRecord, records, allGood, sizeLimit}
 use Rattle.records.proofs.Choosing.{one-if, one-if-le, chosen-length, chosen-skip}
 use Rattle.records.proofs.Steps.{judge-step, formed-good, formed-within, record-kind, field-at}
 use Rattle.journal.specs.Journal.{goodRecord, wellFormed, operands, operationOf, Entry, entryOf, entries}
 use Rattle.journal.specs.Reportable.{operation, reports, chosen}
 use Rattle.journal.specs.Marks.{Resumes, operandsAt}
-use Rattle.journal.specs.Scanning.{weightOf, Judged}
+use Rattle.journal.specs.Scanning.{goodHere}
 use Rattle.words.proofs.Choice.{and-left, and-right}
 use Rattle.journal.proofs.Opcodes.{each-code}
 use Rattle.journal.proofs.Entries.{each-entry}
-use Rattle.journal.proofs.Judging.{judged-size, judged-fits, judged-kind, judged-kind-low, judged-kind-high, judged-addition}
+use Rattle.journal.proofs.RecordLaws.{good-size, good-fits, good-kind, good-addition, reported-kind}
 
 -- the records of a well-formed journal are good
 pub all-good : (j : List ℕ) → wellFormed j ≡ true → allGood goodRecord (records j) ≡ true
@@ -30,32 +29,32 @@ within-limit j w = formed-within sizeLimit goodRecord j w
 
 -- ---- a record of a walk
 
-module _ (row j : List ℕ) (at : ℕ) (inside : at < length j) (good : allGood goodRecord (records (drop at j)) ≡ true) where
-  -- it is good, with the weight that its kind and node type have
-  pub walked : Judged row j at (sizeOf (drop at j)) (weightOf row (kindOf (drop at j)) (le 2 j (at + 4)))
-  walked = record { size-is = refl; good = and-left _ (allGood goodRecord (records (drop (at + sizeOf (drop at j)) j))) (sym (judge-step goodRecord j at inside) ∙ good); weight-is = refl }
+module _ (j : List ℕ) (at : ℕ) (inside : at < length j) (good : allGood goodRecord (records (drop at j)) ≡ true) where
+  -- it is good
+  pub walked : goodHere j at ≡ true
+  walked = and-left _ (allGood goodRecord (records (drop (at + sizeOf (drop at j)) j))) (sym (judge-step goodRecord j at inside) ∙ good)
 
   -- and so are those behind it
   pub walked-on : allGood goodRecord (records (drop (at + sizeOf (drop at j)) j)) ≡ true
-  walked-on = and-right (whole (firstRecord (drop at j)) && goodRecord (firstRecord (drop at j))) _ (sym (judge-step goodRecord j at inside) ∙ good)
+  walked-on = and-right (goodHere j at) _ (sym (judge-step goodRecord j at inside) ∙ good)
 
   pub walked-fits : at + sizeOf (drop at j) ≤ length j
-  walked-fits = omega (arith, judged-fits row j at _ _ walked)
+  walked-fits = omega (arith, good-fits j at walked)
 
   -- an addition's record has fourteen bytes, and every other ten
   pub walked-size : (10 ≤ sizeOf (drop at j)) × (kindOf (drop at j) ≡ 3 → sizeOf (drop at j) ≡ 14)
-  walked-size = (judged-size row j at _ _ walked .0, judged-addition row j at _ _ walked)
+  walked-size = (good-size j at walked .0, good-addition j at walked)
 
   -- the operands of a reported record are the numbers at its place
-  pub walked-operands : (code : ℕ) → reports row code (entryOf (firstRecord (drop at j))) ≡ true → operands (operationOf (firstRecord (drop at j))) ≡ operandsAt j code at
+  pub walked-operands : (row : List ℕ) (code : ℕ) → reports row code (entryOf (firstRecord (drop at j))) ≡ true → operands (operationOf (firstRecord (drop at j))) ≡ operandsAt j code at
   unfolding operationOf
-  walked-operands code e =
-      let kind = judged-kind row j at _ _ walked code e in
+  walked-operands row code e =
+      let kind = reported-kind j at walked row code e in
       let here = record-kind j at (omega (arith, walked-size .0)) ∙ kind in
       let first = field-at j at 4 6 (omega (arith, walked-size .0)) in
       each-code (λ (k : ℕ). kindOf (drop at j) ≡ k → kindOf (firstRecord (drop at j)) ≡ k → operands (operationOf (firstRecord (drop at j))) ≡ operandsAt j k at)
       (λ _ q. rw (q, first)) (λ _ q. rw (q, first)) (λ p q. rw (q, first, field-at j at 4 10 (omega (arith, walked-size .1 p))))
-      code (judged-kind-low row j at _ _ walked code e) (judged-kind-high row j at _ _ walked code e) kind here
+      code (omega (arith, good-kind j at walked, kind)) (omega (arith, good-kind j at walked, kind)) kind here
 
 -- a walk that has operations to pass over goes on past a record
 pub resumes-step : (row j : List ℕ) (code k at skip : ℕ) → allGood goodRecord (records j) ≡ true → at < length j → 0 < skip → Resumes row j code k at skip
@@ -65,8 +64,8 @@ resumes-step row j code k at skip w h s r =
     let es = entries (drop (at + sizeOf (drop at j)) j) in
     let step : entries (drop at j) ≡ e ∷ es = each-entry .step j at h in
     record {
-      inside = walked-fits row j at h (r .sound w);
-      sound = λ v. walked-on row j at h (r .sound v);
+      inside = walked-fits j at h (r .sound w);
+      sound = λ v. walked-on j at h (r .sound v);
       number = omega (arith, r .number, ap (λ (l : List Entry). length (chosen row code l)) step, chosen-length (reports row code) operation e es, one-if-le (reports row code e));
       same = r .same ∙ ap (λ (l : List Entry). drop skip (chosen row code l)) step ∙ chosen-skip (reports row code) operation e es skip s;
     }

@@ -1,18 +1,22 @@
 -- Laws for the weights table: what one weight is, and the table as it is filled.
-use mathlib.Core.Path.{_≡_, sym, _∙_}
-use mathlib.Core.Bool.{cond}
+use mathlib.Core.Path.{_≡_, sym, ap, _∙_}
+use mathlib.Core.Bool.{true, cond}
 use mathlib.Core.List.{List}
 use Prim.Native.Nat.{ℕ, zero, suc, _+_, _*_, _-_, _/_, _%_, _^_, _<_, _≤_}
 use native.Mathlib.Nat.{mul-zero, mul-one, one-mul}
 use native.Mathlib.Omega.{arith}
 use lib.Dec.{eqb}
-use lib.ListN.{length, getD, set, length-set}
+use lib.ListN.{length, getD, set, drop, length-set}
 use lib.Seq.{getD-set-same, getD-set-other}
 use borrow.Author.Count.{below-more}
+use Rattle.words.specs.Numbers.{le}
+use Rattle.records.specs.Records.{kindOf}
+use Rattle.journal.specs.declared.judging.Shape.{Shape}
 use Rattle.journal.specs.Journal.{largestType}
 use Rattle.journal.specs.Scope.{holds}
 use Rattle.journal.specs.Marks.{countLimit}
-use Rattle.journal.specs.Scanning.{weightOf, Weights}
+use Rattle.journal.specs.Scanning.{goodHere, shapeAt, weightOf, Weights, Weighed}
+use Rattle.journal.proofs.RecordLaws.{good-kind, good-node}
 
 -- a weight times a bit is the choice by the bit
 bit-chooses : (w bit : ℕ) → bit < 2 → w * bit ≡ cond (eqb bit 1) w 0
@@ -48,8 +52,18 @@ filled-next row table i w f h e =
     }
 
 -- the table's entry of a good record
-pub weight-at : (row table : List ℕ) (kind node : ℕ) → Weights row table → 1 ≤ kind → kind ≤ 3 → node ≤ largestType → getD table (16 * kind + node) 0 ≡ weightOf row kind node
+weight-at : (row table : List ℕ) (kind node : ℕ) → Weights row table → 1 ≤ kind → kind ≤ 3 → node ≤ largestType → getD table (16 * kind + node) 0 ≡ weightOf row kind node
 weight-at row table kind node w l h n =
     let k : (16 * kind + node) / 16 ≡ kind = omega arith in
     let m : (16 * kind + node) % 16 ≡ node = omega arith in
     rw (k, m) at (w (16 * kind + node) (omega arith) (omega arith))
+
+-- a good record with the weight that the table has for its shape
+pub weighed : (row j table : List ℕ) (at : ℕ) (s : Shape) (w : ℕ) → Weights row table → (goodHere j at ≡ true) × (s ≡ shapeAt j at) → w ≡ getD table (16 * s .kind + s .node) 0 → Weighed row j at (s .size) w
+weighed row j table at s w t g e =
+    let k = good-kind j at (g .0) in
+    record {
+      size-is = sym (ap (λ (x : Shape). x .size) (g .1));
+      good = g .0;
+      weight-is = e ∙ rw (g .1) (weight-at row table (kindOf (drop at j)) (le 2 j (at + 4)) t (k .0) (k .1) (good-node j at (g .0)));
+    }

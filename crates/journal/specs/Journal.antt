@@ -22,9 +22,13 @@ nodeType r = le16 r 4
 abbrev pub largestType : ℕ
 largestType = 14
 
+abbrev pub goodType : ℕ → Bool
+goodType node = within 1 largestType node
+
 -- 01: "Any other kind, length, node type or flag .. is malformed."
+-- The frame, then the body.
 unfoldable pub goodRecord : List ℕ → Bool
-goodRecord r = goodFrame (lengthOf r) (kindOf r) && within 1 largestType (nodeType r)
+goodRecord r = goodFrame (lengthOf r) (kindOf r) && goodType (nodeType r)
 
 -- 01: "Journal, at most 1,048,576 bytes", "Records fill the buffer exactly."
 unfoldable pub wellFormed : List ℕ → Bool

@@ -10,19 +10,35 @@ use Rattle.words.specs.Numbers.{le, le16}
 use Rattle.records.specs.Choosing as choosing
 use Rattle.records.specs.Records.{kindOf, sizeOf, firstRecord, records, whole, allGood}
 use Rattle.journal.specs.declared.scanning.Counts.{Counts}
-use Rattle.journal.specs.declared.stride.Found.{Found}
-use Rattle.journal.specs.declared.stride.Found.the-variants.{Bad, Good}
+use Rattle.journal.specs.declared.judging.Shape.{Shape}
+use Rattle.journal.specs.declared.judging.Verdict.{Verdict}
+use Rattle.journal.specs.declared.judging.Verdict.the-variants.{Bad, Good}
 use Rattle.journal.specs.declared.stride.Position.{Position}
 use Rattle.journal.specs.declared.stride.Step.{Step}
 use Rattle.journal.specs.declared.stride.Step.the-variants as step
-use Rattle.journal.specs.Journal.{within, largestType, goodFrame, goodRecord, wellFormed, entries}
+use Rattle.journal.specs.Journal.{goodFrame, goodType, goodRecord, wellFormed, entries}
 use Rattle.journal.specs.Scope.{holds}
 use Rattle.journal.specs.Reportable.{reports, operation}
 use Rattle.journal.specs.Marks.{countLimit, count, markLimit}
 
+-- the length of a record of one of the three kinds
+abbrev pub lengthFor : ℕ → ℕ
+lengthFor kind = cond (eqb kind 3) 12 8
+
 -- a record of this length, kind and node type is good where so many bytes are left
 abbrev pub goodAt : ℕ → ℕ → ℕ → ℕ → Bool
-goodAt left len kind node = leb (len + 2) left && (goodFrame len kind && within 1 largestType node)
+goodAt left len kind node = leb (len + 2) left && (goodFrame len kind && goodType node)
+
+-- a good record stands at a place
+abbrev pub goodHere : List ℕ → ℕ → Bool
+goodHere j at = whole (firstRecord (drop at j)) && goodRecord (firstRecord (drop at j))
+
+-- its size, kind and node type
+abbrev pub shapeAt : List ℕ → ℕ → Shape
+shapeAt j at = record { size = sizeOf (drop at j); kind = kindOf (drop at j); node = le16 j (at + 4) }
+
+abbrev pub verdictAt : List ℕ → ℕ → Verdict
+verdictAt j at = cond (goodHere j at) (Good (shapeAt j at)) Bad
 
 -- n operations of an opcode that a row reports stand before a place
 abbrev pub Before : List ℕ → List ℕ → ℕ → ℕ → ℕ → Type 0
@@ -56,14 +72,10 @@ abbrev pub Weights : List ℕ → List ℕ → Type 0
 Weights row table = (i : ℕ) → 16 ≤ i → i < 64 → getD table i 0 ≡ weightOf row (i / 16) (i % 16)
 
 -- a good record of this size stands at a place, and adds this weight
-pub record Judged (row j : List ℕ) (at size weight : ℕ) : Type 0 where
+pub record Weighed (row j : List ℕ) (at size weight : ℕ) : Type 0 where
   pub size-is : sizeOf (drop at j) ≡ size
-  pub good : (whole (firstRecord (drop at j)) && goodRecord (firstRecord (drop at j))) ≡ true
+  pub good : goodHere j at ≡ true
   pub weight-is : weight ≡ weightOf row (kindOf (drop at j)) (le16 j (at + 4))
-
-abbrev pub FoundAt : List ℕ → List ℕ → ℕ → Found → Type 0
-FoundAt row j at Bad = (whole (firstRecord (drop at j)) && goodRecord (firstRecord (drop at j))) ≡ false
-FoundAt row j at (Good size weight) = Judged row j at size weight
 
 -- the six bytes of a record's length, kind and node type, as one number, at four places a size apart
 abbrev pub fourHeaded : List ℕ → ℕ → ℕ → ℕ → Bool
@@ -74,7 +86,7 @@ pub record Known (row j : List ℕ) (header size weight : ℕ) : Type 0 where
   pub large : 10 ≤ size
   pub small : size ≤ 14
   pub narrow : weight ≤ largestWeight
-  pub here : (at : ℕ) → at + size ≤ length j → le 6 j at ≡ header → Judged row j at size weight
+  pub here : (at : ℕ) → at + size ≤ length j → le 6 j at ≡ header → Weighed row j at size weight
 
 -- the marks after p was offered as the next one
 pub data Noted (marks : List ℕ) (n : ℕ) (p : Position) : List ℕ → ℕ → Type 0 where

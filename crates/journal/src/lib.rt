@@ -1,4 +1,5 @@
 // The journal: its records, the scope table, the reportable list, and the scan that judges and counts in one pass.
+mod judging;
 mod marks;
 mod operation;
 mod scanning;

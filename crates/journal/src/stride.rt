@@ -1,12 +1,15 @@
 // Steps along a journal: records of the same header four at a time, others one at a time with no branch on their kind.
 ghost use mathlib.Core.Path.{_≡_};
 ghost use Prim.Native.Nat.{_+_, _*_, _<_, _≤_};
-ghost use lib.ListN.{length};
+ghost use lib.ListN.{length, getD};
 ghost use Rattle.words.specs.Numbers.{le};
 ghost use Rattle.records.specs.Records.{sizeLimit};
-ghost use Rattle.journal.specs.Scanning.{goodAt, fourHeaded, FoundAt, Reached, Known, Went, Weights};
+ghost use Rattle.journal.specs.Journal.{largestType};
+ghost use Rattle.journal.specs.Scanning.{fourHeaded, Reached, Known, Went, Weights};
+use crate::judging::Shape;
+use crate::judging::Verdict;
+use crate::judging::judge;
 use crate::marks::MARK_SPAN;
-use records::Frame;
 
 // A place of the journal, and the packed counts of what stands before it.
 pub struct Position {
@@ -20,55 +23,12 @@ pub enum Step {
     Upto(Position),
 }
 
-// Node types are 1 to this one.
-const LARGEST_TYPE: u16 = 14;
-
-// Whether a record of this frame and node type is good where `left` bytes are left.
-fn is_good(left: usize, frame: Frame, node: u16) -> bool
-    requires { ⌜ 2 ≤ left ⌝ }
-    ensures { λ r. ⌜ r ≡ goodAt left (frame .length) (frame .kind) node ⌝ }
+// What a record of this shape adds to the packed counts.
+fn weight_of(weights: &[u64; 64], shape: Shape) -> u64
+    requires { ⌜ (shape .kind ≤ 3) × (shape .node ≤ largestType) ⌝ }
+    ensures { λ r. ⌜ r ≡ getD (now (weights .entry)) (16 * shape .kind + shape .node) 0 ⌝ }
 {
-    if node < 1 {
-        return false;
-    }
-    if LARGEST_TYPE < node {
-        return false;
-    }
-    let kind = frame.kind;
-    if kind < 1 {
-        return false;
-    }
-    if 3 < kind {
-        return false;
-    }
-    if frame.length != 8 + (kind + 1) / 4 * 4 {
-        return false;
-    }
-    frame.length as usize <= left - 2
-}
-
-// What stands at a place: no good record, or one of this size that adds this weight to the counts.
-pub enum Found {
-    Bad,
-    Good(usize, u64),
-}
-
-// The record at a place.
-fn record_at(j: &[u8], row: &[u8; 15], weights: &[u64; 64], at: usize) -> Found
-    requires { ⌜ Weights (now row) (now weights) × (at ≤ length (now j)) ⌝ }
-    ensures { λ r. ⌜ FoundAt (now (row .entry)) (now (j .entry)) at r ⌝ }
-{
-    let left = j.len() - at;
-    if left < 10 {
-        return Found::Bad;
-    }
-    let frame = records::read_frame(j, at);
-    let node = words::read_le16(j, at + 4);
-    if !is_good(left, frame, node) {
-        return Found::Bad;
-    }
-    let weight = weights[16 * (frame.kind as usize) + node as usize];
-    Found::Good(records::record_size(frame), weight)
+    weights[16 * shape.kind + shape.node]
 }
 
 // The six bytes of a record's length, kind and node type as one number.
@@ -125,14 +85,14 @@ fn past_each(j: &[u8], row: &[u8; 15], weights: &[u64; 64], from: Position, end:
     let mut at = from.at;
     let mut counts = from.counts;
     while at < end {
-        let found = record_at(j, row, weights, at);
-        match found {
-            Found::Bad => {
+        let verdict = judge(j, at);
+        match verdict {
+            Verdict::Bad => {
                 return Step::Bad;
             }
-            Found::Good(size, weight) => {
-                at += size;
-                counts += weight;
+            Verdict::Good(shape) => {
+                at += shape.size;
+                counts += weight_of(weights, shape);
             }
         }
     }
@@ -156,13 +116,14 @@ pub fn stride(j: &[u8], row: &[u8; 15], weights: &[u64; 64], from: Position) -> 
     ensures { λ r. ⌜ Went (now (row .entry)) (now (j .entry)) (from .at + 1) r ⌝ }
 {
     let at = from.at;
-    let found = record_at(j, row, weights, at);
-    match found {
-        Found::Bad => Step::Bad,
-        Found::Good(size, weight) => {
+    let verdict = judge(j, at);
+    match verdict {
+        Verdict::Bad => Step::Bad,
+        Verdict::Good(shape) => {
+            let weight = weight_of(weights, shape);
             let header = header_at(j, at);
             let limit = near(at, MARK_SPAN, j.len());
-            let same = past_same(j, row, from, header, size, weight, limit);
+            let same = past_same(j, row, from, header, shape.size, weight, limit);
             past_each(j, row, weights, same, near(at, 4096, j.len()))
         }
     }

@@ -9,6 +9,7 @@ ghost use Rattle.journal.specs.Journal.{goodRecord, entryOf, entries, we
 ghost use Rattle.journal.specs.Scope.{holds};
 ghost use Rattle.journal.specs.Reportable.{reports, chosen};
 ghost use Rattle.journal.specs.Marks.{firstOperand, secondOperand, operandsEnd, Resumes, Marked};
+use crate::judging::read_type;
 use crate::marks::seek;
 
 // 1 where a set holds an opcode, else 0.
@@ -62,7 +63,7 @@ pub fn pass(j: &[u8], row: &[u8; 15], code: usize, at: usize) -> Passed
     ensures { λ r. ⌜ (r .size ≡ sizeOf (drop at (now (j .entry)))) × (r .reported ≡ cond (reports (now (row .entry)) code (entryOf (firstRecord (drop at (now (j .entry)))))) 1 0) ⌝ }
 {
     let frame = records::read_frame(j, at);
-    let node = words::read_le16(j, at + 4);
+    let node = read_type(j, at);
     let bit = reported(row[node as usize], code, frame.kind as usize);
     Passed {
         size: records::record_size(frame),

@@ -20,7 +20,7 @@ use Rattle.journal.specs.Reportable.{operation, reports, chosen}
 use Rattle.journal.specs.Marks.{firstOperand, secondOperand, operandsAt, operandsEnd, Resumes}
 use Rattle.journal.proofs.Opcodes.{each-code}
 use Rattle.journal.proofs.Entries.{each-entry}
-use Rattle.journal.proofs.Judging.{judged-kind}
+use Rattle.journal.proofs.RecordLaws.{reported-kind}
 use Rattle.journal.proofs.Walks.{all-good, walked, walked-on, walked-fits, walked-size, walked-operands}
 use Rattle.nodes.specs.Run.{partWords, operator, areaWords}
 use Rattle.nodes.specs.Longest.{AllOf}
@@ -70,16 +70,16 @@ module _ (row j : List ℕ) (code at n : ℕ) (d : Due row j code at n) where
       there = due-inside h
 
       go : (t u : Bool) → reports row code (entryOf (firstRecord (drop at j))) ≡ t → eqb code 3 ≡ u → operandsEnd code at ≤ length j
-      go t false e f = rw f (omega (arith, walked-fits row j at there (d .sound), walked-size row j at there (d .sound) .0))
+      go t false e f = rw f (omega (arith, walked-fits j at there (d .sound), walked-size j at there (d .sound) .0))
       go true true e f =
-          let k = judged-kind row j at _ _ (walked row j at there (d .sound)) code e ∙ eqb-true code 3 f in
-          rw f (omega (arith, walked-fits row j at there (d .sound), walked-size row j at there (d .sound) .1 k))
+          let k = reported-kind j at (walked j at there (d .sound)) row code e ∙ eqb-true code 3 f in
+          rw f (omega (arith, walked-fits j at there (d .sound), walked-size j at there (d .sound) .1 k))
       go false true e f =
           let c = chosen-later (reports row code) operation each-entry j at there e in
           let next = at + sizeOf (drop at j) in
           let there′ : next < length j = still-inside (reports row code) operation each-entry j next (omega (arith, d .enough, ap (λ (l : List Operation). length l) c)) in
-          let good′ = walked-on row j at there (d .sound) in
-          rw f (omega (arith, walked-size row j at there (d .sound) .0, walked-fits row j next there′ good′, walked-size row j next there′ good′ .0))
+          let good′ = walked-on j at there (d .sound) in
+          rw f (omega (arith, walked-size j at there (d .sound) .0, walked-fits j next there′ good′, walked-size j next there′ good′ .0))
 
 -- ---- the loop of the operands
 
@@ -125,9 +125,9 @@ module _ (aim row j : List ℕ) (code : ℕ) (area : List ℕ) (at to left : ℕ
       let more : width code * left ≡ width code + width code * (left - 1) = pred-mul (width code) left h in
       let first : take left (chosen row code (entries (drop at j))) ≡ operationOf (firstRecord (drop at j)) ∷ take (left - 1) os = ap (take left) c ∙ take-one left _ os h in
       let words : wordsOf (take left (chosen row code (entries (drop at j)))) ≡ operandsAt j code at ++ wordsOf (take (left - 1) os) =
-      ap wordsOf first ∙ ap (λ (l : List ℕ). l ++ wordsOf (take (left - 1) os)) (walked-operands row j at inside (d .sound) code e) in
+      ap wordsOf first ∙ ap (λ (l : List ℕ). l ++ wordsOf (take (left - 1) os)) (walked-operands j at inside (d .sound) row code e) in
       record {
-        due = record { low = d .low; high = d .high; sound = walked-on row j at inside (d .sound); enough = omega (arith, d .enough, ap (λ (l : List Operation). length l) c) };
+        due = record { low = d .low; high = d .high; sound = walked-on j at inside (d .sound); enough = omega (arith, d .enough, ap (λ (l : List Operation). length l) c) };
         room = rw same-size (omega (arith, w .room, more));
         rest = words-behind area to (to + 4 * width code) (operandsAt j code at) (wordsOf (take (left - 1) os)) (omega (arith, length-operandsAt j code at))
             ∙ ap (λ (l : List ℕ). sets area to (wordBytes l)) (sym words) ∙ w .rest;
@@ -149,7 +149,7 @@ module _ (aim row j : List ℕ) (code : ℕ) (area : List ℕ) (at to left : ℕ
       let words : dueWords row j code past left ≡ dueWords row j code at left = due-words row j code at past left c in
       let wide : width code ≤ width code * left = mul-one-le (width code) left h in
       record {
-        due = record { low = d .low; high = d .high; sound = walked-on row j at inside (d .sound); enough = omega (arith, d .enough, ap (λ (l : List Operation). length l) c) };
+        due = record { low = d .low; high = d .high; sound = walked-on j at inside (d .sound); enough = omega (arith, d .enough, ap (λ (l : List Operation). length l) c) };
         room = rw same-size (w .room);
         rest = ap (λ (l : List ℕ). sets stored to (wordBytes l)) words
             ∙ sets-over (wordBytes (operandsAt j code at)) (wordBytes (dueWords row j code at left)) area to

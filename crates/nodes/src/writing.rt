@@ -10,7 +10,7 @@ ghost use Rattle.journal.specs.Reportable.{chosen, reportable};
 ghost use Rattle.journal.specs.Marks.{operandsAt, operandsEnd, Marked};
 ghost use Rattle.nodes.specs.Run.{partWords, cut, total, remains, areaWords};
 ghost use Rattle.nodes.specs.Head.{areaSize, headSize};
-ghost use Rattle.nodes.specs.State.{passedOf, leftOf};
+ghost use Rattle.nodes.specs.State.{passedOf};
 ghost use Rattle.nodes.specs.Run.{areaWords, partWords, total, remains};
 ghost use Rattle.nodes.specs.Area.{written};
 ghost use Rattle.nodes.specs.Claims.{AreaClaims};

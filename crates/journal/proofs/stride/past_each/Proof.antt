@@ -1,12 +1,15 @@
 -- `stride::past_each` meets its contract.
+use mathlib.Core.Bool.{true}
+use mathlib.Core.Path.{_≡_}
 use Prim.Native.Nat.{_+_, _-_}
 use native.Mathlib.Omega.{arith}
 use lib.ListN.{length}
 use borrow.Author.Needs.{needs}
 use denote.Ref.{now}
-use Rattle.journal.proofs.Judging.{found-bad, found-good, judged-size}
+use Rattle.journal.proofs.RecordLaws.{given-bad, given-good, good-fits, shape-bounds, weighed-size}
+use Rattle.journal.proofs.WeightLaws.{weighed}
 use Rattle.journal.proofs.Reaching.{position, reached-step, reached-bad}
-use Rattle.journal.specs.Scanning.{Reached, Judged}
+use Rattle.journal.specs.Scanning.{goodHere, shapeAt, Reached, Weighed}
 use Rattle.journal.proofs.stride.past_each.Statement.{statement}
 use Rattle.journal.proofs.stride.past_each.Tie as tie
 
@@ -19,34 +22,40 @@ abbrev μ-loop : tie.MeasureT-loop
 loop-holds : tie.Need-loop-holds Inv-loop μ-loop
 loop-holds c = c .before .pre .0
 
-record-at-requires : tie.Need-record-at-requires Inv-loop μ-loop
-record-at-requires c κs = (c .before .before .before .pre .1, c .before .loop .inv .inside)
+judge-requires : tie.Need-judge-requires Inv-loop μ-loop
+judge-requires c κs = c .before .loop .inv .inside
 
 enum-told : tie.Need-enum-told Inv-loop μ-loop
 enum-told c = search needs
 
 returns : tie.Need-returns Inv-loop μ-loop
 returns c = reached-bad (now (c .before .before .before .before .before .before .args .row)) (now (c .before .before .before .before .before .before .args .j)) (c .before .before .before .before .loop .at) (c .before .before .before .before .loop .counts) (c .before .before .before .before .before .before .pre .3) (c .before .before .before .before .loop .inv) (omega (arith, c .before .before .before .before .before .before .pre .2))
-    (found-bad (now (c .before .before .before .before .before .before .args .row)) (now (c .before .before .before .before .before .before .args .j)) (c .before .before .before .before .loop .at) _ (c .enum-told .given .1) (c .before .before .record-at .ensures))
+    (given-bad (now (c .before .before .before .before .before .before .args .j)) (c .before .before .before .before .loop .at) _ (c .enum-told .given .1) (c .before .before .judge .ensures))
 
-enum-known-found : tie.Need-enum-known-found Inv-loop μ-loop
-enum-known-found c = search needs
+enum-known-verdict : tie.Need-enum-known-verdict Inv-loop μ-loop
+enum-known-verdict c = search needs
 
--- the record that a turn passes, and where the scan stands behind it
-judged : (c : tie.After-known-told Inv-loop μ-loop) → Judged (now (c .before .before .before .before .before .before .before .args .row)) (now (c .before .before .before .before .before .before .before .args .j)) (c .before .before .before .before .before .loop .at) (c .before .found .given .0 .0) (c .before .found .given .0 .1 .0)
-judged c = found-good (now (c .before .before .before .before .before .before .before .args .row)) (now (c .before .before .before .before .before .before .before .args .j)) (c .before .before .before .before .before .loop .at) _ _ _ (c .before .found .given .1) (c .before .before .before .record-at .ensures)
+-- the record that a turn passes, its weight, and where the scan stands behind it
+good : (c : tie.After-struct-known Inv-loop μ-loop) → (goodHere (now (c .before .before .before .before .before .before .before .before .args .j)) (c .before .before .before .before .before .before .loop .at) ≡ true) × (c .before .before .verdict .given .0 .0 ≡ shapeAt (now (c .before .before .before .before .before .before .before .before .args .j)) (c .before .before .before .before .before .before .loop .at))
+good c = given-good (now (c .before .before .before .before .before .before .before .before .args .j)) (c .before .before .before .before .before .before .loop .at) _ _ (c .before .before .verdict .given .1) (c .before .before .before .before .judge .ensures)
 
-turn : (c : tie.After-known-told Inv-loop μ-loop) → Reached (now (c .before .before .before .before .before .before .before .args .row)) (now (c .before .before .before .before .before .before .before .args .j)) (position (c .before .before .before .before .before .loop .at + c .before .found .given .0 .0) (c .before .before .before .before .before .loop .counts + c .before .found .given .0 .1 .0))
-turn c = reached-step (now (c .before .before .before .before .before .before .before .args .row)) (now (c .before .before .before .before .before .before .before .args .j)) (c .before .before .before .before .before .loop .at) (c .before .before .before .before .before .loop .counts) (c .before .before .before .before .before .before .before .pre .3) (c .before .before .before .before .before .loop .inv) _ _ (omega (arith, c .before .before .before .before .before .before .before .pre .2)) (judged c)
+here : (c : tie.After-weight-of Inv-loop μ-loop) → Weighed (now (c .before .before .before .before .before .before .before .before .before .args .row)) (now (c .before .before .before .before .before .before .before .before .before .args .j)) (c .before .before .before .before .before .before .before .loop .at) (c .before .before .before .verdict .given .0 .0 .size) (c .weight-of .result)
+here c = weighed (now (c .before .before .before .before .before .before .before .before .before .args .row)) (now (c .before .before .before .before .before .before .before .before .before .args .j)) (now (c .before .before .before .before .before .before .before .before .before .args .weights)) (c .before .before .before .before .before .before .before .loop .at) _ _ (c .before .before .before .before .before .before .before .before .before .pre .1) (good (c .before)) (c .weight-of .ensures)
+
+turn : (c : tie.After-weight-of Inv-loop μ-loop) → Reached (now (c .before .before .before .before .before .before .before .before .before .args .row)) (now (c .before .before .before .before .before .before .before .before .before .args .j)) (position (c .before .before .before .before .before .before .before .loop .at + c .before .before .before .verdict .given .0 .0 .size) (c .before .before .before .before .before .before .before .loop .counts + c .weight-of .result))
+turn c = reached-step (now (c .before .before .before .before .before .before .before .before .before .args .row)) (now (c .before .before .before .before .before .before .before .before .before .args .j)) (c .before .before .before .before .before .before .before .loop .at) (c .before .before .before .before .before .before .before .loop .counts) (c .before .before .before .before .before .before .before .before .before .pre .3) (c .before .before .before .before .before .before .before .loop .inv) _ _ (omega (arith, c .before .before .before .before .before .before .before .before .before .pre .2)) (here c)
 
 add-at : tie.Need-add-at Inv-loop μ-loop
-add-at c = omega (arith, turn c)
+add-at c = rw (good c .1) (omega (arith, good-fits (now (c .before .before .before .before .before .before .before .before .args .j)) (c .before .before .before .before .before .before .loop .at) (good c .0), c .before .before .before .before .before .before .loop .inv .inside))
+
+weight-of-requires : tie.Need-weight-of-requires Inv-loop μ-loop
+weight-of-requires c κs = shape-bounds (now (c .before .before .before .before .before .before .before .before .args .j)) (c .before .before .before .before .before .before .loop .at) (good c .0) _ (good c .1)
 
 add-counts : tie.Need-add-counts Inv-loop μ-loop
 add-counts c = record { fits = omega (arith, turn c) }
 
 loop-less : tie.Need-loop-less Inv-loop μ-loop
-loop-less c = omega (arith, turn c, judged-size (now (c .before .before .before .before .before .before .before .args .row)) (now (c .before .before .before .before .before .before .before .args .j)) (c .before .before .before .before .before .loop .at) _ _ (judged c))
+loop-less c = omega (arith, turn c, weighed-size (now (c .before .before .before .before .before .before .before .before .before .args .row)) (now (c .before .before .before .before .before .before .before .before .before .args .j)) (c .before .before .before .before .before .before .before .loop .at) _ _ (here c))
 
 loop-again : tie.Need-loop-again Inv-loop μ-loop
 loop-again c = turn c
@@ -61,11 +70,12 @@ past-each-spec =
     Inv-loop
     μ-loop
     loop-holds
-    record-at-requires
+    judge-requires
     enum-told
     returns
-    enum-known-found
+    enum-known-verdict
     add-at
+    weight-of-requires
     add-counts
     loop-less
     loop-again

@@ -87,7 +87,7 @@ moves c =
     let l = c .before .before .before .before .loop in
     let d = l .inv .0 .due in
     let there = due-inside row j _ _ _ d (c .before .before .before .loop-test .taken) in
-    rw (c .before .before .pass .ensures .0) (walked-fits row j (l .at) there (d .sound), walked-size row j (l .at) there (d .sound) .0)
+    rw (c .before .before .pass .ensures .0) (walked-fits j (l .at) there (d .sound), walked-size j (l .at) there (d .sound) .0)
 
 add-at : tie.Need-add-at Inv-loop μ-loop
 add-at c = omega (arith, moves (c .before .before .before))
