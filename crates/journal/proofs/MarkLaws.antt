@@ -13,6 +13,7 @@ use borrow.Author.Tests.{le-leb, lt-leb, leb-true}
 use Rattle.words.proofs.Stores.{sets-before}
 use Rattle.journal.specs.declared.marks.Place.{Place}
 use Rattle.journal.specs.declared.stride.Position.{Position}
+use Rattle.journal.specs.Journal.{IsOpcode}
 use Rattle.journal.specs.Reportable.{operation, reports}
 use Rattle.journal.specs.Marks.{count, markLimit, Resumes, Marked, sought}
 use Rattle.journal.specs.Scanning.{Before, Reached, Noted, kept, added}
@@ -36,12 +37,12 @@ pub marked-none : (row j m : List ℕ) → Marked row j m 0
 marked-none row j m = record { few = omega arith; each = λ i code h. absurd (omega arith) }
 
 -- a place that the scan came to resumes the list of each opcode
-reached-resumes : (row j : List ℕ) (p : Position) (code : ℕ) → Reached row j p → 1 ≤ code → code ≤ 3 → Resumes row j code (count code (p .counts)) (p .at) 0
-reached-resumes row j p code r a b = record {
+reached-resumes : (row j : List ℕ) (p : Position) (code : ℕ) → Reached row j p → IsOpcode code → Resumes row j code (count code (p .counts)) (p .at) 0
+reached-resumes row j p code r o = record {
   inside = r .inside;
   sound = λ w. sym (r .good) ∙ w;
-  number = omega (arith, r .before code a b .number);
-  same = r .before code a b .rest;
+  number = omega (arith, r .before code o .number);
+  same = r .before code o .rest;
 }
 
 -- the marks stay true when such a place is noted: the scan's turn
@@ -55,9 +56,9 @@ marked-note row j m n p m′ r l reached marked (added h) =
     let old : (k : ℕ) → k < 2 * n → getD new k 0 ≡ getD m k 0 = sets-before (p .at ∷ p .counts ∷ []) m (2 * n) in
     record {
       few = omega arith;
-      each = λ i code q. below-more (λ (k : ℕ). 1 ≤ code → code ≤ 3 → Resumes row j code (count code (getD new (2 * k + 1) 0)) (getD new (2 * k) 0) 0) n
+      each = λ i code q. below-more (λ (k : ℕ). IsOpcode code → Resumes row j code (count code (getD new (2 * k + 1) 0)) (getD new (2 * k) 0) 0) n
           (λ k g. rw (old (2 * k) (omega arith), old (2 * k + 1) (omega arith)) (marked .each k code g))
-          (rw (add-one (2 * n), at-is, counts-is) (λ a b. reached-resumes row j p code reached a b)) i q;
+          (rw (add-one (2 * n), at-is, counts-is) (reached-resumes row j p code reached)) i q;
     }
 
 -- ---- the mark sought
@@ -101,10 +102,10 @@ later row j code n k at r h =
     }
 
 -- what is sought resumes the list of the opcode from number k on, for the writer that starts there
-pub sought-resumes : (row j m : List ℕ) (n code k : ℕ) → Marked row j m n → 1 ≤ code → code ≤ 3 → Resumes row j code k (sought m n code k .at) (sought m n code k .skip)
+pub sought-resumes : (row j m : List ℕ) (n code k : ℕ) → Marked row j m n → IsOpcode code → Resumes row j code k (sought m n code k .at) (sought m n code k .skip)
 unfolding sought
-sought-resumes row j m zero code k marked a b = record { inside = omega arith; sound = λ w. w; number = omega arith; same = refl }
-sought-resumes row j m (suc n) code k marked a b =
+sought-resumes row j m zero code k marked o = record { inside = omega arith; sound = λ w. w; number = omega arith; same = refl }
+sought-resumes row j m (suc n) code k marked o =
     choose (leb (before m code k n) k) (λ (p : Place). Resumes row j code k (p .at) (p .skip))
-    (λ t. later row j code _ k _ (marked .each n code (omega arith) a b) (leb-true _ k t))
-    (λ _. sought-resumes row j m n code k (record { few = omega arith; each = λ i c h. marked .each i c (omega arith) }) a b)
+    (λ t. later row j code _ k _ (marked .each n code (omega arith) o) (leb-true _ k t))
+    (λ _. sought-resumes row j m n code k (record { few = omega arith; each = λ i c h. marked .each i c (omega arith) }) o)

@@ -14,11 +14,11 @@ use Rattle.journal.specs.declared.scanning.Judgement.the-variants.{Malfo
 use Rattle.journal.specs.declared.stride.Position.{Position}
 use Rattle.journal.specs.declared.stride.Step.{Step}
 use Rattle.journal.specs.declared.stride.Step.the-variants.{Bad, Upto}
-use Rattle.journal.specs.Journal.{goodRecord, wellFormed, entries}
+use Rattle.journal.specs.Journal.{goodRecord, wellFormed, IsOpcode, entries}
 use Rattle.journal.specs.Reportable.{operation, reports, chosen, judgementOf}
 use Rattle.journal.specs.Marks.{countLimit, count}
 use Rattle.journal.specs.Scanning.{goodHere, packedLimit, largestWeight, Before, Reached, Went, Weighed, fourHeaded, Known, unpacked}
-use Rattle.journal.proofs.Opcodes.{each-code}
+use Rattle.journal.proofs.Opcodes.{code-1, code-2, code-3, each-code}
 use Rattle.journal.proofs.Entries.{each-entry}
 use Rattle.journal.proofs.RecordLaws.{four-equal, weighed-size, weighed-fits, weighed-light, weighed-adds}
 
@@ -51,7 +51,7 @@ module _ (p q : ℕ) (a : count 1 p + count 1 q < countLimit) (b : count 2 p + c
   count-third : count 3 (p + q) ≡ count 3 p + count 3 q
   count-third = rw (third (p + q), third p, third q, rest-second) (digit-sum (p / countLimit / countLimit) (q / countLimit / countLimit) (rw (third p, third q) at c) .0)
 
-  pub count-sum : (code : ℕ) → 1 ≤ code → code ≤ 3 → count code (p + q) ≡ count code p + count code q
+  pub count-sum : (code : ℕ) → IsOpcode code → count code (p + q) ≡ count code p + count code q
   count-sum = each-code (λ (k : ℕ). count k (p + q) ≡ count k p + count k q) count-first count-second count-third
 
 -- packed counts of which the highest is small have room for one operation more
@@ -85,14 +85,14 @@ module _ (row j : List ℕ) (at counts : ℕ) (small : length j ≤ sizeLimit) (
   reached-step size weight h g =
       let light = weighed-light row j at size weight g in
       let f = t .few in
-      let sums : (code : ℕ) → 1 ≤ code → code ≤ 3 → count code (counts + weight) ≡ count code counts + count code weight = count-sum counts weight (omega arith) (omega arith) (omega arith) in
+      let sums : (code : ℕ) → IsOpcode code → count code (counts + weight) ≡ count code counts + count code weight = count-sum counts weight (omega arith) (omega arith) (omega arith) in
       let fits = weighed-fits row j at size weight g in
       let large = weighed-size row j at size weight g in
       record {
         inside = omega arith;
         good = t .good ∙ good-step goodRecord j at h (g .good) ∙ ap (λ (n : ℕ). allGood goodRecord (records (drop (at + n) j))) (g .size-is);
-        before = λ code a b. rw (sums code a b, weighed-adds row j at size weight g code a b, ← g .size-is) (before-step (reports row code) operation each-entry j at (count code counts) (t .before code a b) h);
-        few = omega (arith, sums 1 (omega arith) (omega arith), sums 2 (omega arith) (omega arith), sums 3 (omega arith) (omega arith));
+        before = λ code o. rw (sums code o, weighed-adds row j at size weight g code o, ← g .size-is) (before-step (reports row code) operation each-entry j at (count code counts) (t .before code o) h);
+        few = omega (arith, sums 1 code-1, sums 2 code-2, sums 3 code-3);
         packed = packed-more counts weight at (t .packed) (omega arith) (omega (arith, t .inside)) (light .1);
       }
 
@@ -105,8 +105,8 @@ module _ (row j : List ℕ) (at counts : ℕ) (small : length j ≤ sizeLimit) (
   pub reached-end : length j ≤ at → Counted (unpacked counts) ≡ judgementOf row j
   unfolding judgementOf wellFormed
   reached-end h =
-      let all : (code : ℕ) → 1 ≤ code → code ≤ 3 → count code counts ≡ length (chosen row code (entries j)) = λ code a b. before-all (reports row code) operation each-entry j at (count code counts) (t .before code a b) h in
-      rw (formed sizeLimit goodRecord j small (t .good ∙ none-good goodRecord j at h), ← all 1 (omega arith) (omega arith), ← all 2 (omega arith) (omega arith), ← all 3 (omega arith) (omega arith))
+      let all : (code : ℕ) → IsOpcode code → count code counts ≡ length (chosen row code (entries j)) = λ code o. before-all (reports row code) operation each-entry j at (count code counts) (t .before code o) h in
+      rw (formed sizeLimit goodRecord j small (t .good ∙ none-good goodRecord j at h), ← all 1 code-1, ← all 2 code-2, ← all 3 code-3)
 
 pub malformed : (row j : List ℕ) → wellFormed j ≡ false → Malformed ≡ judgementOf row j
 unfolding judgementOf

@@ -17,30 +17,30 @@ use Rattle.records.proofs.Steps.{field-at, length-at, kind-at, record-length, r
 use Rattle.journal.specs.declared.judging.Shape.{Shape}
 use Rattle.journal.specs.declared.judging.Verdict.{Verdict}
 use Rattle.journal.specs.declared.judging.Verdict.the-variants.{Bad, Good}
-use Rattle.journal.specs.Journal.{within, largestType, goodFrame, goodType, nodeType, goodRecord, opcode, operationOf, entryOf}
+use Rattle.journal.specs.Journal.{within, largestType, goodFrame, goodType, nodeType, goodRecord, opcode, IsOpcode, operationOf, entryOf}
 use Rattle.journal.specs.Scope.{holds}
 use Rattle.journal.specs.Reportable.{reports}
 use Rattle.journal.specs.Marks.{countLimit, count}
 use Rattle.journal.specs.Scanning.{lengthFor, goodAt, goodHere, shapeAt, verdictAt, largestWeight, weightOf, Weighed, Known}
 use Rattle.words.proofs.Choice.{choose, and-left, and-right}
-use Rattle.journal.proofs.Opcodes.{each-code}
+use Rattle.journal.proofs.Opcodes.{code-1, code-2, code-3, each-code}
 
 -- ---- length and kind
 
 -- the length that a kind has
-pub frame-is : (len kind : ℕ) → 1 ≤ kind → kind ≤ 3 → goodFrame len kind ≡ eqb len (lengthFor kind)
+pub frame-is : (len kind : ℕ) → IsOpcode kind → goodFrame len kind ≡ eqb len (lengthFor kind)
 unfolding goodFrame
 frame-is len = each-code (λ (k : ℕ). ((eqb k 1 && eqb len 8) || ((eqb k 2 && eqb len 8) || (eqb k 3 && eqb len 12))) ≡ eqb len (lengthFor k))
     (or-false (eqb len 8)) (or-false (eqb len 8)) refl
 
 -- and the code's arithmetic of it
-pub length-is : (kind : ℕ) → 1 ≤ kind → kind ≤ 3 → 8 + (kind + 1) / 4 * 4 ≡ lengthFor kind
+pub length-is : (kind : ℕ) → IsOpcode kind → 8 + (kind + 1) / 4 * 4 ≡ lengthFor kind
 length-is = each-code (λ (k : ℕ). 8 + (k + 1) / 4 * 4 ≡ lengthFor k) refl refl refl
 
-pub frame-none : (len kind : ℕ) → (1 ≤ kind → kind ≤ 3 → ⊥) → goodFrame len kind ≡ false
+pub frame-none : (len kind : ℕ) → (IsOpcode kind → ⊥) → goodFrame len kind ≡ false
 unfolding goodFrame
 frame-none len kind h =
-    rw (ne-eqb kind 1 (λ e. h (omega arith) (omega arith)), ne-eqb kind 2 (λ e. h (omega arith) (omega arith)), ne-eqb kind 3 (λ e. h (omega arith) (omega arith)))
+    rw (ne-eqb kind 1 (λ e. h (rw e code-1)), ne-eqb kind 2 (λ e. h (rw e code-2)), ne-eqb kind 3 (λ e. h (rw e code-3)))
 
 frame-short : (len kind : ℕ) → len < 6 → goodFrame len kind ≡ false
 unfolding goodFrame
@@ -51,24 +51,23 @@ frame-short len kind h =
 
 -- the bounds of a good frame
 pub record Framed (len kind : ℕ) : Type 0 where
-  pub low : 1 ≤ kind
-  pub high : kind ≤ 3
+  pub of : IsOpcode kind
   pub large : 8 ≤ len
   pub small : len ≤ 12
 
 pub framed : (len kind : ℕ) → goodFrame len kind ≡ true → Framed len kind
 unfolding goodFrame
-framed len kind h = ⊎-elim (one 1 8 (omega arith) (omega arith)) (λ s. ⊎-elim (one 2 8 (omega arith) (omega arith)) (one 3 12 (omega arith) (omega arith)) (either _ _ s)) (either _ _ h)
+framed len kind h = ⊎-elim (one 1 8 code-1 (omega arith)) (λ s. ⊎-elim (one 2 8 code-2 (omega arith)) (one 3 12 code-3 (omega arith)) (either _ _ s)) (either _ _ h)
   where
     either : (a b : Bool) → (a || b) ≡ true → (a ≡ true) ⊎ (b ≡ true)
     either true b e = inl refl
     either false b e = inr e
 
-    one : (k l : ℕ) → (1 ≤ k) × (k ≤ 3) → (8 ≤ l) × (l ≤ 12) → (eqb kind k && eqb len l) ≡ true → Framed len kind
+    one : (k l : ℕ) → IsOpcode k → (8 ≤ l) × (l ≤ 12) → (eqb kind k && eqb len l) ≡ true → Framed len kind
     one k l p q e =
         let a = eqb-true kind k (and-left (eqb kind k) (eqb len l) e) in
         let b = eqb-true len l (and-right (eqb kind k) (eqb len l) e) in
-        record { low = omega arith; high = omega arith; large = omega arith; small = omega arith }
+        record { of = rw a p; large = omega arith; small = omega arith }
 
 -- ---- the test of a record in code
 
@@ -99,9 +98,9 @@ module _ (left len kind node : ℕ) where
 pub good-again : (left left′ len kind node : ℕ) → goodAt left len kind node ≡ true → len + 2 ≤ left′ → goodAt left′ len kind node ≡ true
 good-again left left′ len kind node e h = rw (le-leb (len + 2) left′ h) (and-right (leb (len + 2) left) _ e)
 
-opcode-kind : (r : List ℕ) (k : ℕ) → kindOf r ≡ k → 1 ≤ k → k ≤ 3 → opcode (operationOf r) ≡ k
+opcode-kind : (r : List ℕ) (k : ℕ) → kindOf r ≡ k → IsOpcode k → opcode (operationOf r) ≡ k
 unfolding operationOf
-opcode-kind r k e l h = each-code (λ (n : ℕ). kindOf r ≡ n → opcode (operationOf r) ≡ n) (λ q. rw q) (λ q. rw q) (λ q. rw q) k l h e
+opcode-kind r k e o = each-code (λ (n : ℕ). kindOf r ≡ n → opcode (operationOf r) ≡ n) (λ q. rw q) (λ q. rw q) (λ q. rw q) k o e
 
 -- ---- the record at a place
 
@@ -184,18 +183,18 @@ module _ (j : List ℕ) (at : ℕ) where
     pub good-fits : sizeOf (drop at j) ≤ left
     good-fits = room left len kind node good-is
 
-    pub good-kind : (1 ≤ kind) × (kind ≤ 3)
-    good-kind = (frame-here .low, frame-here .high)
+    pub good-kind : IsOpcode kind
+    good-kind = frame-here .of
 
     pub good-node : node ≤ largestType
     good-node = node-high left len kind node good-is
 
     pub shape-bounds : (s : Shape) → s ≡ shapeAt j at → (s .kind ≤ 3) × (s .node ≤ largestType)
-    shape-bounds s e = rw e (good-kind .1, good-node)
+    shape-bounds s e = rw e (good-kind .high, good-node)
 
     pub good-addition : kind ≡ 3 → sizeOf (drop at j) ≡ 14
     good-addition e =
-        let l = eqb-true len 12 (sym (frame-is len 3 (omega arith) (omega arith)) ∙ ap (goodFrame len) (sym e) ∙ frame-good left len kind node good-is) in
+        let l = eqb-true len 12 (sym (frame-is len 3 code-3) ∙ ap (goodFrame len) (sym e) ∙ frame-good left len kind node good-is) in
         omega arith
 
     -- whether a row reports it, by its kind and node type
@@ -203,7 +202,7 @@ module _ (j : List ℕ) (at : ℕ) where
     unfolding reports
     good-reports row code =
         let f = frame-here in
-        let op : opcode (operationOf here) ≡ kind = opcode-kind here kind (record-kind j at (omega (arith, f .large))) (f .low) (f .high) in
+        let op : opcode (operationOf here) ≡ kind = opcode-kind here kind (record-kind j at (omega (arith, f .large))) (f .of) in
         rw (op, node-here (omega (arith, f .large)))
 
     -- a record that is reported under an opcode is of its kind
@@ -213,28 +212,28 @@ module _ (j : List ℕ) (at : ℕ) where
 -- ---- what a good record adds
 
 -- one operation of a kind counts under its own opcode alone
-count-one : (kind code : ℕ) → 1 ≤ kind → kind ≤ 3 → 1 ≤ code → code ≤ 3 → count code (countLimit ^ (kind - 1)) ≡ one-if (eqb kind code)
-count-one kind code a b = each-code (λ (k : ℕ). (c : ℕ) → 1 ≤ c → c ≤ 3 → count c (countLimit ^ (k - 1)) ≡ one-if (eqb k c))
+count-one : (kind code : ℕ) → IsOpcode kind → IsOpcode code → count code (countLimit ^ (kind - 1)) ≡ one-if (eqb kind code)
+count-one kind code o = each-code (λ (k : ℕ). (c : ℕ) → IsOpcode c → count c (countLimit ^ (k - 1)) ≡ one-if (eqb k c))
     (each-code (λ (c : ℕ). count c (countLimit ^ (1 - 1)) ≡ one-if (eqb 1 c)) refl refl refl)
     (each-code (λ (c : ℕ). count c (countLimit ^ (2 - 1)) ≡ one-if (eqb 2 c)) refl refl refl)
-    (each-code (λ (c : ℕ). count c (countLimit ^ (3 - 1)) ≡ one-if (eqb 3 c)) refl refl refl) kind a b code
+    (each-code (λ (c : ℕ). count c (countLimit ^ (3 - 1)) ≡ one-if (eqb 3 c)) refl refl refl) kind o code
 
-count-zero : (code : ℕ) → 1 ≤ code → code ≤ 3 → count code 0 ≡ 0
+count-zero : (code : ℕ) → IsOpcode code → count code 0 ≡ 0
 count-zero = each-code (λ (c : ℕ). count c 0 ≡ 0) refl refl refl
 
-module _ (row : List ℕ) (kind node : ℕ) (low : 1 ≤ kind) (high : kind ≤ 3) where
-  weight-adds : (code : ℕ) → 1 ≤ code → code ≤ 3 → count code (weightOf row kind node) ≡ one-if (eqb kind code && holds (getD row node 0) code)
-  weight-adds code l h = go (holds (getD row node 0) kind) (eqb kind code) refl refl
+module _ (row : List ℕ) (kind node : ℕ) (of : IsOpcode kind) where
+  weight-adds : (code : ℕ) → IsOpcode code → count code (weightOf row kind node) ≡ one-if (eqb kind code && holds (getD row node 0) code)
+  weight-adds code o = go (holds (getD row node 0) kind) (eqb kind code) refl refl
     where
       go : (t u : Bool) → holds (getD row node 0) kind ≡ t → eqb kind code ≡ u → count code (cond (holds (getD row node 0) kind) (countLimit ^ (kind - 1)) 0) ≡ one-if (eqb kind code && holds (getD row node 0) code)
-      go true true p q = rw (p, count-one kind code low high l h, q, ← eqb-true kind code q, p)
-      go true false p q = rw (p, count-one kind code low high l h, q)
-      go false true p q = rw (p, count-zero code l h, q, ← eqb-true kind code q, p)
-      go false false p q = rw (p, count-zero code l h, q)
+      go true true p q = rw (p, count-one kind code of o, q, ← eqb-true kind code q, p)
+      go true false p q = rw (p, count-one kind code of o, q)
+      go false true p q = rw (p, count-zero code o, q, ← eqb-true kind code q, p)
+      go false false p q = rw (p, count-zero code o, q)
 
   weight-light : (count 1 (weightOf row kind node) + count 2 (weightOf row kind node) + count 3 (weightOf row kind node) ≤ 1) × (weightOf row kind node ≤ largestWeight)
   weight-light =
-      each-code (λ (k : ℕ). Light (cond (holds (getD row node 0) k) (countLimit ^ (k - 1)) 0)) (go 1 1 (omega arith)) (go 2 countLimit (omega arith)) (go 3 largestWeight (omega arith)) kind low high
+      each-code (λ (k : ℕ). Light (cond (holds (getD row node 0) k) (countLimit ^ (k - 1)) 0)) (go 1 1 (omega arith)) (go 2 countLimit (omega arith)) (go 3 largestWeight (omega arith)) kind of
     where
       Light : ℕ → Type 0
       Light w = (count 1 w + count 2 w + count 3 w ≤ 1) × (w ≤ largestWeight)
@@ -252,12 +251,10 @@ module _ (row j : List ℕ) (at size weight : ℕ) (g : Weighed row j at size we
   weighed-fits = rw (g .size-is) at (good-fits j at (g .good))
 
   pub weighed-light : (count 1 weight + count 2 weight + count 3 weight ≤ 1) × (weight ≤ largestWeight)
-  weighed-light = let k = good-kind j at (g .good) in rw (g .weight-is) (weight-light row (kindOf (drop at j)) (le 2 j (at + 4)) (k .0) (k .1))
+  weighed-light = rw (g .weight-is) (weight-light row (kindOf (drop at j)) (le 2 j (at + 4)) (good-kind j at (g .good)))
 
-  pub weighed-adds : (code : ℕ) → 1 ≤ code → code ≤ 3 → count code weight ≡ one-if (reports row code (entryOf (here j at)))
-  weighed-adds code l h =
-      let k = good-kind j at (g .good) in
-      rw (g .weight-is, good-reports j at (g .good) row code) (weight-adds row (kindOf (drop at j)) (le 2 j (at + 4)) (k .0) (k .1) code l h)
+  pub weighed-adds : (code : ℕ) → IsOpcode code → count code weight ≡ one-if (reports row code (entryOf (here j at)))
+  weighed-adds code o = rw (g .weight-is, good-reports j at (g .good) row code) (weight-adds row (kindOf (drop at j)) (le 2 j (at + 4)) (good-kind j at (g .good)) code o)
 
 -- ---- a header
 

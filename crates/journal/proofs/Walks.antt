@@ -54,7 +54,7 @@ module _ (j : List ℕ) (at : ℕ) (inside : at < length j) (good : allGood good
       let first = field-at j at 4 6 (omega (arith, walked-size .0)) in
       each-code (λ (k : ℕ). kindOf (drop at j) ≡ k → kindOf (firstRecord (drop at j)) ≡ k → operands (operationOf (firstRecord (drop at j))) ≡ operandsAt j k at)
       (λ _ q. rw (q, first)) (λ _ q. rw (q, first)) (λ p q. rw (q, first, field-at j at 4 10 (omega (arith, walked-size .1 p))))
-      code (omega (arith, good-kind j at walked, kind)) (omega (arith, good-kind j at walked, kind)) kind here
+      code (rw kind at (good-kind j at walked)) kind here
 
 -- a walk that has operations to pass over goes on past a record
 pub resumes-step : (row j : List ℕ) (code k at skip : ℕ) → allGood goodRecord (records j) ≡ true → at < length j → 0 < skip → Resumes row j code k at skip

@@ -1,5 +1,5 @@
 -- The journal's records (document 01, "Journal and inventory").
-use Prim.Native.Nat.{ℕ}
+use Prim.Native.Nat.{ℕ, _≤_}
 use mathlib.Core.Bool.{Bool, cond, _&&_, _||_}
 use mathlib.Core.List.{List, [], _∷_, map}
 use lib.Dec.{leb, eqb}
@@ -39,6 +39,10 @@ abbrev pub opcode : Operation → ℕ
 opcode (Delete p) = 1
 opcode (Update p) = 2
 opcode (Add p i) = 3
+
+pub record IsOpcode (code : ℕ) : Type 0 where
+  pub low : 1 ≤ code
+  pub high : code ≤ 3
 
 abbrev pub operands : Operation → List ℕ
 operands (Delete p) = p ∷ []

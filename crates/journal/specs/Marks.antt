@@ -8,7 +8,7 @@ use lib.ListN.{length, getD, drop}
 use Rattle.journal.specs.declared.marks.Place.{Place}
 use Rattle.words.specs.Numbers.{le32}
 use Rattle.records.specs.Records.{records, allGood}
-use Rattle.journal.specs.Journal.{goodRecord, entries}
+use Rattle.journal.specs.Journal.{goodRecord, IsOpcode, entries}
 use Rattle.journal.specs.Reportable.{chosen}
 
 -- Three counts in one number, 21 bits for each opcode.
@@ -46,7 +46,7 @@ operandsEnd code at = at + cond (eqb code 3) 14 10
 -- A mark is two numbers, a place and the packed counts of what the row reports before it. Of n marks each resumes the list of every opcode.
 pub record Marked (row j marks : List ℕ) (n : ℕ) : Type 0 where
   pub few : n ≤ markLimit
-  pub each : (i code : ℕ) → i < n → 1 ≤ code → code ≤ 3 → Resumes row j code (count code (getD marks (2 * i + 1) 0)) (getD marks (2 * i) 0) 0
+  pub each : (i code : ℕ) → i < n → IsOpcode code → Resumes row j code (count code (getD marks (2 * i + 1) 0)) (getD marks (2 * i) 0) 0
 
 -- Where to look for operation number k of an opcode: from the last of n marks with no more than k before it, or from the start.
 unfoldable pub sought : List ℕ → ℕ → ℕ → ℕ → Place

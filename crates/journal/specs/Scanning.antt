@@ -16,7 +16,7 @@ use Rattle.journal.specs.declared.judging.Verdict.the-variants.{Bad, Goo
 use Rattle.journal.specs.declared.stride.Position.{Position}
 use Rattle.journal.specs.declared.stride.Step.{Step}
 use Rattle.journal.specs.declared.stride.Step.the-variants as step
-use Rattle.journal.specs.Journal.{goodFrame, goodType, goodRecord, wellFormed, entries}
+use Rattle.journal.specs.Journal.{goodFrame, goodType, goodRecord, wellFormed, IsOpcode, entries}
 use Rattle.journal.specs.Scope.{holds}
 use Rattle.journal.specs.Reportable.{reports, operation}
 use Rattle.journal.specs.Marks.{countLimit, count, markLimit}
@@ -55,7 +55,7 @@ largestWeight = 4398046511104
 pub record Reached (row j : List ℕ) (p : Position) : Type 0 where
   pub inside : p .at ≤ length j
   pub good : allGood goodRecord (records j) ≡ allGood goodRecord (records (drop (p .at) j))
-  pub before : (code : ℕ) → 1 ≤ code → code ≤ 3 → Before row j (p .at) code (count code (p .counts))
+  pub before : (code : ℕ) → IsOpcode code → Before row j (p .at) code (count code (p .counts))
   pub few : count 1 (p .counts) + count 2 (p .counts) + count 3 (p .counts) ≤ p .at
   pub packed : p .counts < packedLimit
 

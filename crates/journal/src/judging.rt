@@ -3,7 +3,7 @@ ghost use mathlib.Core.Path.{_≡_};
 ghost use Prim.Native.Nat.{_+_, _≤_};
 ghost use lib.ListN.{length};
 ghost use Rattle.words.specs.Numbers.{le16};
-ghost use Rattle.journal.specs.Journal.{goodFrame, goodType};
+ghost use Rattle.journal.specs.Journal.{goodFrame, goodType, IsOpcode};
 ghost use Rattle.journal.specs.Scanning.{lengthFor, goodAt, verdictAt};
 use records::Frame;
 
@@ -33,7 +33,7 @@ pub fn read_type(j: &[u8], at: usize) -> u16
 
 // The length of a record of a kind: 12 for kind 3, and 8 for 1 and 2. It is computed with no test, for the scan's speed.
 fn length_of(kind: u16) -> u16
-    requires { ⌜ (1 ≤ kind) × (kind ≤ 3) ⌝ }
+    requires { ⌜ IsOpcode kind ⌝ }
     ensures { λ r. ⌜ r ≡ lengthFor kind ⌝ }
 {
     8 + (kind + 1) / 4 * 4

@@ -1,6 +1,7 @@
 // Marks: places that a scan came to, with the packed counts of what stands before them.
 ghost use mathlib.Core.Path.{_≡_};
 ghost use Prim.Native.Nat.{_+_, _*_, _≤_};
+ghost use Rattle.journal.specs.Journal.{IsOpcode};
 ghost use Rattle.journal.specs.Marks.{count, markLimit, sought};
 ghost use Rattle.journal.specs.Scanning.{Noted};
 use crate::stride::Position;
@@ -23,7 +24,7 @@ pub struct Place {
 
 // The count of an opcode in packed counts.
 pub fn count_of(code: usize, packed: u64) -> usize
-    requires { ⌜ (1 ≤ code) × (code ≤ 3) ⌝ }
+    requires { ⌜ IsOpcode code ⌝ }
     ensures { λ r. ⌜ r ≡ count code packed ⌝ }
 {
     if code == 1 {
@@ -54,7 +55,7 @@ pub fn note(marks: &mut [u64; 128], noted: usize, p: Position) -> usize
 
 // Where to look for operation number k of an opcode, by the marks.
 pub fn seek(marks: &[u64; 128], noted: usize, code: usize, k: usize) -> Place
-    requires { ⌜ (noted ≤ markLimit) × (1 ≤ code) × (code ≤ 3) ⌝ }
+    requires { ⌜ (noted ≤ markLimit) × IsOpcode code ⌝ }
     ensures { λ r. ⌜ r ≡ sought (now (marks .entry)) noted code k ⌝ }
 {
     let mut n = noted;

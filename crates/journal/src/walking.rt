@@ -5,7 +5,7 @@ ghost use lib.Dec.{eqb};
 ghost use Prim.Native.Nat.{_<_, _≤_};
 ghost use lib.ListN.{length, drop};
 ghost use Rattle.records.specs.Records.{sizeOf, firstRecord, records, allGood};
-ghost use Rattle.journal.specs.Journal.{goodRecord, entryOf, entries, wellFormed};
+ghost use Rattle.journal.specs.Journal.{goodRecord, IsOpcode, entryOf, entries, wellFormed};
 ghost use Rattle.journal.specs.Scope.{holds};
 ghost use Rattle.journal.specs.Reportable.{reports, chosen};
 ghost use Rattle.journal.specs.Marks.{firstOperand, secondOperand, operandsEnd, Resumes, Marked};
@@ -14,7 +14,7 @@ use crate::marks::seek;
 
 // 1 where a set holds an opcode, else 0.
 fn in_set(set: u8, code: usize) -> usize
-    requires { ⌜ (1 ≤ code) × (code ≤ 3) ⌝ }
+    requires { ⌜ IsOpcode code ⌝ }
     ensures { λ r. ⌜ r ≡ cond (holds set code) 1 0 ⌝ }
 {
     if code == 1 {
@@ -28,7 +28,7 @@ fn in_set(set: u8, code: usize) -> usize
 
 // 1 where a set holds the opcode of a kind, and that is the opcode asked for, else 0.
 fn reported(set: u8, code: usize, kind: usize) -> usize
-    requires { ⌜ (1 ≤ code) × (code ≤ 3) ⌝ }
+    requires { ⌜ IsOpcode code ⌝ }
     ensures { λ r. ⌜ r ≡ cond (eqb kind code && holds set code) 1 0 ⌝ }
 {
     let bit = in_set(set, code);
@@ -59,7 +59,7 @@ pub struct Passed {
 
 // The record at a place from which the records are good.
 pub fn pass(j: &[u8], row: &[u8; 15], code: usize, at: usize) -> Passed
-    requires { ⌜ (at < length (now j)) × (allGood goodRecord (records (drop at (now j))) ≡ true) × (1 ≤ code) × (code ≤ 3) ⌝ }
+    requires { ⌜ (at < length (now j)) × (allGood goodRecord (records (drop at (now j))) ≡ true) × IsOpcode code ⌝ }
     ensures { λ r. ⌜ (r .size ≡ sizeOf (drop at (now (j .entry)))) × (r .reported ≡ cond (reports (now (row .entry)) code (entryOf (firstRecord (drop at (now (j .entry)))))) 1 0) ⌝ }
 {
     let frame = records::read_frame(j, at);
@@ -80,7 +80,7 @@ pub fn find(
     code: usize,
     k: usize,
 ) -> usize
-    requires { ⌜ (wellFormed (now j) ≡ true) × Marked (now row) (now j) (now marks) noted × (1 ≤ code) × (code ≤ 3) × (k < length (chosen (now row) code (entries (now j)))) ⌝ }
+    requires { ⌜ (wellFormed (now j) ≡ true) × Marked (now row) (now j) (now marks) noted × IsOpcode code × (k < length (chosen (now row) code (entries (now j)))) ⌝ }
     ensures { λ r. ⌜ Resumes (now (row .entry)) (now (j .entry)) code k r 0 ⌝ }
 {
     let place = seek(marks, noted, code, k);

@@ -1,8 +1,9 @@
 // What a good record adds to the counts of the three opcodes, all in one number.
 ghost use mathlib.Core.Path.{_≡_};
 ghost use mathlib.Core.Bool.{cond};
-ghost use Prim.Native.Nat.{_-_, _^_, _<_, _≤_};
+ghost use Prim.Native.Nat.{_-_, _^_, _<_};
 ghost use lib.ListN.{getD};
+ghost use Rattle.journal.specs.Journal.{IsOpcode};
 ghost use Rattle.journal.specs.Scope.{holds};
 ghost use Rattle.journal.specs.Marks.{countLimit};
 ghost use Rattle.journal.specs.Scanning.{Weights};
@@ -21,7 +22,7 @@ fn set_of(row: &[u8], node: usize) -> u8
 
 // One operation of a kind, where the set holds it.
 fn weight(set: u8, kind: usize) -> u64
-    requires { ⌜ (1 ≤ kind) × (kind ≤ 3) ⌝ }
+    requires { ⌜ IsOpcode kind ⌝ }
     ensures { λ r. ⌜ r ≡ cond (holds set kind) (countLimit ^ (kind - 1)) 0 ⌝ }
 {
     if kind == 1 {

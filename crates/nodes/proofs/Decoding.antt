@@ -11,7 +11,8 @@ use lib.Seq.{drop-append-seam}
 use borrow.Author.Tests.{le-leb, le-ltb, ne-eqb, eqb-true, eqb-false}
 use Rattle.journal.specs.declared.operation.Operation.{Operation}
 use Rattle.journal.specs.declared.operation.Operation.the-variants.{Delete, Update, Add}
-use Rattle.journal.specs.Journal.{opcode, operands}
+use Rattle.journal.specs.Journal.{IsOpcode, opcode, operands}
+use Rattle.journal.proofs.Opcodes.{code-1, code-2, code-3}
 use Rattle.nodes.specs.declared.reading.Fault.the-variants.{Fine}
 use Rattle.nodes.specs.Run.{areaWords, cost}
 use Rattle.nodes.specs.Longest.{AllOf}
@@ -123,18 +124,18 @@ reads-lower b c ws os l r at last h = r at last (omega arith)
 reads-end : (code : ℕ) (ws : List ℕ) → Reads code (0 ∷ ws) []
 reads-end code ws at last h = (verdict-end 0 at last ws refl, operations-end last 0 ws refl)
 
-words-operands : (code : ℕ) (os : List Operation) → 1 ≤ code → code ≤ 3 → length (wordsOf os) < 16777216 → AllOf code os → Operands code (wordsOf os) os
-words-operands code os low high short c =
-    record { low = low; high = high; short = short; even = even-additions code os c; holds = λ ws. operations-of code os ws c }
+words-operands : (code : ℕ) (os : List Operation) → IsOpcode code → length (wordsOf os) < 16777216 → AllOf code os → Operands code (wordsOf os) os
+words-operands code os o short c =
+    record { low = o .low; high = o .high; short = short; even = even-additions code os c; holds = λ ws. operations-of code os ws c }
 
 parts-read : (ds us adds : List Operation) (ws : List ℕ) → AllOf 1 ds → AllOf 2 us → AllOf 3 adds
     → cost (ds ++ (us ++ adds)) ≤ areaWords → Reads 0 (body (ds ++ (us ++ adds)) ++ (0 ∷ ws)) (ds ++ (us ++ adds))
 parts-read ds us adds ws cd cu ca short =
     let split = body-split ds us adds cd cu ca in
     let size = simp (length-append, length-part) at (sym (length-body (ds ++ (us ++ adds))) ∙ ap length split) in
-    let three = reads-part 3 (wordsOf adds) (0 ∷ ws) adds [] (words-operands 3 adds (omega arith) (omega arith) (omega arith) ca) (reads-end 3 ws) in
-    let two = reads-part 2 (wordsOf us) _ us _ (words-operands 2 us (omega arith) (omega arith) (omega arith) cu) (reads-lower 2 3 _ _ (omega arith) three) in
-    let one = reads-part 1 (wordsOf ds) _ ds _ (words-operands 1 ds (omega arith) (omega arith) (omega arith) cd) (reads-lower 1 2 _ _ (omega arith) two) in
+    let three = reads-part 3 (wordsOf adds) (0 ∷ ws) adds [] (words-operands 3 adds code-3 (omega arith) ca) (reads-end 3 ws) in
+    let two = reads-part 2 (wordsOf us) _ us _ (words-operands 2 us code-2 (omega arith) cu) (reads-lower 2 3 _ _ (omega arith) three) in
+    let one = reads-part 1 (wordsOf ds) _ ds _ (words-operands 1 ds code-1 (omega arith) cd) (reads-lower 1 2 _ _ (omega arith) two) in
     rw split (simp append-assoc (simp append-nil at (reads-lower 0 1 _ _ (omega arith) one)))
 
 -- the words of a sorted list, and a zero after them, hold the list

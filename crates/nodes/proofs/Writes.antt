@@ -15,7 +15,7 @@ use Rattle.words.proofs.Stores.{sets-over, length-wordBytes, words-behind, stor
 use Rattle.records.specs.Records.{sizeOf, firstRecord}
 use Rattle.records.proofs.Choosing.{one-if, chosen-here, chosen-later, still-inside}
 use Rattle.journal.specs.declared.operation.Operation.{Operation}
-use Rattle.journal.specs.Journal.{wellFormed, operationOf, entryOf, entries}
+use Rattle.journal.specs.Journal.{wellFormed, IsOpcode, operationOf, entryOf, entries}
 use Rattle.journal.specs.Reportable.{operation, reports, chosen}
 use Rattle.journal.specs.Marks.{firstOperand, secondOperand, operandsAt, operandsEnd, Resumes}
 use Rattle.journal.proofs.Opcodes.{each-code}
@@ -32,10 +32,10 @@ use Rattle.nodes.proofs.Listed.{chosen-code, first-code}
 
 -- ---- how many words are due
 
-pub words-width : (code : ℕ) (os : List Operation) → 1 ≤ code → code ≤ 3 → AllOf code os → length (wordsOf os) ≡ width code * length os
-words-width code os l h =
+pub words-width : (code : ℕ) (os : List Operation) → IsOpcode code → AllOf code os → length (wordsOf os) ≡ width code * length os
+words-width code os o =
     each-code (λ (k : ℕ). AllOf k os → length (wordsOf os) ≡ width k * length os)
-    (λ c. omega (arith, words-one 1 os (omega arith) c)) (λ c. omega (arith, words-one 2 os (omega arith) c)) (words-two os) code l h
+    (λ c. omega (arith, words-one 1 os (omega arith) c)) (λ c. omega (arith, words-one 2 os (omega arith) c)) (words-two os) code o
 
 pub width-some : (code : ℕ) → (1 ≤ width code) × (width code ≤ 2)
 width-some code = go (eqb code 3)
@@ -56,7 +56,7 @@ module _ (row j : List ℕ) (code at n : ℕ) (d : Due row j code at n) where
   unfolding dueWords
   due-length =
       let os = chosen row code (entries (drop at j)) in
-      words-width code (take n os) (d .low) (d .high) (code-take code n os (chosen-code row code (entries (drop at j))))
+      words-width code (take n os) (d .of) (code-take code n os (chosen-code row code (entries (drop at j))))
       ∙ ap (λ (k : ℕ). width code * k) (length-take-le n os (d .enough))
 
   -- while an operation is due, a record stands at the place, and its operands are inside
@@ -127,7 +127,7 @@ module _ (aim row j : List ℕ) (code : ℕ) (area : List ℕ) (at to left : ℕ
       let words : wordsOf (take left (chosen row code (entries (drop at j)))) ≡ operandsAt j code at ++ wordsOf (take (left - 1) os) =
       ap wordsOf first ∙ ap (λ (l : List ℕ). l ++ wordsOf (take (left - 1) os)) (walked-operands j at inside (d .sound) row code e) in
       record {
-        due = record { low = d .low; high = d .high; sound = walked-on j at inside (d .sound); enough = omega (arith, d .enough, ap (λ (l : List Operation). length l) c) };
+        due = record { of = d .of; sound = walked-on j at inside (d .sound); enough = omega (arith, d .enough, ap (λ (l : List Operation). length l) c) };
         room = rw same-size (omega (arith, w .room, more));
         rest = words-behind area to (to + 4 * width code) (operandsAt j code at) (wordsOf (take (left - 1) os)) (omega (arith, length-operandsAt j code at))
             ∙ ap (λ (l : List ℕ). sets area to (wordBytes l)) (sym words) ∙ w .rest;
@@ -149,7 +149,7 @@ module _ (aim row j : List ℕ) (code : ℕ) (area : List ℕ) (at to left : ℕ
       let words : dueWords row j code past left ≡ dueWords row j code at left = due-words row j code at past left c in
       let wide : width code ≤ width code * left = mul-one-le (width code) left h in
       record {
-        due = record { low = d .low; high = d .high; sound = walked-on j at inside (d .sound); enough = omega (arith, d .enough, ap (λ (l : List Operation). length l) c) };
+        due = record { of = d .of; sound = walked-on j at inside (d .sound); enough = omega (arith, d .enough, ap (λ (l : List Operation). length l) c) };
         room = rw same-size (w .room);
         rest = ap (λ (l : List ℕ). sets stored to (wordBytes l)) words
             ∙ sets-over (wordBytes (operandsAt j code at)) (wordBytes (dueWords row j code at left)) area to
@@ -183,18 +183,18 @@ operands-other j code at h = rw (ne-eqb code 3 h)
 
 -- ---- one opcode's part
 
-pub part-length : (row j : List ℕ) (code first count : ℕ) → 1 ≤ code → code ≤ 3 → count ≤ length (chosen row code (entries j)) - first
+pub part-length : (row j : List ℕ) (code first count : ℕ) → IsOpcode code → count ≤ length (chosen row code (entries j)) - first
     → length (partFrom row j code first count) ≡ partWords (width code * count)
-part-length row j code first count low high inside =
+part-length row j code first count of inside =
     let rest = drop first (chosen row code (entries j)) in
     let all : length (take count rest) ≡ count = length-take-le count rest (rw length-drop inside) in
     length-part code (wordsOf (take count rest))
-    ∙ ap partWords (words-width code (take count rest) low high (first-code row j code first count) ∙ ap (λ (n : ℕ). width code * n) all)
+    ∙ ap partWords (words-width code (take count rest) of (first-code row j code first count) ∙ ap (λ (n : ℕ). width code * n) all)
 
 -- the operations from a place that was found are those of the whole journal from number k on
 module _ (row j : List ℕ) (code k from n : ℕ) (r : Resumes row j code k from 0) where
-  pub found-due : wellFormed j ≡ true → 1 ≤ code → code ≤ 3 → k + n ≤ length (chosen row code (entries j)) → Due row j code from n
-  found-due w l h e = record { low = l; high = h; sound = r .sound (all-good j w); enough = omega (arith, r .number) }
+  pub found-due : wellFormed j ≡ true → IsOpcode code → k + n ≤ length (chosen row code (entries j)) → Due row j code from n
+  found-due w o e = record { of = o; sound = r .sound (all-good j w); enough = omega (arith, r .number) }
 
   pub found-words : dueWords row j code from n ≡ wordsOf (take n (drop k (chosen row code (entries j))))
   unfolding dueWords

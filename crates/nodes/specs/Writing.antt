@@ -7,7 +7,7 @@ use lib.Dec.{eqb}
 use lib.ListN.{length, take, drop}
 use Rattle.records.specs.Records.{records, allGood}
 use Rattle.journal.specs.declared.scanning.Counts.{Counts}
-use Rattle.journal.specs.Journal.{goodRecord, entries}
+use Rattle.journal.specs.Journal.{IsOpcode, goodRecord, entries}
 use Rattle.journal.specs.Reportable.{chosen}
 use Rattle.nodes.specs.Run.{areaWords, partWords}
 use Rattle.nodes.specs.Area.{wordsOf, part}
@@ -18,8 +18,7 @@ width code = cond (eqb code 3) 2 1
 
 -- n operations of an opcode stand in good records from a place on
 pub record Due (row j : List ℕ) (code at n : ℕ) : Type 0 where
-  pub low : 1 ≤ code
-  pub high : code ≤ 3
+  pub of : IsOpcode code
   pub sound : allGood goodRecord (records (drop at j)) ≡ true
   pub enough : n ≤ length (chosen row code (entries (drop at j)))
 

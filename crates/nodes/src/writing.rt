@@ -5,7 +5,7 @@ ghost use Prim.Native.Nat.{_+_, _*_, _-_, _<_, _≤_};
 ghost use lib.ListN.{length};
 ghost use lib.Seq.{sets};
 ghost use Rattle.words.specs.Numbers.{wordBytes};
-ghost use Rattle.journal.specs.Journal.{wellFormed, entries};
+ghost use Rattle.journal.specs.Journal.{IsOpcode, wellFormed, entries};
 ghost use Rattle.journal.specs.Reportable.{chosen, reportable};
 ghost use Rattle.journal.specs.Marks.{operandsAt, operandsEnd, Marked};
 ghost use Rattle.nodes.specs.Run.{partWords, cut, total, remains, areaWords};
@@ -84,7 +84,7 @@ fn write_part(
     part: Part,
     to: usize,
 ) -> usize
-    requires { ⌜ (wellFormed (now j) ≡ true) × Marked (now row) (now j) (now marks) noted × (1 ≤ part .code) × (part .code ≤ 3) × (part .count ≤ length (chosen (now row) (part .code) (entries (now j))) - part .first) × (part .count ≤ areaWords) × (to + 4 * partWords (width (part .code) * part .count) ≤ length (now area)) ⌝ }
+    requires { ⌜ (wellFormed (now j) ≡ true) × Marked (now row) (now j) (now marks) noted × IsOpcode (part .code) × (part .count ≤ length (chosen (now row) (part .code) (entries (now j))) - part .first) × (part .count ≤ areaWords) × (to + 4 * partWords (width (part .code) * part .count) ≤ length (now area)) ⌝ }
     ensures { λ r. ⌜ r ≡ to + 4 * partWords (width (part .code) * part .count) ⌝ }
     ensures { λ _. ⌜ now (area .exit) ≡ sets (now (area .entry)) to (wordBytes (partFrom (now (row .entry)) (now (j .entry)) (part .code) (part .first) (part .count))) ⌝ }
 {

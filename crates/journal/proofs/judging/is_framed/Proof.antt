@@ -7,16 +7,16 @@ use Rattle.journal.proofs.judging.is_framed.Statement.{statement}
 use Rattle.journal.proofs.judging.is_framed.Tie as tie
 
 returns : tie.Need-returns
-returns c = sym (frame-none _ _ (λ l h. omega arith))
+returns c = sym (frame-none _ _ (λ o. omega arith))
 
 returns-2 : tie.Need-returns-2
-returns-2 c = sym (frame-none _ _ (λ l h. omega arith))
+returns-2 c = sym (frame-none _ _ (λ o. omega arith))
 
 length-of-requires : tie.Need-length-of-requires
 length-of-requires c κs = search needs
 
 returns-3 : tie.Need-returns-3
-returns-3 c = rw (c .before .length-of .ensures) (sym (frame-is _ _ (omega arith) (omega arith)))
+returns-3 c = rw (c .before .length-of .ensures) (sym (frame-is _ _ (search needs)))
 
 pub is-framed-spec : {M : Type 1} → statement M
 is-framed-spec = tie.close (tie.spec returns returns-2 length-of-requires returns-3)

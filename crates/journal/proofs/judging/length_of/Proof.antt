@@ -14,7 +14,7 @@ add-result-2 : tie.Need-add-result-2
 add-result-2 c = search needs
 
 returns : tie.Need-returns
-returns c = length-is (c .args .kind) (c .pre .0) (c .pre .1)
+returns c = length-is (c .args .kind) (c .pre)
 
 pub length-of-spec : {M : Type 1} → statement M
 length-of-spec = tie.close (tie.spec add-result mul-result add-result-2 returns)

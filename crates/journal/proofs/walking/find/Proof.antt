@@ -22,13 +22,13 @@ abbrev μ-loop : tie.MeasureT-loop
 μ-loop j row marks noted code k at₀ skip₀ at skip = length j - at
 
 seek-requires : tie.Need-seek-requires Inv-loop μ-loop
-seek-requires c κs = (c .before .pre .1 .few, c .before .pre .2, c .before .pre .3)
+seek-requires c κs = (c .before .pre .1 .few, c .before .pre .2)
 
 loop-holds : tie.Need-loop-holds Inv-loop μ-loop
-loop-holds c = rw (c .seek .ensures) (sought-resumes (now (c .before .before .args .row)) (now (c .before .before .args .j)) _ _ _ _ (c .before .before .pre .1) (c .before .before .pre .2) (c .before .before .pre .3))
+loop-holds c = rw (c .seek .ensures) (sought-resumes (now (c .before .before .args .row)) (now (c .before .before .args .j)) _ _ _ _ (c .before .before .pre .1) (c .before .before .pre .2))
 
 inside : (c : tie.In-loop Inv-loop μ-loop) → c .before .loop .at < length (now (c .before .before .before .before .args .j))
-inside c = still-inside (reports (now (c .before .before .before .before .args .row)) (c .before .before .before .before .args .code)) operation each-entry (now (c .before .before .before .before .args .j)) (c .before .loop .at) (omega (arith, c .before .loop .inv .number, c .before .before .before .before .pre .4))
+inside c = still-inside (reports (now (c .before .before .before .before .args .row)) (c .before .before .before .before .args .code)) operation each-entry (now (c .before .before .before .before .args .j)) (c .before .loop .at) (omega (arith, c .before .loop .inv .number, c .before .before .before .before .pre .3))
 
 -- past a record
 turn : (c : tie.After-pass Inv-loop μ-loop) → Resumes (now (c .before .before .before .before .before .args .row)) (now (c .before .before .before .before .before .args .j)) (c .before .before .before .before .before .args .code) (c .before .before .before .before .before .args .k) (c .before .before .loop .at + c .pass .result .size) (c .before .before .loop .skip - c .pass .result .reported)
@@ -38,7 +38,7 @@ none : (c : tie.After-loop Inv-loop μ-loop) → c .before .loop .skip ≡ 0
 none c = omega arith
 
 pass-requires : tie.Need-pass-requires Inv-loop μ-loop
-pass-requires c κs = (inside c, c .before .loop .inv .sound (all-good (now (c .before .before .before .before .args .j)) (c .before .before .before .before .pre .0)), c .before .before .before .before .pre .2, c .before .before .before .before .pre .3)
+pass-requires c κs = (inside c, c .before .loop .inv .sound (all-good (now (c .before .before .before .before .args .j)) (c .before .before .before .before .pre .0)), c .before .before .before .before .pre .2)
 
 add-at : tie.Need-add-at Inv-loop μ-loop
 add-at c = omega (arith, turn (c .before) .inside)

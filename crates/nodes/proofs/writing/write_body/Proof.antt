@@ -5,6 +5,7 @@ use borrow.Author.Needs.{needs}
 use denote.Ref.{now}
 use Rattle.nodes.proofs.Answers.{body-stored}
 use Rattle.nodes.proofs.Writes.{part-length}
+use Rattle.journal.proofs.Opcodes.{code-1, code-2, code-3}
 use Rattle.nodes.specs.Writing.{partFrom, bodyFrom}
 use Rattle.nodes.proofs.writing.write_body.Statement.{statement}
 use Rattle.nodes.proofs.writing.write_body.Tie as tie
@@ -13,14 +14,14 @@ write-part-requires : tie.Need-write-part-requires
 write-part-requires c κs =
     let p = c .before .before .before .pre in
     let h = p .3 in
-    (p .1, p .2, omega arith, omega arith, h .deletes, omega (arith, h .room), omega (arith, h .room, p .0))
+    (p .1, p .2, code-1, h .deletes, omega (arith, h .room), omega (arith, h .room, p .0))
 
 write-part-requires-2 : tie.Need-write-part-requires-2
 write-part-requires-2 c κs =
     let p = c .before .before .before .before .before .before .before .pre in
     let h = p .3 in
     let w = c .before .before .before .write-part in
-    (p .1, p .2, omega arith, omega arith, h .updates, omega (arith, h .room), omega (arith, h .room, p .0, w .ensures .0, w .kept .0))
+    (p .1, p .2, code-2, h .updates, omega (arith, h .room), omega (arith, h .room, p .0, w .ensures .0, w .kept .0))
 
 write-part-requires-3 : tie.Need-write-part-requires-3
 write-part-requires-3 c κs =
@@ -28,7 +29,7 @@ write-part-requires-3 c κs =
     let h = p .3 in
     let w = c .before .before .before .before .before .before .before .write-part in
     let v = c .before .before .before .write-part2 in
-    (p .1, p .2, omega arith, omega arith, h .additions, omega (arith, h .room), omega (arith, h .room, p .0, w .ensures .0, w .kept .0, v .ensures .0, v .kept .0))
+    (p .1, p .2, code-3, h .additions, omega (arith, h .room), omega (arith, h .room, p .0, w .ensures .0, w .kept .0, v .ensures .0, v .kept .0))
 
 store-be32-requires : tie.Need-store-be32-requires
 store-be32-requires c κs =
@@ -55,9 +56,9 @@ returns c =
     body-stored (now (a .area)) (w .last .0) (v .last .0) (u .last .0) (c .before .before .store-be32 .last .0)
     (partFrom row j 1 (a .passed .deletes) (a .run .deletes)) (partFrom row j 2 (a .passed .updates) (a .run .updates)) (partFrom row j 3 (a .passed .additions) (a .run .additions))
     (w .result) (v .result) (u .result)
-    (w .ensures .1) (w .ensures .0 ∙ rw (part-length row j 1 (a .passed .deletes) (a .run .deletes) (omega arith) (omega arith) (h .deletes)))
-    (v .ensures .1) (v .ensures .0 ∙ rw (part-length row j 2 (a .passed .updates) (a .run .updates) (omega arith) (omega arith) (h .updates)))
-    (u .ensures .1) (u .ensures .0 ∙ rw (part-length row j 3 (a .passed .additions) (a .run .additions) (omega arith) (omega arith) (h .additions)))
+    (w .ensures .1) (w .ensures .0 ∙ rw (part-length row j 1 (a .passed .deletes) (a .run .deletes) code-1 (h .deletes)))
+    (v .ensures .1) (v .ensures .0 ∙ rw (part-length row j 2 (a .passed .updates) (a .run .updates) code-2 (h .updates)))
+    (u .ensures .1) (u .ensures .0 ∙ rw (part-length row j 3 (a .passed .additions) (a .run .additions) code-3 (h .additions)))
     (c .before .before .store-be32 .ensures)
 
 pub write-body-spec : {M : Type 1} → statement M

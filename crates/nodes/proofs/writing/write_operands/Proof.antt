@@ -40,7 +40,7 @@ pass-requires : tie.Need-pass-requires Inv-loop μ-loop
 pass-requires c κs =
     let a = c .before .before .before .before .before .args in
     let d = c .before .loop .inv .0 .due in
-    (due-inside (now (a .row)) (now (a .j)) _ _ _ d (c .loop-test .taken), d .sound, d .low, d .high)
+    (due-inside (now (a .row)) (now (a .j)) _ _ _ d (c .loop-test .taken), d .sound, d .of)
 
 room : (c : tie.After-store-operands-arg Inv-loop μ-loop)
     → let l = c .before .before .before .loop in

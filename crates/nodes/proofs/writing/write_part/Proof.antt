@@ -21,7 +21,7 @@ returns c =
     no-part (now (a .area)) (now (a .row)) (now (a .j)) (a .part .code) (a .part .first) (a .part .count) (a .to) (c .if1 .taken)
 
 find-requires : tie.Need-find-requires
-find-requires c κs = let p = c .before .before .before .pre in (p .0, p .1, p .2, p .3, omega (arith, p .4, c .if1 .left))
+find-requires c κs = let p = c .before .before .before .pre in (p .0, p .1, p .2, omega (arith, p .3, c .if1 .left))
 
 width-of-requires : tie.Need-width-of-requires
 width-of-requires c κs = search needs
@@ -29,18 +29,18 @@ width-of-requires c κs = search needs
 sizes : (c : tie.After-width-of) → let a = c .before .before .before .before .before .args in Sized (width (a .part .code)) (c .width-of .result) (a .part .count)
 sizes c =
     let s = c .before .before .before .before .before in
-    sized (s .args .part .code) _ _ (c .width-of .ensures) (omega (arith, c .before .before .if1 .left)) (s .pre .5)
+    sized (s .args .part .code) _ _ (c .width-of .ensures) (omega (arith, c .before .before .if1 .left)) (s .pre .4)
 
 room : (c : tie.After-width-of) → let a = c .before .before .before .before .before .args in a .to + 4 * (1 + width (a .part .code) * a .part .count) ≤ length (now (a .area))
 room c =
     let s = c .before .before .before .before .before in
-    omega (arith, s .pre .6, operator-pos (width (s .args .part .code) * s .args .part .count) (omega (arith, sizes c)))
+    omega (arith, s .pre .5, operator-pos (width (s .args .part .code) * s .args .part .count) (omega (arith, sizes c)))
 
 due : (c : tie.After-width-of) → let a = c .before .before .before .before .before .args in Due (now (a .row)) (now (a .j)) (a .part .code) (c .before .find .result) (a .part .count)
 due c =
     let s = c .before .before .before .before .before in
     let p = s .pre in
-    found-due (now (s .args .row)) (now (s .args .j)) _ _ _ _ (c .before .find .ensures) (p .0) (p .2) (p .3) (omega (arith, p .4, c .before .before .if1 .left))
+    found-due (now (s .args .row)) (now (s .args .j)) _ _ _ _ (c .before .find .ensures) (p .0) (p .2) (omega (arith, p .3, c .before .before .if1 .left))
 
 mul-operands : tie.Need-mul-operands
 mul-operands c = omega (arith, sizes c)
@@ -49,10 +49,10 @@ mul-store-be32 : tie.Need-mul-store-be32
 mul-store-be32 c = search needs
 
 add-store-be32 : tie.Need-add-store-be32
-add-store-be32 c = omega (arith, sizes (c .before), c .before .before .before .before .before .before .pre .3)
+add-store-be32 c = omega (arith, sizes (c .before), c .before .before .before .before .before .before .pre .2)
 
 cast-store-be32 : tie.Need-cast-store-be32
-cast-store-be32 c = omega (arith, sizes (c .before), c .before .before .before .before .before .before .pre .3)
+cast-store-be32 c = omega (arith, sizes (c .before), c .before .before .before .before .before .before .pre .2)
 
 store-be32-requires : tie.Need-store-be32-requires
 store-be32-requires c κs = omega (arith, room (c .before))
