@@ -15,8 +15,8 @@ use Rattle.journal.specs.declared.marks.Place.{Place}
 use Rattle.journal.specs.declared.stride.Position.{Position}
 use Rattle.journal.specs.Journal.{IsOpcode}
 use Rattle.journal.specs.Reportable.{operation, reports}
-use Rattle.journal.specs.Marks.{count, markLimit, Resumes, Marked, sought}
-use Rattle.journal.specs.Scanning.{Before, Reached, Noted, kept, added}
+use Rattle.journal.specs.Marks.{count, markLimit, Resumes, Marked}
+use Rattle.journal.specs.Scanning.{Before, Reached, Noted, unchanged, added, sought}
 use Rattle.words.proofs.Choice.{choose}
 use Rattle.records.proofs.Choosing.{before-later}
 use Rattle.journal.proofs.Entries.{each-entry}
@@ -29,7 +29,7 @@ noted-stores m n p h = rw (add-one (2 * n)) (added h)
 
 -- noting keeps the length, which `marked-note` asks for at the scan's next note
 pub noted-length : (m : List ℕ) (n : ℕ) (p : Position) (m′ : List ℕ) (r : ℕ) → Noted m n p m′ r → length m′ ≡ length m
-noted-length m n p m′ r kept = refl
+noted-length m n p m′ r unchanged = refl
 noted-length m n p m′ r (added h) = length-sets m (2 * n) (p .at ∷ p .counts ∷ [])
 
 -- no marks are true marks: the scan's start
@@ -47,7 +47,7 @@ reached-resumes row j p code r o = record {
 
 -- the marks stay true when such a place is noted: the scan's turn
 pub marked-note : (row j m : List ℕ) (n : ℕ) (p : Position) (m′ : List ℕ) (r : ℕ) → length m ≡ 128 → Reached row j p → Marked row j m n → Noted m n p m′ r → Marked row j m′ r
-marked-note row j m n p m′ r l reached marked kept = marked
+marked-note row j m n p m′ r l reached marked unchanged = marked
 marked-note row j m n p m′ r l reached marked (added h) =
     let first = set m (2 * n) (p .at) in
     let new = set first (suc (2 * n)) (p .counts) in

@@ -17,7 +17,7 @@ use Rattle.journal.specs.declared.stride.Step.the-variants.{Bad, Upto}
 use Rattle.journal.specs.Journal.{goodRecord, wellFormed, IsOpcode, entries}
 use Rattle.journal.specs.Reportable.{operation, reports, chosen, judgementOf}
 use Rattle.journal.specs.Marks.{countLimit, count}
-use Rattle.journal.specs.Scanning.{goodHere, packedLimit, largestWeight, Before, Reached, Went, Weighed, fourHeaded, Known, unpacked}
+use Rattle.journal.specs.Scanning.{goodHere, packedLimit, largestWeight, Before, Reached, Advanced, Weighed, fourHeaded, Known, unpacked}
 use Rattle.journal.proofs.Opcodes.{code-1, code-2, code-3, each-code}
 use Rattle.journal.proofs.Entries.{each-entry}
 use Rattle.journal.proofs.RecordLaws.{four-equal, weighed-size, weighed-fits, weighed-light, weighed-adds}
@@ -131,12 +131,12 @@ module _ (row j : List ℕ) (header size weight : ℕ) (small : length j ≤ siz
       rw (s₄, w₄) at t₄
 
 -- what a step gave
-pub went-lower : (row j : List ℕ) (a b : ℕ) (s : Step) → a ≤ b → Went row j b s → Went row j a s
-went-lower row j a b Bad h w = w
-went-lower row j a b (Upto p) h w = (w .0, omega (arith, w .1))
+pub advanced-lower : (row j : List ℕ) (a b : ℕ) (s : Step) → a ≤ b → Advanced row j b s → Advanced row j a s
+advanced-lower row j a b Bad h w = w
+advanced-lower row j a b (Upto p) h w = (w .0, omega (arith, w .1))
 
-pub went-bad : (row j : List ℕ) (end : ℕ) (s : Step) → s ≡ Bad → Went row j end s → wellFormed j ≡ false
-went-bad row j end s e w = rw e at w
+pub advanced-bad : (row j : List ℕ) (end : ℕ) (s : Step) → s ≡ Bad → Advanced row j end s → wellFormed j ≡ false
+advanced-bad row j end s e w = rw e at w
 
-pub went-upto : (row j : List ℕ) (end : ℕ) (s : Step) (p : Position) → s ≡ Upto p → Went row j end s → Reached row j p × (end ≤ p .at)
-went-upto row j end s p e w = rw e at w
+pub advanced-upto : (row j : List ℕ) (end : ℕ) (s : Step) (p : Position) → s ≡ Upto p → Advanced row j end s → Reached row j p × (end ≤ p .at)
+advanced-upto row j end s p e w = rw e at w

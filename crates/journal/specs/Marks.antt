@@ -1,11 +1,10 @@
 -- Marks that a scan notes, from which the operation due is found without a walk from the journal's start.
-use Prim.Native.Nat.{ℕ, zero, suc, _+_, _*_, _-_, _/_, _%_, _^_, _≤_, _<_}
+use Prim.Native.Nat.{ℕ, _+_, _*_, _-_, _/_, _%_, _^_, _≤_, _<_}
 use mathlib.Core.Path.{_≡_}
 use mathlib.Core.Bool.{true, cond}
 use mathlib.Core.List.{List, [], _∷_}
-use lib.Dec.{leb, eqb}
+use lib.Dec.{eqb}
 use lib.ListN.{length, getD, drop}
-use Rattle.journal.specs.declared.marks.Place.{Place}
 use Rattle.words.specs.Numbers.{le32}
 use Rattle.records.specs.Records.{records, allGood}
 use Rattle.journal.specs.Journal.{goodRecord, IsOpcode, entries}
@@ -47,12 +46,3 @@ operandsEnd code at = at + cond (eqb code 3) 14 10
 pub record Marked (row j marks : List ℕ) (n : ℕ) : Type 0 where
   pub few : n ≤ markLimit
   pub each : (i code : ℕ) → i < n → IsOpcode code → Resumes row j code (count code (getD marks (2 * i + 1) 0)) (getD marks (2 * i) 0) 0
-
--- Where to look for operation number k of an opcode: from the last of n marks with no more than k before it, or from the start.
-unfoldable pub sought : List ℕ → ℕ → ℕ → ℕ → Place
-sought marks zero code k = record { at = 0; skip = k }
-sought marks (suc n) code k =
-    let earlier = sought marks n code k in
-    let before = count code (getD marks (2 * n + 1) 0) in
-    let here : Place = record { at = getD marks (2 * n) 0; skip = k - before } in
-    cond (leb before k) here earlier

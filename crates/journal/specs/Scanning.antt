@@ -1,5 +1,5 @@
--- Terms of the contracts of the scan's private functions; no public promise cites them.
-use Prim.Native.Nat.{ℕ, _+_, _*_, _-_, _/_, _%_, _^_, _≤_, _<_}
+-- Terms of the contracts of private functions, of the scan and of the marks; no public promise cites them.
+use Prim.Native.Nat.{ℕ, zero, suc, _+_, _*_, _-_, _/_, _%_, _^_, _≤_, _<_}
 use mathlib.Core.Path.{_≡_}
 use mathlib.Core.Bool.{Bool, true, false, cond, _&&_}
 use mathlib.Core.List.{List, [], _∷_}
@@ -13,6 +13,7 @@ use Rattle.journal.specs.declared.scanning.Counts.{Counts}
 use Rattle.journal.specs.declared.judging.Shape.{Shape}
 use Rattle.journal.specs.declared.judging.Verdict.{Verdict}
 use Rattle.journal.specs.declared.judging.Verdict.the-variants.{Bad, Good}
+use Rattle.journal.specs.declared.marks.Place.{Place}
 use Rattle.journal.specs.declared.stride.Position.{Position}
 use Rattle.journal.specs.declared.stride.Step.{Step}
 use Rattle.journal.specs.declared.stride.Step.the-variants as step
@@ -60,9 +61,9 @@ pub record Reached (row j : List ℕ) (p : Position) : Type 0 where
   pub packed : p .counts < packedLimit
 
 -- what a step along the journal gives: a bad record, or a position at or behind an end
-abbrev pub Went : List ℕ → List ℕ → ℕ → Step → Type 0
-Went row j end step.Bad = wellFormed j ≡ false
-Went row j end (step.Upto p) = Reached row j p × (end ≤ p .at)
+abbrev pub Advanced : List ℕ → List ℕ → ℕ → Step → Type 0
+Advanced row j end step.Bad = wellFormed j ≡ false
+Advanced row j end (step.Upto p) = Reached row j p × (end ≤ p .at)
 
 -- what a good record adds to the packed counts
 abbrev pub weightOf : List ℕ → ℕ → ℕ → ℕ
@@ -90,8 +91,17 @@ pub record Known (row j : List ℕ) (header size weight : ℕ) : Type 0 where
 
 -- the marks after p was offered as the next one
 pub data Noted (marks : List ℕ) (n : ℕ) (p : Position) : List ℕ → ℕ → Type 0 where
-  kept : Noted marks n p marks n
+  unchanged : Noted marks n p marks n
   added : n < markLimit → Noted marks n p (sets marks (2 * n) (p .at ∷ p .counts ∷ [])) (n + 1)
+
+-- where to look for operation number k of an opcode: from the last of n marks with no more than k before it, or from the start.
+unfoldable pub sought : List ℕ → ℕ → ℕ → ℕ → Place
+sought marks zero code k = record { at = 0; skip = k }
+sought marks (suc n) code k =
+    let earlier = sought marks n code k in
+    let before = count code (getD marks (2 * n + 1) 0) in
+    let here : Place = record { at = getD marks (2 * n) 0; skip = k - before } in
+    cond (leb before k) here earlier
 
 abbrev pub unpacked : ℕ → Counts
 unpacked packed = record { deletes = count 1 packed; updates = count 2 packed; additions = count 3 packed }

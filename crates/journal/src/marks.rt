@@ -2,8 +2,8 @@
 ghost use mathlib.Core.Path.{_≡_};
 ghost use Prim.Native.Nat.{_+_, _*_, _≤_};
 ghost use Rattle.journal.specs.Journal.{IsOpcode};
-ghost use Rattle.journal.specs.Marks.{count, markLimit, sought};
-ghost use Rattle.journal.specs.Scanning.{Noted};
+ghost use Rattle.journal.specs.Marks.{count, markLimit};
+ghost use Rattle.journal.specs.Scanning.{Noted, sought};
 use crate::stride::Position;
 
 // Packed counts have 21 bits for each opcode: a delete adds 1, an update this, and an addition this times this.

@@ -5,7 +5,7 @@ ghost use lib.ListN.{length, getD};
 ghost use Rattle.words.specs.Numbers.{le};
 ghost use Rattle.records.specs.Records.{sizeLimit};
 ghost use Rattle.journal.specs.Journal.{largestType};
-ghost use Rattle.journal.specs.Scanning.{fourHeaded, Reached, Known, Went, Weights};
+ghost use Rattle.journal.specs.Scanning.{fourHeaded, Reached, Known, Advanced, Weights};
 use crate::judging::Shape;
 use crate::judging::Verdict;
 use crate::judging::judge;
@@ -80,7 +80,7 @@ fn past_same(
 // Past records one at a time, up to an end: the step is the record's own length, and one sum counts all three opcodes.
 fn past_each(j: &[u8], row: &[u8; 15], weights: &[u64; 64], from: Position, end: usize) -> Step
     requires { ⌜ Reached (now row) (now j) from × Weights (now row) (now weights) × (end ≤ length (now j)) × (length (now j) ≤ sizeLimit) ⌝ }
-    ensures { λ r. ⌜ Went (now (row .entry)) (now (j .entry)) end r ⌝ }
+    ensures { λ r. ⌜ Advanced (now (row .entry)) (now (j .entry)) end r ⌝ }
 {
     let mut at = from.at;
     let mut counts = from.counts;
@@ -100,7 +100,7 @@ fn past_each(j: &[u8], row: &[u8; 15], weights: &[u64; 64], from: Position, end:
 }
 
 // A place after `at`, at most `by` bytes on and not past the end.
-fn near(at: usize, by: usize, end: usize) -> usize
+fn clamped_end(at: usize, by: usize, end: usize) -> usize
     requires { ⌜ (at < end) × (0 < by) ⌝ }
     ensures { λ r. ⌜ (at < r) × (r ≤ end) ⌝ }
 {
@@ -113,7 +113,7 @@ fn near(at: usize, by: usize, end: usize) -> usize
 // Past a record and more: those of the same header behind it, then others one at a time.
 pub fn stride(j: &[u8], row: &[u8; 15], weights: &[u64; 64], from: Position) -> Step
     requires { ⌜ Reached (now row) (now j) from × Weights (now row) (now weights) × (from .at < length (now j)) × (length (now j) ≤ sizeLimit) ⌝ }
-    ensures { λ r. ⌜ Went (now (row .entry)) (now (j .entry)) (from .at + 1) r ⌝ }
+    ensures { λ r. ⌜ Advanced (now (row .entry)) (now (j .entry)) (from .at + 1) r ⌝ }
 {
     let at = from.at;
     let verdict = judge(j, at);
@@ -122,9 +122,9 @@ pub fn stride(j: &[u8], row: &[u8; 15], weights: &[u64; 64], from: Position) -> 
         Verdict::Good(shape) => {
             let weight = weight_of(weights, shape);
             let header = header_at(j, at);
-            let limit = near(at, MARK_SPAN, j.len());
+            let limit = clamped_end(at, MARK_SPAN, j.len());
             let same = past_same(j, row, from, header, shape.size, weight, limit);
-            past_each(j, row, weights, same, near(at, 4096, j.len()))
+            past_each(j, row, weights, same, clamped_end(at, 4096, j.len()))
         }
     }
 }

@@ -51,21 +51,21 @@ pub fn second_operand(j: &[u8], at: usize) -> u32
     words::read_le32(j, at + 10)
 }
 
-// A record that a walk passes: its size, and 1 where the row reports it under the opcode, else 0.
-pub struct Passed {
+// A record that a walk visits: its size, and 1 where the row reports it under the opcode, else 0.
+pub struct Visited {
     pub size: usize,
     pub reported: usize,
 }
 
 // The record at a place from which the records are good.
-pub fn pass(j: &[u8], row: &[u8; 15], code: usize, at: usize) -> Passed
+pub fn visit(j: &[u8], row: &[u8; 15], code: usize, at: usize) -> Visited
     requires { ⌜ (at < length (now j)) × (allGood goodRecord (records (drop at (now j))) ≡ true) × IsOpcode code ⌝ }
     ensures { λ r. ⌜ (r .size ≡ sizeOf (drop at (now (j .entry)))) × (r .reported ≡ cond (reports (now (row .entry)) code (entryOf (firstRecord (drop at (now (j .entry)))))) 1 0) ⌝ }
 {
     let frame = records::read_frame(j, at);
     let node = read_type(j, at);
     let bit = reported(row[node as usize], code, frame.kind as usize);
-    Passed {
+    Visited {
         size: records::record_size(frame),
         reported: bit,
     }
@@ -87,7 +87,7 @@ pub fn find(
     let mut at = place.at;
     let mut skip = place.skip;
     while 0 < skip {
-        let p = pass(j, row, code, at);
+        let p = visit(j, row, code, at);
         at += p.size;
         skip -= p.reported;
     }

@@ -59,7 +59,7 @@ fn write_operands(
     let mut to = start;
     let mut due = count;
     while 0 < due {
-        let p = journal::pass(j, row, code, at);
+        let p = journal::visit(j, row, code, at);
         store_operands(area, to, j, at, code);
         at += p.size;
         to += step * p.reported;

@@ -1,18 +1,18 @@
 -- `marks::note` meets its contract.
 use borrow.Author.Needs.{needs}
 use Rattle.journal.proofs.MarkLaws.{noted-stores}
-use Rattle.journal.specs.Scanning.{kept}
+use Rattle.journal.specs.Scanning.{unchanged}
 use Rattle.journal.proofs.marks.note.Statement.{statement}
 use Rattle.journal.proofs.marks.note.Tie as tie
 
 returns : tie.Need-returns
-returns c = kept
+returns c = unchanged
 
 mul-if2 : tie.Need-mul-if2
 mul-if2 c = search needs
 
 returns-2 : tie.Need-returns-2
-returns-2 c = kept
+returns-2 c = unchanged
 
 mul-i : tie.Need-mul-i
 mul-i c = search needs

@@ -7,7 +7,7 @@ use borrow.Author.Needs.{needs}
 use denote.Ref.{now}
 use Rattle.journal.proofs.Claims.{well-formed-cases, too-large, size-limit}
 use Rattle.journal.proofs.MarkLaws.{marked-none, marked-note, noted-length}
-use Rattle.journal.proofs.Reaching.{position, reached-none, reached-end, malformed, went-bad, went-upto}
+use Rattle.journal.proofs.Reaching.{position, reached-none, reached-end, malformed, advanced-bad, advanced-upto}
 use Rattle.journal.specs.Claims.{WellFormedCases, SizeLimit}
 use Rattle.journal.specs.Marks.{Marked}
 use Rattle.journal.specs.Scanning.{Reached}
@@ -42,7 +42,7 @@ marks-then c = marked-note (now (c .before .before .before .before .before .befo
 
 -- where the scan stands after a step
 turn : (c : tie.After-known-told Inv-loop μ-loop) → Reached (now (c .before .before .before .before .before .before .before .before .before .before .before .before .args .row)) (now (c .before .before .before .before .before .before .before .before .before .before .before .before .args .j)) (c .before .step .given .0 .0) × (c .before .before .before .before .before .before .before .before .loop .at + 1 ≤ c .before .step .given .0 .0 .at)
-turn c = went-upto (now (c .before .before .before .before .before .before .before .before .before .before .before .before .args .row)) (now (c .before .before .before .before .before .before .before .before .before .before .before .before .args .j)) _ _ _ (c .before .step .given .1) (c .before .before .before .stride .ensures)
+turn c = advanced-upto (now (c .before .before .before .before .before .before .before .before .before .before .before .before .args .row)) (now (c .before .before .before .before .before .before .before .before .before .before .before .before .args .j)) _ _ _ (c .before .step .given .1) (c .before .before .before .stride .ensures)
 
 stride-requires : tie.Need-stride-requires Inv-loop μ-loop
 stride-requires c κs = (c .before .before .before .before .loop .inv .0, c .before .before .before .before .before .weights-of .ensures, c .before .before .before .loop-test .taken, c .before .before .before .before .before .before .if1 .left)
@@ -51,7 +51,7 @@ enum-told : tie.Need-enum-told Inv-loop μ-loop
 enum-told c = search needs
 
 returns-2 : tie.Need-returns-2 Inv-loop μ-loop
-returns-2 c = ((malformed _ _ (went-bad (now (c .before .before .before .before .before .before .before .before .before .before .before .args .row)) (now (c .before .before .before .before .before .before .before .before .before .before .before .args .j)) _ _ (c .enum-told .given .1) (c .before .before .stride .ensures)), marks-then (c .before .before .before .before)), rules)
+returns-2 c = ((malformed _ _ (advanced-bad (now (c .before .before .before .before .before .before .before .before .before .before .before .args .row)) (now (c .before .before .before .before .before .before .before .before .before .before .before .args .j)) _ _ (c .enum-told .given .1) (c .before .before .stride .ensures)), marks-then (c .before .before .before .before)), rules)
 
 enum-known-step : tie.Need-enum-known-step Inv-loop μ-loop
 enum-known-step c = search needs

@@ -6,7 +6,7 @@ use borrow.Author.Needs.{needs}
 use denote.Ref.{now}
 use Rattle.journal.proofs.RecordLaws.{given-bad, given-good, shape-bounds, weighed-size, weighed-fits, known}
 use Rattle.journal.proofs.WeightLaws.{weighed}
-use Rattle.journal.proofs.Reaching.{reached-bad, went-lower}
+use Rattle.journal.proofs.Reaching.{reached-bad, advanced-lower}
 use Rattle.journal.specs.Scanning.{goodHere, shapeAt, Weighed}
 use Rattle.journal.proofs.stride.stride.Statement.{statement}
 use Rattle.journal.proofs.stride.stride.Tie as tie
@@ -33,19 +33,19 @@ weight-of-requires c κs = shape-bounds (now (c .before .before .before .before 
 header-at-requires : tie.Need-header-at-requires
 header-at-requires c κs = omega (arith, weighed-size (now (c .before .before .before .before .before .before .args .row)) (now (c .before .before .before .before .before .before .args .j)) (c .before .before .before .before .before .before .args .from .at) _ _ (here c), weighed-fits (now (c .before .before .before .before .before .before .args .row)) (now (c .before .before .before .before .before .before .args .j)) (c .before .before .before .before .before .before .args .from .at) _ _ (here c), c .before .before .before .before .before .before .pre .2)
 
-near-requires : tie.Need-near-requires
-near-requires c κs = search needs
+clamped-end-requires : tie.Need-clamped-end-requires
+clamped-end-requires c κs = search needs
 
 past-same-requires : tie.Need-past-same-requires
 past-same-requires c κs = (
   c .before .before .before .before .before .before .before .before .pre .0,
   rw (c .before .header-at .ensures) (known (now (c .before .before .before .before .before .before .before .before .args .row)) (now (c .before .before .before .before .before .before .before .before .args .j)) (λ i. omega (arith, c .before .before .before .before .before .before .before .shared-slice-known .given i)) (c .before .before .before .before .before .before .before .before .args .from .at) _ _ (here (c .before .before))),
-  c .near .ensures .1,
+  c .clamped-end .ensures .1,
   c .before .before .before .before .before .before .before .before .pre .3,
 )
 
-near-requires-2 : tie.Need-near-requires-2
-near-requires-2 c κs = search needs
+clamped-end-requires-2 : tie.Need-clamped-end-requires-2
+clamped-end-requires-2 c κs = search needs
 
 past-each-requires : tie.Need-past-each-requires
 past-each-requires c κs = search needs
@@ -55,7 +55,7 @@ returns c = reached-bad (now (c .before .before .before .before .args .row)) (no
     (given-bad (now (c .before .before .before .before .args .j)) (c .before .before .before .before .args .from .at) _ (c .enum-told .given .1) (c .before .before .judge .ensures))
 
 returns-2 : tie.Need-returns-2
-returns-2 c = went-lower (now (c .before .before .before .before .before .before .before .before .before .before .before .args .row)) (now (c .before .before .before .before .before .before .before .before .before .before .before .args .j)) _ _ (c .past-each .result) (omega (arith, c .before .near2 .ensures)) (c .past-each .ensures)
+returns-2 c = advanced-lower (now (c .before .before .before .before .before .before .before .before .before .before .before .args .row)) (now (c .before .before .before .before .before .before .before .before .before .before .before .args .j)) _ _ (c .past-each .result) (omega (arith, c .before .clamped-end2 .ensures)) (c .past-each .ensures)
 
 pub stride-spec : {M : Type 1} → statement M
 stride-spec =
@@ -66,9 +66,9 @@ stride-spec =
     enum-known-verdict
     weight-of-requires
     header-at-requires
-    near-requires
+    clamped-end-requires
     past-same-requires
-    near-requires-2
+    clamped-end-requires-2
     past-each-requires
     returns
     returns-2)

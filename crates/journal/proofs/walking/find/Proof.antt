@@ -31,23 +31,23 @@ inside : (c : tie.In-loop Inv-loop μ-loop) → c .before .loop .at < length (no
 inside c = still-inside (reports (now (c .before .before .before .before .args .row)) (c .before .before .before .before .args .code)) operation each-entry (now (c .before .before .before .before .args .j)) (c .before .loop .at) (omega (arith, c .before .loop .inv .number, c .before .before .before .before .pre .3))
 
 -- past a record
-turn : (c : tie.After-pass Inv-loop μ-loop) → Resumes (now (c .before .before .before .before .before .args .row)) (now (c .before .before .before .before .before .args .j)) (c .before .before .before .before .before .args .code) (c .before .before .before .before .before .args .k) (c .before .before .loop .at + c .pass .result .size) (c .before .before .loop .skip - c .pass .result .reported)
-turn c = rw (c .pass .ensures .0, c .pass .ensures .1) (resumes-step (now (c .before .before .before .before .before .args .row)) (now (c .before .before .before .before .before .args .j)) _ _ _ _ (all-good (now (c .before .before .before .before .before .args .j)) (c .before .before .before .before .before .pre .0)) (inside (c .before)) (c .before .loop-test .taken) (c .before .before .loop .inv))
+turn : (c : tie.After-visit Inv-loop μ-loop) → Resumes (now (c .before .before .before .before .before .args .row)) (now (c .before .before .before .before .before .args .j)) (c .before .before .before .before .before .args .code) (c .before .before .before .before .before .args .k) (c .before .before .loop .at + c .visit .result .size) (c .before .before .loop .skip - c .visit .result .reported)
+turn c = rw (c .visit .ensures .0, c .visit .ensures .1) (resumes-step (now (c .before .before .before .before .before .args .row)) (now (c .before .before .before .before .before .args .j)) _ _ _ _ (all-good (now (c .before .before .before .before .before .args .j)) (c .before .before .before .before .before .pre .0)) (inside (c .before)) (c .before .loop-test .taken) (c .before .before .loop .inv))
 
 none : (c : tie.After-loop Inv-loop μ-loop) → c .before .loop .skip ≡ 0
 none c = omega arith
 
-pass-requires : tie.Need-pass-requires Inv-loop μ-loop
-pass-requires c κs = (inside c, c .before .loop .inv .sound (all-good (now (c .before .before .before .before .args .j)) (c .before .before .before .before .pre .0)), c .before .before .before .before .pre .2)
+visit-requires : tie.Need-visit-requires Inv-loop μ-loop
+visit-requires c κs = (inside c, c .before .loop .inv .sound (all-good (now (c .before .before .before .before .args .j)) (c .before .before .before .before .pre .0)), c .before .before .before .before .pre .2)
 
 add-at : tie.Need-add-at Inv-loop μ-loop
 add-at c = omega (arith, turn (c .before) .inside)
 
 sub-skip : tie.Need-sub-skip Inv-loop μ-loop
-sub-skip c = omega (arith, c .before .before .pass .ensures, one-if-le (reports (now (c .before .before .before .before .before .before .before .args .row)) (c .before .before .before .before .before .before .before .args .code) (entryOf (firstRecord (drop (c .before .before .before .before .loop .at) (now (c .before .before .before .before .before .before .before .args .j)))))))
+sub-skip c = omega (arith, c .before .before .visit .ensures, one-if-le (reports (now (c .before .before .before .before .before .before .before .args .row)) (c .before .before .before .before .before .before .before .args .code) (entryOf (firstRecord (drop (c .before .before .before .before .loop .at) (now (c .before .before .before .before .before .before .before .args .j)))))))
 
 loop-less : tie.Need-loop-less Inv-loop μ-loop
-loop-less c = omega (arith, turn (c .before .before) .inside, c .before .before .pass .ensures)
+loop-less c = omega (arith, turn (c .before .before) .inside, c .before .before .visit .ensures)
 
 loop-again : tie.Need-loop-again Inv-loop μ-loop
 loop-again c = turn (c .before .before)
@@ -63,7 +63,7 @@ find-spec =
     μ-loop
     seek-requires
     loop-holds
-    pass-requires
+    visit-requires
     add-at
     sub-skip
     loop-less

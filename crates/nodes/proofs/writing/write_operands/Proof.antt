@@ -36,8 +36,8 @@ loop-holds c =
     let s = c .before .before .before in
     (writing-start (now (s .args .row)) (now (s .args .j)) _ _ _ _ _ (s .pre .0) (s .pre .1), refl, ap (λ (n : ℕ). 4 * n) (c .width-of .ensures))
 
-pass-requires : tie.Need-pass-requires Inv-loop μ-loop
-pass-requires c κs =
+visit-requires : tie.Need-visit-requires Inv-loop μ-loop
+visit-requires c κs =
     let a = c .before .before .before .before .before .args in
     let d = c .before .loop .inv .0 .due in
     (due-inside (now (a .row)) (now (a .j)) _ _ _ d (c .loop-test .taken), d .sound, d .of)
@@ -58,28 +58,28 @@ store-operands-requires c κs =
 done : (c : tie.After-store-operands Inv-loop μ-loop)
     → let a = c .before .before .before .before .before .before .before .before .args in
     let l = c .before .before .before .before .loop in
-    let p = c .before .before .pass .result in
+    let p = c .before .before .visit .result in
     let aim = sets (now (a .area)) (a .start) (wordBytes (dueWords (now (a .row)) (now (a .j)) (a .code) (a .from) (a .count))) in
     Writing aim (now (a .row)) (now (a .j)) (a .code) (c .store-operands .last .0) (l .at + p .size) (l .to + 4 * width (a .code) * p .reported) (l .due - p .reported)
 done c =
     let a = c .before .before .before .before .before .before .before .before .args in
-    let p = c .before .before .pass .ensures in
+    let p = c .before .before .visit .ensures in
     rw (c .store-operands .ensures, p .0, p .1) (turn _ (now (a .row)) (now (a .j)) _ _ _ _ _ (c .before .before .before .before .loop .inv .0) (c .before .before .before .loop-test .taken))
 
 -- a record counts once or not at all
-once : (c : tie.After-store-operands Inv-loop μ-loop) → c .before .before .pass .result .reported ≤ 1
+once : (c : tie.After-store-operands Inv-loop μ-loop) → c .before .before .visit .result .reported ≤ 1
 once c =
     let a = c .before .before .before .before .before .before .before .before .args in
-    rw (c .before .before .pass .ensures .1) (one-if-le (reports (now (a .row)) (a .code) (entryOf (firstRecord (drop (c .before .before .before .before .loop .at) (now (a .j)))))))
+    rw (c .before .before .visit .ensures .1) (one-if-le (reports (now (a .row)) (a .code) (entryOf (firstRecord (drop (c .before .before .before .before .loop .at) (now (a .j)))))))
 
 -- what the record adds to the place in the area, and its own place in the journal
-adds : (c : tie.After-store-operands Inv-loop μ-loop) → 4 * c .before .before .before .before .before .width-of .result * c .before .before .pass .result .reported ≤ 8
+adds : (c : tie.After-store-operands Inv-loop μ-loop) → 4 * c .before .before .before .before .before .width-of .result * c .before .before .visit .result .reported ≤ 8
 adds c =
     let w = c .before .before .before .before .before .width-of in
-    omega (arith, once-le (4 * w .result) (c .before .before .pass .result .reported) (once c), w .ensures, width-some (c .before .before .before .before .before .before .before .before .args .code))
+    omega (arith, once-le (4 * w .result) (c .before .before .visit .result .reported) (once c), w .ensures, width-some (c .before .before .before .before .before .before .before .before .args .code))
 
 moves : (c : tie.After-store-operands Inv-loop μ-loop)
-    → let size = c .before .before .pass .result .size in
+    → let size = c .before .before .visit .result .size in
     (c .before .before .before .before .loop .at + size ≤ length (now (c .before .before .before .before .before .before .before .before .args .j))) × (10 ≤ size)
 moves c =
     let row = now (c .before .before .before .before .before .before .before .before .args .row) in
@@ -87,7 +87,7 @@ moves c =
     let l = c .before .before .before .before .loop in
     let d = l .inv .0 .due in
     let there = due-inside row j _ _ _ d (c .before .before .before .loop-test .taken) in
-    rw (c .before .before .pass .ensures .0) (walked-fits j (l .at) there (d .sound), walked-size j (l .at) there (d .sound) .0)
+    rw (c .before .before .visit .ensures .0) (walked-fits j (l .at) there (d .sound), walked-size j (l .at) there (d .sound) .0)
 
 add-at : tie.Need-add-at Inv-loop μ-loop
 add-at c = omega (arith, moves (c .before .before .before))
@@ -129,7 +129,7 @@ write-operands-spec =
     width-of-requires
     mul-step
     loop-holds
-    pass-requires
+    visit-requires
     store-operands-requires
     add-at
     mul-to

@@ -1,4 +1,4 @@
--- `walking::pass` meets its contract.
+-- `walking::visit` meets its contract.
 use mathlib.Core.Bool.{true}
 use mathlib.Core.Path.{_≡_, ap, _∙_}
 use Prim.Native.Nat.{_+_, _≤_}
@@ -10,8 +10,8 @@ use Rattle.journal.proofs.RecordLaws.{good-size, good-fits, good-node, 
 use Rattle.journal.proofs.Walks.{walked}
 use Rattle.journal.specs.Scanning.{goodHere}
 use Rattle.records.specs.declared.framing.Frame.{Frame}
-use Rattle.journal.proofs.walking.pass.Statement.{statement}
-use Rattle.journal.proofs.walking.pass.Tie as tie
+use Rattle.journal.proofs.walking.visit.Statement.{statement}
+use Rattle.journal.proofs.walking.visit.Tie as tie
 
 good : (c : tie.Start) → goodHere (now (c .args .j)) (c .args .at) ≡ true
 good c = walked (now (c .args .j)) (c .args .at) (c .pre .0) (c .pre .1)
@@ -47,8 +47,8 @@ returns c = (
   c .before .reported .ensures ∙ rw (good-reports (now (c .before .before .before .before .before .before .before .args .j)) (c .before .before .before .before .before .before .before .args .at) (good (c .before .before .before .before .before .before .before)) (now (c .before .before .before .before .before .before .before .args .row)) (c .before .before .before .before .before .before .before .args .code), c .before .before .before .before .read-type .ensures, c .before .before .before .before .before .read-frame .ensures),
 )
 
-pub pass-spec : {M : Type 1} → statement M
-pass-spec =
+pub visit-spec : {M : Type 1} → statement M
+visit-spec =
     tie.close
     (tie.spec
     read-frame-requires
