@@ -34,32 +34,32 @@ weight-is set kind w e = e ∙ bit-chooses (countLimit ^ (kind - 1)) (set / 2 ^ 
 
 -- the table, filled below a place: the invariant of `weights_of`
 pub record Filled (row table : List ℕ) (i : ℕ) : Type 0 where
-  pub size : length table ≡ 64
-  pub low : 16 ≤ i
-  pub high : i ≤ 64
-  pub each : (k : ℕ) → k < i → 16 ≤ k → getD table k 0 ≡ weightOf row (k / 16) (k % 16)
+  pub size : length table ≡ 160
+  pub low : 32 ≤ i
+  pub high : i ≤ 128
+  pub each : (k : ℕ) → k < i → 32 ≤ k → getD table k 0 ≡ weightOf row (k / 32) (k % 32)
 
 -- a turn of its loop
-pub filled-next : (row table : List ℕ) (i w : ℕ) → Filled row table i → i < 64 → w ≡ weightOf row (i / 16) (i % 16) → Filled row (set table i w) (i + 1)
+pub filled-next : (row table : List ℕ) (i w : ℕ) → Filled row table i → i < 128 → w ≡ weightOf row (i / 32) (i % 32) → Filled row (set table i w) (i + 1)
 filled-next row table i w f h e =
     record {
       size = simp length-set (f .size);
       low = omega arith;
       high = omega arith;
-      each = below-more (λ (k : ℕ). 16 ≤ k → getD (set table i w) k 0 ≡ weightOf row (k / 16) (k % 16)) i
+      each = below-more (λ (k : ℕ). 32 ≤ k → getD (set table i w) k 0 ≡ weightOf row (k / 32) (k % 32)) i
           (λ k l g. getD-set-other table i k w 0 (λ q. omega arith) ∙ f .each k l g)
           (λ g. getD-set-same table i w 0 (omega arith) ∙ e);
     }
 
 -- the table's entry of a good record
-weight-at : (row table : List ℕ) (kind node : ℕ) → Weights row table → IsOpcode kind → node ≤ largestType → getD table (16 * kind + node) 0 ≡ weightOf row kind node
+weight-at : (row table : List ℕ) (kind node : ℕ) → Weights row table → IsOpcode kind → node ≤ largestType → getD table (32 * kind + node) 0 ≡ weightOf row kind node
 weight-at row table kind node w o n =
-    let k : (16 * kind + node) / 16 ≡ kind = omega arith in
-    let m : (16 * kind + node) % 16 ≡ node = omega arith in
-    rw (k, m) at (w (16 * kind + node) (omega arith) (omega arith))
+    let k : (32 * kind + node) / 32 ≡ kind = omega arith in
+    let m : (32 * kind + node) % 32 ≡ node = omega arith in
+    rw (k, m) at (w (32 * kind + node) (omega arith) (omega arith))
 
 -- a good record with the weight that the table has for its shape
-pub weighed : (row j table : List ℕ) (at : ℕ) (s : Shape) (w : ℕ) → Weights row table → (goodHere j at ≡ true) × (s ≡ shapeAt j at) → w ≡ getD table (16 * s .kind + s .node) 0 → Weighed row j at (s .size) w
+pub weighed : (row j table : List ℕ) (at : ℕ) (s : Shape) (w : ℕ) → Weights row table → (goodHere j at ≡ true) × (s ≡ shapeAt j at) → w ≡ getD table (32 * s .kind + s .node) 0 → Weighed row j at (s .size) w
 weighed row j table at s w t g e =
     record {
       size-is = sym (ap (λ (x : Shape). x .size) (g .1));

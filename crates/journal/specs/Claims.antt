@@ -1,4 +1,4 @@
--- Claims about the journal's rules, cited by the contract of `scan`.
+-- Claims about the journal's rules, cited by the contracts of `scan` and `scope_row`.
 use Prim.Native.Nat.{ℕ, _≤_, _<_}
 use mathlib.Core.Path.{_≡_}
 use mathlib.Core.Bool.{true, false}
@@ -8,6 +8,7 @@ use lib.ListN.{length}
 use Rattle.words.specs.Cases.{Case, yes, no, agree}
 use Rattle.records.specs.Records.{records, allGood}
 use Rattle.journal.specs.Journal.{goodRecord, wellFormed}
+use Rattle.journal.specs.Scope.{rowOf}
 
 -- a record of this length, kind and node type, with an operand 42 and, in eight bytes of operands, a second one
 abbrev pub short : ℕ → ℕ → ℕ → List ℕ
@@ -57,3 +58,9 @@ WellFormedCases = T (agree wellFormed cases)
 -- 01: "Journal, at most 1,048,576 bytes", ".. or an oversized buffer is malformed."
 abbrev pub SizeLimit : Type 0
 SizeLimit = (j : List ℕ) → allGood goodRecord (records j) ≡ true → (length j ≤ 1048576 → wellFormed j ≡ true) × (1048576 < length j → wellFormed j ≡ false)
+
+-- 01, "What each scope reports": the sets of each row by node type from 0 to 16, where 2 is updates and 7 all three opcodes
+abbrev pub ScopeRows : Type 0
+ScopeRows = ((scope : ℕ) → 2147483648 ≤ scope → rowOf scope ≡ 0 ∷ 0 ∷ 0 ∷ 0 ∷ 0 ∷ 2 ∷ 0 ∷ 0 ∷ 2 ∷ 2 ∷ 7 ∷ 7 ∷ 7 ∷ 7 ∷ 7 ∷ 0 ∷ 0 ∷ [])
+    × (rowOf 1 ≡ 0 ∷ 2 ∷ 2 ∷ 2 ∷ 2 ∷ 2 ∷ 7 ∷ 2 ∷ 2 ∷ 7 ∷ 7 ∷ 7 ∷ 7 ∷ 7 ∷ 7 ∷ 0 ∷ 0 ∷ [])
+    × (rowOf 2 ≡ 0 ∷ 0 ∷ 0 ∷ 2 ∷ 0 ∷ 0 ∷ 0 ∷ 0 ∷ 0 ∷ 0 ∷ 0 ∷ 0 ∷ 0 ∷ 0 ∷ 0 ∷ 0 ∷ 0 ∷ [])

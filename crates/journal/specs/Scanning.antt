@@ -70,7 +70,7 @@ abbrev pub weightOf : List ℕ → ℕ → ℕ → ℕ
 weightOf row kind node = cond (holds (getD row node 0) kind) (countLimit ^ (kind - 1)) 0
 
 abbrev pub Weights : List ℕ → List ℕ → Type 0
-Weights row table = (i : ℕ) → 16 ≤ i → i < 64 → getD table i 0 ≡ weightOf row (i / 16) (i % 16)
+Weights row table = (i : ℕ) → 32 ≤ i → i < 128 → getD table i 0 ≡ weightOf row (i / 32) (i % 32)
 
 -- a good record of this size stands at a place, and adds this weight
 pub record Weighed (row j : List ℕ) (at size weight : ℕ) : Type 0 where

@@ -34,10 +34,10 @@ secondRow node = cond (eqb node 3) updates none
 abbrev pub noRow : ℕ → ℕ
 noRow node = none
 
--- The sets of a row, by node type from 0 to 14.
+-- The sets of a row, by node type from 0 to 16; there are no types 15 and 16 yet.
 abbrev pub byType : (ℕ → ℕ) → List ℕ
 byType row =
-    row 0 ∷ row 1 ∷ row 2 ∷ row 3 ∷ row 4 ∷ row 5 ∷ row 6 ∷ row 7 ∷ row 8 ∷ row 9 ∷ row 10 ∷ row 11 ∷ row 12 ∷ row 13 ∷ row 14 ∷ []
+    row 0 ∷ row 1 ∷ row 2 ∷ row 3 ∷ row 4 ∷ row 5 ∷ row 6 ∷ row 7 ∷ row 8 ∷ row 9 ∷ row 10 ∷ row 11 ∷ row 12 ∷ row 13 ∷ row 14 ∷ row 15 ∷ row 16 ∷ []
 
 -- 01: "The rule is a table with one row of node types for each scope"
 unfoldable pub rows : List (List ℕ)

@@ -41,7 +41,7 @@ fn counts_of(packed: u64) -> Counts
 }
 
 // The journal judged, and the operations counted that the row reports. Which marks were noted is left free; each is true.
-pub fn scan(j: &[u8], row: &[u8; 15]) -> Scanned
+pub fn scan(j: &[u8], row: &[u8; 17]) -> Scanned
     ensures { λ r. ⌜ (r .judgement ≡ judgementOf (now (row .entry)) (now (j .entry))) × Marked (now (row .entry)) (now (j .entry)) (r .marks) (r .noted) ⌝ }
     ensures rules { λ _. ⌜ WellFormedCases × SizeLimit ⌝ }
 {

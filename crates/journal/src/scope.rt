@@ -5,22 +5,23 @@ ghost use mathlib.Core.Bool.{true};
 ghost use mathlib.Core.List.{[]};
 ghost use lib.ListN.{getD};
 ghost use Rattle.journal.specs.Scope.{rows, scopeRow};
+ghost use Rattle.journal.specs.Claims.{ScopeRows};
 
-// One row for each scope that has one, by node type from 0 to 14: negative scopes, scope 1, scope 2.
+// One row for each scope that has one, by node type from 0 to 16, of which there are 1 to 14: negative scopes, scope 1, scope 2.
 // An entry is the set of opcodes that the scope reports of the type: 1 delete, 2 update, 4 add, added up.
-const ROWS: [[u8; 15]; 3] = [
-    [0, 0, 0, 0, 0, 2, 0, 0, 2, 2, 7, 7, 7, 7, 7],
-    [0, 2, 2, 2, 2, 2, 7, 2, 2, 7, 7, 7, 7, 7, 7],
-    [0, 0, 0, 2, 0, 0, 0, 0, 0, 0, 0, 0, 0, 0, 0],
+const ROWS: [[u8; 17]; 3] = [
+    [0, 0, 0, 0, 0, 2, 0, 0, 2, 2, 7, 7, 7, 7, 7, 0, 0],
+    [0, 2, 2, 2, 2, 2, 7, 2, 2, 7, 7, 7, 7, 7, 7, 0, 0],
+    [0, 0, 0, 2, 0, 0, 0, 0, 0, 0, 0, 0, 0, 0, 0, 0, 0],
 ];
 
 // A scope's row; a scope with none is not valid, and reports nothing.
 pub struct Row {
     pub valid: bool,
-    pub sets: [u8; 15],
+    pub sets: [u8; 17],
 }
 
-fn row_at(number: usize) -> [u8; 15]
+fn row_at(number: usize) -> [u8; 17]
     requires { ⌜ number < 3 ⌝ }
     ensures { λ r. ⌜ r ≡ getD rows number [] ⌝ }
 {
@@ -40,6 +41,7 @@ fn valid_row(number: usize) -> Row
 // The row of a scope.
 pub fn scope_row(scope: u32) -> Row
     ensures { λ r. ⌜ r ≡ scopeRow scope ⌝ }
+    ensures rows { λ _. ⌜ ScopeRows ⌝ }
 {
     if 2147483648 <= scope {
         return valid_row(0);
@@ -52,6 +54,6 @@ pub fn scope_row(scope: u32) -> Row
     }
     Row {
         valid: false,
-        sets: [0; 15],
+        sets: [0; 17],
     }
 }

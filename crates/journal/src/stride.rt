@@ -24,11 +24,11 @@ pub enum Step {
 }
 
 // What a record of this shape adds to the packed counts.
-fn weight_of(weights: &[u64; 64], shape: Shape) -> u64
+fn weight_of(weights: &[u64; 160], shape: Shape) -> u64
     requires { ⌜ (shape .kind ≤ 3) × (shape .node ≤ largestType) ⌝ }
-    ensures { λ r. ⌜ r ≡ getD (now (weights .entry)) (16 * shape .kind + shape .node) 0 ⌝ }
+    ensures { λ r. ⌜ r ≡ getD (now (weights .entry)) (32 * shape .kind + shape .node) 0 ⌝ }
 {
-    weights[16 * shape.kind + shape.node]
+    weights[32 * shape.kind + shape.node]
 }
 
 // The six bytes of a record's length, kind and node type as one number.
@@ -54,7 +54,7 @@ fn four_headers(j: &[u8], at: usize, size: usize, header: u64) -> bool
 // Past the records of a known header, four at a time, up to a limit.
 fn past_same(
     j: &[u8],
-    row: &[u8; 15],
+    row: &[u8; 17],
     from: Position,
     header: u64,
     size: usize,
@@ -78,7 +78,7 @@ fn past_same(
 }
 
 // Past records one at a time, up to an end: the step is the record's own length, and one sum counts all three opcodes.
-fn past_each(j: &[u8], row: &[u8; 15], weights: &[u64; 64], from: Position, end: usize) -> Step
+fn past_each(j: &[u8], row: &[u8; 17], weights: &[u64; 160], from: Position, end: usize) -> Step
     requires { ⌜ Reached (now row) (now j) from × Weights (now row) (now weights) × (end ≤ length (now j)) × (length (now j) ≤ sizeLimit) ⌝ }
     ensures { λ r. ⌜ Advanced (now (row .entry)) (now (j .entry)) end r ⌝ }
 {
@@ -111,7 +111,7 @@ fn clamped_end(at: usize, by: usize, end: usize) -> usize
 }
 
 // Past a record and more: those of the same header behind it, then others one at a time.
-pub fn stride(j: &[u8], row: &[u8; 15], weights: &[u64; 64], from: Position) -> Step
+pub fn stride(j: &[u8], row: &[u8; 17], weights: &[u64; 160], from: Position) -> Step
     requires { ⌜ Reached (now row) (now j) from × Weights (now row) (now weights) × (from .at < length (now j)) × (length (now j) ≤ sizeLimit) ⌝ }
     ensures { λ r. ⌜ Advanced (now (row .entry)) (now (j .entry)) (from .at + 1) r ⌝ }
 {

@@ -58,7 +58,7 @@ pub struct Visited {
 }
 
 // The record at a place from which the records are good.
-pub fn visit(j: &[u8], row: &[u8; 15], code: usize, at: usize) -> Visited
+pub fn visit(j: &[u8], row: &[u8; 17], code: usize, at: usize) -> Visited
     requires { ⌜ (at < length (now j)) × (allGood goodRecord (records (drop at (now j))) ≡ true) × IsOpcode code ⌝ }
     ensures { λ r. ⌜ (r .size ≡ sizeOf (drop at (now (j .entry)))) × (r .reported ≡ cond (reports (now (row .entry)) code (entryOf (firstRecord (drop at (now (j .entry)))))) 1 0) ⌝ }
 {
@@ -74,7 +74,7 @@ pub fn visit(j: &[u8], row: &[u8; 15], code: usize, at: usize) -> Visited
 // A place from which the list of an opcode is what it is of the whole journal from operation number k on, by the marks of a scan.
 pub fn find(
     j: &[u8],
-    row: &[u8; 15],
+    row: &[u8; 17],
     marks: &[u64; 128],
     noted: usize,
     code: usize,

@@ -34,17 +34,17 @@ fn weight(set: u8, kind: usize) -> u64
     LARGEST_WEIGHT * ((set / 4 % 2) as u64)
 }
 
-// The weights of a row.
-pub type WeightTable = [u64; 64];
+// The weights of a row, with room for a fourth kind, whose weights are 0.
+pub type WeightTable = [u64; 160];
 
-// The weights of a row: that of a kind and a node type stands at 16 times the kind and the type.
-pub fn weights_of(row: &[u8; 15]) -> WeightTable
+// The weights of a row: that of a kind and a node type stands at 32 times the kind and the type.
+pub fn weights_of(row: &[u8; 17]) -> WeightTable
     ensures { λ r. ⌜ Weights (now (row .entry)) r ⌝ }
 {
-    let mut table: [u64; 64] = [0; 64];
-    let mut i: usize = 16;
-    while i < 64 {
-        table[i] = weight(set_of(row, i % 16), i / 16);
+    let mut table: [u64; 160] = [0; 160];
+    let mut i: usize = 32;
+    while i < 128 {
+        table[i] = weight(set_of(row, i % 32), i / 32);
         i += 1;
     }
     table

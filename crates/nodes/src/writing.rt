@@ -45,7 +45,7 @@ fn store_operands(area: &mut [u8], to: usize, j: &[u8], at: usize, code: usize)
 fn write_operands(
     area: &mut [u8],
     j: &[u8],
-    row: &[u8; 15],
+    row: &[u8; 17],
     code: usize,
     from: usize,
     count: usize,
@@ -78,7 +78,7 @@ struct Part {
 fn write_part(
     area: &mut [u8],
     j: &[u8],
-    row: &[u8; 15],
+    row: &[u8; 17],
     marks: &[u64; 128],
     noted: usize,
     part: Part,
@@ -105,7 +105,7 @@ fn write_part(
 fn write_body(
     area: &mut [u8],
     j: &[u8],
-    row: &[u8; 15],
+    row: &[u8; 17],
     marks: &[u64; 128],
     noted: usize,
     passed: Counts,
@@ -139,7 +139,7 @@ fn write_body(
 pub fn write_answer(
     area: &mut [u8],
     j: &[u8],
-    row: &[u8; 15],
+    row: &[u8; 17],
     counts: Counts,
     marks: &[u64; 128],
     noted: usize,

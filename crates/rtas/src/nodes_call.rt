@@ -22,7 +22,7 @@ fn is_placed(memory: &[u8], address: usize) -> bool
 fn answer_counted(
     area: &mut [u8],
     j: &[u8],
-    row: &[u8; 15],
+    row: &[u8; 17],
     counts: Counts,
     marks: &[u64; 128],
     noted: usize,
@@ -46,7 +46,7 @@ fn answer_counted(
 }
 
 // The answer of a call in its work area: the journal is judged first.
-fn answer_area(area: &mut [u8], j: &[u8], row: &[u8; 15]) -> Status
+fn answer_area(area: &mut [u8], j: &[u8], row: &[u8; 17]) -> Status
     requires { ⌜ length (now area) ≡ areaSize ⌝ }
     ensures { λ r. ⌜ r ≡ areaStatus (now (row .entry)) (now (j .entry)) (now (area .entry)) ⌝ }
     ensures { λ _. ⌜ now (area .exit) ≡ areaAfter (now (row .entry)) (now (j .entry)) (now (area .entry)) ⌝ }

@@ -13,7 +13,7 @@ use Rattle.bench.proofs.draugsten_bench_scan.Tie as tie
 
 -- what the scan told, over the row of the scope
 told : (c : tie.After-scan) → c .scan .result .judgement ≡ judgementOf (rowOf (c .before .before .before .before .before .args .scope)) (now (c .before .before .before .before .before .args .journal))
-told c = c .scan .ensures .0 .0 ∙ ap (λ (r : Row). judgementOf (r .sets) (now (c .before .before .before .before .before .args .journal))) (c .before .before .before .scope-row .ensures)
+told c = c .scan .ensures .0 .0 ∙ ap (λ (r : Row). judgementOf (r .sets) (now (c .before .before .before .before .before .args .journal))) (c .before .before .before .scope-row .ensures .0)
 
 scope-row-requires : tie.Need-scope-row-requires
 scope-row-requires c κs = search needs

@@ -8,6 +8,7 @@ use borrow.Author.Needs.{needs}
 use borrow.Author.Tests.{le-leb, lt-leb, ne-eqb}
 use Rattle.journal.specs.Scope.{rows, rowOf, negative, valid, scopeRow}
 use Rattle.journal.specs.declared.scope.Row.{Row}
+use Rattle.journal.proofs.Claims.{scope-rows}
 use Rattle.journal.proofs.scope.scope_row.Statement.{statement}
 use Rattle.journal.proofs.scope.scope_row.Tie as tie
 
@@ -23,25 +24,25 @@ unfolding rows rowOf negative valid
 returns c =
     let scope = c .before .before .args .scope in
     let t = le-leb 2147483648 scope (c .before .if1 .taken) in
-    row-is _ scope 0 (c .valid-row .ensures) (rw t) (rw t)
+    (row-is _ scope 0 (c .valid-row .ensures) (rw t) (rw t), scope-rows)
 
 valid-row-requires-2 : tie.Need-valid-row-requires-2
 valid-row-requires-2 c κs = search needs
 
 returns-2 : tie.Need-returns-2
 unfolding rows rowOf negative valid
-returns-2 c = rw (c .before .if2 .taken) (row-is _ 1 1 (c .valid-row2 .ensures) refl refl)
+returns-2 c = (rw (c .before .if2 .taken) (row-is _ 1 1 (c .valid-row2 .ensures) refl refl), scope-rows)
 
 valid-row-requires-3 : tie.Need-valid-row-requires-3
 valid-row-requires-3 c κs = search needs
 
 returns-3 : tie.Need-returns-3
 unfolding rows rowOf negative valid
-returns-3 c = rw (c .before .if3 .taken) (row-is _ 2 2 (c .valid-row3 .ensures) refl refl)
+returns-3 c = (rw (c .before .if3 .taken) (row-is _ 2 2 (c .valid-row3 .ensures) refl refl), scope-rows)
 
 returns-4 : tie.Need-returns-4
 unfolding rowOf negative valid
-returns-4 c = rw (lt-leb _ _ (c .before .before .if1 .left), ne-eqb _ _ (c .before .if2 .left), ne-eqb _ _ (c .if3 .left))
+returns-4 c = (rw (lt-leb _ _ (c .before .before .if1 .left), ne-eqb _ _ (c .before .if2 .left), ne-eqb _ _ (c .if3 .left)), scope-rows)
 
 pub scope-row-spec : {M : Type 1} → statement M
 scope-row-spec =

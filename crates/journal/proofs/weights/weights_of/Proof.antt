@@ -11,7 +11,7 @@ abbrev Inv-loop : tie.InvT-loop
 Inv-loop row table₀ i₀ table i = Filled row table i
 
 abbrev μ-loop : tie.MeasureT-loop
-μ-loop row table₀ i₀ table i = 64 - i
+μ-loop row table₀ i₀ table i = 128 - i
 
 loop-holds : tie.Need-loop-holds Inv-loop μ-loop
 loop-holds c = record { size = refl; low = omega arith; high = omega arith; each = λ k l g. absurd (omega arith) }

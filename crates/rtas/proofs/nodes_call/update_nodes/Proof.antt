@@ -33,7 +33,7 @@ same-length-2 : tie.Need-same-length-2
 same-length-2 c = search needs
 
 returns-2 : tie.Need-returns-2
-returns-2 c = left-invalid (now (c .before .before .before .before .before .before .before .before .args .memory)) (c .before .before .before .before .before .before .before .before .args .address) (c .before .before .before .before .before .before .before .before .args .scope) (now (c .before .before .before .before .before .before .before .before .args .j)) (placed-yes (c .before .before .before)) (ap (λ (r : Row). r .valid) (sym (c .before .before .scope-row .ensures)) ∙ not-true _ (c .if2 .taken))
+returns-2 c = left-invalid (now (c .before .before .before .before .before .before .before .before .args .memory)) (c .before .before .before .before .before .before .before .before .args .address) (c .before .before .before .before .before .before .before .before .args .scope) (now (c .before .before .before .before .before .before .before .before .args .j)) (placed-yes (c .before .before .before)) (ap (λ (r : Row). r .valid) (sym (c .before .before .scope-row .ensures .0)) ∙ not-true _ (c .if2 .taken))
 
 add-answer-area : tie.Need-add-answer-area
 add-answer-area c = search needs
@@ -54,8 +54,8 @@ same-length-3 : tie.Need-same-length-3
 same-length-3 c = search needs
 
 returns-3 : tie.Need-returns-3
-returns-3 c = let sets-are = ap (λ (r : Row). r .sets) (c .before .before .before .before .before .before .before .before .scope-row .ensures) in
-    left-area (now (c .before .before .before .before .before .before .before .before .before .before .before .before .before .before .args .memory)) (c .before .before .before .before .before .before .before .before .before .before .before .before .before .before .args .address) (c .before .before .before .before .before .before .before .before .before .before .before .before .before .before .args .scope) (now (c .before .before .before .before .before .before .before .before .before .before .before .before .before .before .args .j)) (placed-yes (c .before .before .before .before .before .before .before .before .before)) (ap (λ (r : Row). r .valid) (sym (c .before .before .before .before .before .before .before .before .scope-row .ensures)) ∙ not-false _ (c .before .before .before .before .before .before .if2 .left)) _ _
+returns-3 c = let sets-are = ap (λ (r : Row). r .sets) (c .before .before .before .before .before .before .before .before .scope-row .ensures .0) in
+    left-area (now (c .before .before .before .before .before .before .before .before .before .before .before .before .before .before .args .memory)) (c .before .before .before .before .before .before .before .before .before .before .before .before .before .before .args .address) (c .before .before .before .before .before .before .before .before .before .before .before .before .before .before .args .scope) (now (c .before .before .before .before .before .before .before .before .before .before .before .before .before .before .args .j)) (placed-yes (c .before .before .before .before .before .before .before .before .before)) (ap (λ (r : Row). r .valid) (sym (c .before .before .before .before .before .before .before .before .scope-row .ensures .0)) ∙ not-false _ (c .before .before .before .before .before .before .if2 .left)) _ _
     (c .before .before .answer-area .kept .0 ∙ (let h = placed-inside (now (c .before .before .before .before .before .before .before .before .before .before .before .before .before .before .args .memory)) (c .before .before .before .before .before .before .before .before .before .before .before .before .before .before .args .address) (placed-yes (c .before .before .before .before .before .before .before .before .before)) in ap (λ (l : List ℕ). length l) (part-lent _ _ 4096 h) ∙ part-length _ _ 4096 h)) (rw sets-are at (c .before .before .answer-area .ensures))
 
 pub update-nodes-spec : {M : Type 1} → statement M
