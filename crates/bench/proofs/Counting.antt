@@ -5,6 +5,7 @@ use mathlib.Core.List.{List, _++_}
 use Prim.Native.Nat.{ℕ, _+_, _≤_}
 use native.Mathlib.Omega.{arith}
 use lib.ListN.{length, length-append}
+use Rattle.journal.specs.Scope.{Selection}
 use Rattle.journal.specs.declared.scanning.Judgement.{Judgement}
 use Rattle.journal.specs.declared.scanning.Judgement.the-variants.{Malformed, Counted}
 use Rattle.journal.specs.Journal.{entries, wellFormed}
@@ -30,22 +31,22 @@ abbrev pub Light : Judgement → Type 0
 Light Malformed = Unit {0}
 Light (Counted c) = c .deletes + c .updates + c .additions ≤ 3145728
 
-module _ (row j : List ℕ) where
-  pub total-is : total (judgementOf row j) ≡ cond (wellFormed j) (length (reportable row j)) 18446744073709551615
+module _ (sel : Selection) (j : List ℕ) where
+  pub total-is : total (judgementOf sel j) ≡ cond (wellFormed j) (length (reportable sel j)) 18446744073709551615
   unfolding judgementOf reportable
   total-is = go (wellFormed j)
     where
-      go : (t : Bool) → total (cond t (Counted (countsOf row j)) Malformed) ≡ cond t (length (chosen row 1 (entries j) ++ (chosen row 2 (entries j) ++ chosen row 3 (entries j)))) 18446744073709551615
-      go true = omega (arith, length-append (chosen row 1 (entries j)) (chosen row 2 (entries j) ++ chosen row 3 (entries j)), length-append (chosen row 2 (entries j)) (chosen row 3 (entries j)))
+      go : (t : Bool) → total (cond t (Counted (countsOf sel j)) Malformed) ≡ cond t (length (chosen sel 1 (entries j) ++ (chosen sel 2 (entries j) ++ chosen sel 3 (entries j)))) 18446744073709551615
+      go true = omega (arith, length-append (chosen sel 1 (entries j)) (chosen sel 2 (entries j) ++ chosen sel 3 (entries j)), length-append (chosen sel 2 (entries j)) (chosen sel 3 (entries j)))
       go false = refl
 
-  pub light : Light (judgementOf row j)
+  pub light : Light (judgementOf sel j)
   unfolding judgementOf
-  light = choose (wellFormed j) Light (λ t. omega (arith, within-limit j t, operations-few row j 1, operations-few row j 2, operations-few row j 3)) (λ _. tt)
+  light = choose (wellFormed j) Light (λ t. omega (arith, within-limit j t, operations-few sel j 1, operations-few sel j 2, operations-few sel j 3)) (λ _. tt)
 
   -- what is known of a judgement that is the scan's
-  module _ (g : Judgement) (is : g ≡ judgementOf row j) where
-    pub total-of : total g ≡ cond (wellFormed j) (length (reportable row j)) 18446744073709551615
+  module _ (g : Judgement) (is : g ≡ judgementOf sel j) where
+    pub total-of : total g ≡ cond (wellFormed j) (length (reportable sel j)) 18446744073709551615
     total-of = ap total is ∙ total-is
 
     pub light-of : Light g

@@ -6,12 +6,12 @@ use lib.ListN.{length}
 use Rattle.journal.specs.Journal.{wellFormed}
 use Rattle.inventory.specs.Inventory as inventory
 use Rattle.inventory.specs.Listing.{listed}
-use Rattle.journal.specs.Scope.{rowOf}
+use Rattle.journal.specs.Scope.{selectionOf}
 use Rattle.journal.specs.Reportable.{reportable}
 
 -- the length of the reportable list, or the highest number for a malformed journal
 unfoldable pub reportedOf : ℕ → List ℕ → ℕ
-reportedOf scope j = cond (wellFormed j) (length (reportable (rowOf scope) j)) 18446744073709551615
+reportedOf scope j = cond (wellFormed j) (length (reportable (selectionOf scope) j)) 18446744073709551615
 
 -- the number of entries of a flag and type, or the highest number for a malformed inventory
 unfoldable pub listedOf : ℕ → ℕ → List ℕ → ℕ

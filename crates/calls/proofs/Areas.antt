@@ -12,7 +12,7 @@ use Rattle.journal.specs.declared.scanning.Counts.{Counts}
 use Rattle.journal.specs.declared.scanning.Judgement.{Judgement}
 use Rattle.journal.specs.declared.scanning.Judgement.the-variants.{Malformed, Counted}
 use Rattle.journal.specs.Journal.{wellFormed}
-use Rattle.journal.specs.Scope.{valid, rowOf}
+use Rattle.journal.specs.Scope.{valid, Selection, selectionOf}
 use Rattle.journal.specs.Reportable.{reportable, countsOf, judgementOf}
 use Rattle.nodes.specs.Head.{isReserved}
 use Rattle.nodes.specs.Run.{remains, total}
@@ -25,59 +25,59 @@ use Rattle.words.proofs.Choice.{and-right}
 use Rattle.calls.proofs.Memory.{part-lent, part-back}
 
 -- what a status and an area afterwards are to be
-abbrev Left : List ℕ → List ℕ → List ℕ → Status → List ℕ → Type 0
-Left row j area s after = (s ≡ areaStatus row j area) × (after ≡ areaAfter row j area)
+abbrev Left : Selection → List ℕ → List ℕ → Status → List ℕ → Type 0
+Left selection j area s after = (s ≡ areaStatus selection j area) × (after ≡ areaAfter selection j area)
 
-module _ (row j area : List ℕ) where
-  pub left-malformed : wellFormed j ≡ false → Left row j area status.Malformed area
+module _ (selection : Selection) (j area : List ℕ) where
+  pub left-malformed : wellFormed j ≡ false → Left selection j area status.Malformed area
   unfolding areaStatus areaAfter
   left-malformed w = rw w (refl, refl)
 
   module _ (w : wellFormed j ≡ true) where
-    pub left-reserved : isReserved area ≡ false → Left row j area status.Parameter area
+    pub left-reserved : isReserved area ≡ false → Left selection j area status.Parameter area
     unfolding areaStatus areaAfter
     left-reserved e = rw (w, e) (refl, refl)
 
     module _ (z : isReserved area ≡ true) where
-      pub left-state : goodState row j area ≡ false → Left row j area status.Parameter area
+      pub left-state : goodState selection j area ≡ false → Left selection j area status.Parameter area
       unfolding areaStatus areaAfter
       left-state e = rw (w, z, e) (refl, refl)
 
-      pub left-again : goodState row j area ≡ true → remains (reportable row j) (be32 area 0) ≡ true → Left row j area status.Again (written area (reportable row j) (be32 area 0))
+      pub left-again : goodState selection j area ≡ true → remains (reportable selection j) (be32 area 0) ≡ true → Left selection j area status.Again (written area (reportable selection j) (be32 area 0))
       unfolding areaStatus areaAfter
       left-again e f = rw (w, z, e, f) (refl, refl)
 
-      pub left-done : goodState row j area ≡ true → remains (reportable row j) (be32 area 0) ≡ false → Left row j area status.Done (written area (reportable row j) (be32 area 0))
+      pub left-done : goodState selection j area ≡ true → remains (reportable selection j) (be32 area 0) ≡ false → Left selection j area status.Done (written area (reportable selection j) (be32 area 0))
       unfolding areaStatus areaAfter
       left-done e f = rw (w, z, e, f) (refl, refl)
 
 -- the code's test of the state
-pub state-is : (row j area : List ℕ) (state : ℕ) (c : Counts) → state ≡ be32 area 0 → c ≡ countsOf row j → (eqb state 0 || ltb state (total c)) ≡ goodState row j area
+pub state-is : (selection : Selection) (j area : List ℕ) (state : ℕ) (c : Counts) → state ≡ be32 area 0 → c ≡ countsOf selection j → (eqb state 0 || ltb state (total c)) ≡ goodState selection j area
 unfolding goodState
-state-is row j area state c e f = rw (e, f, total-is row j)
+state-is selection j area state c e f = rw (e, f, total-is selection j)
 
 -- a good state is no further than the end of the list
-pub state-within : (row j area : List ℕ) → goodState row j area ≡ true → be32 area 0 ≤ length (reportable row j)
+pub state-within : (selection : Selection) (j area : List ℕ) → goodState selection j area ≡ true → be32 area 0 ≤ length (reportable selection j)
 unfolding goodState
-state-within row j area = go (eqb (be32 area 0) 0) (ltb (be32 area 0) (length (reportable row j))) refl refl
+state-within selection j area = go (eqb (be32 area 0) 0) (ltb (be32 area 0) (length (reportable selection j))) refl refl
   where
-    go : (t u : Bool) → eqb (be32 area 0) 0 ≡ t → ltb (be32 area 0) (length (reportable row j)) ≡ u → (t || u) ≡ true → be32 area 0 ≤ length (reportable row j)
+    go : (t u : Bool) → eqb (be32 area 0) 0 ≡ t → ltb (be32 area 0) (length (reportable selection j)) ≡ u → (t || u) ≡ true → be32 area 0 ≤ length (reportable selection j)
     go true u p q e = omega (arith, eqb-true (be32 area 0) 0 p)
-    go false u p q e = omega (arith, ltb-true (be32 area 0) (length (reportable row j)) (q ∙ e))
+    go false u p q e = omega (arith, ltb-true (be32 area 0) (length (reportable selection j)) (q ∙ e))
 
-pub scanned-malformed : (row j : List ℕ) (g : Judgement) → g ≡ Malformed → g ≡ judgementOf row j → wellFormed j ≡ false
+pub scanned-malformed : (selection : Selection) (j : List ℕ) (g : Judgement) → g ≡ Malformed → g ≡ judgementOf selection j → wellFormed j ≡ false
 unfolding judgementOf
-scanned-malformed row j g e f = go (wellFormed j) (sym e ∙ f)
+scanned-malformed selection j g e f = go (wellFormed j) (sym e ∙ f)
   where
-    go : (t : Bool) → Malformed ≡ cond t (Counted (countsOf row j)) Malformed → t ≡ false
+    go : (t : Bool) → Malformed ≡ cond t (Counted (countsOf selection j)) Malformed → t ≡ false
     go true q = cc
     go false q = refl
 
-pub scanned-counted : (row j : List ℕ) (g : Judgement) (c : Counts) → g ≡ Counted c → g ≡ judgementOf row j → (wellFormed j ≡ true) × (c ≡ countsOf row j)
+pub scanned-counted : (selection : Selection) (j : List ℕ) (g : Judgement) (c : Counts) → g ≡ Counted c → g ≡ judgementOf selection j → (wellFormed j ≡ true) × (c ≡ countsOf selection j)
 unfolding judgementOf
-scanned-counted row j g c e f = go (wellFormed j) (sym e ∙ f)
+scanned-counted selection j g c e f = go (wellFormed j) (sym e ∙ f)
   where
-    go : (t : Bool) → Counted c ≡ cond t (Counted (countsOf row j)) Malformed → (t ≡ true) × (c ≡ countsOf row j)
+    go : (t : Bool) → Counted c ≡ cond t (Counted (countsOf selection j)) Malformed → (t ≡ true) × (c ≡ countsOf selection j)
     go true q = (refl, cc)
     go false q = (cc, cc)
 
@@ -102,12 +102,12 @@ module _ (m : List ℕ) (address scope : ℕ) (j : List ℕ) where
     left-invalid e = rw (p, e) (refl, refl)
 
     -- past the checks of address and scope the area decides
-    pub nodes-checked : valid scope ≡ true → nodesStatus m address scope j ≡ areaStatus (rowOf scope) j (areaAt m address)
+    pub nodes-checked : valid scope ≡ true → nodesStatus m address scope j ≡ areaStatus (selectionOf scope) j (areaAt m address)
     unfolding nodesStatus
     nodes-checked v = rw (p, v)
 
     -- the area is answered, and comes back as v into memory
-    pub left-area : valid scope ≡ true → (s : Status) (v : List ℕ) → length v ≡ 4096 → Left (rowOf scope) j (take (address + 4096 - address) (drop address m)) s v
+    pub left-area : valid scope ≡ true → (s : Status) (v : List ℕ) → length v ≡ 4096 → Left (selectionOf scope) j (take (address + 4096 - address) (drop address m)) s v
         → LeftAll m address scope j s (take address m ++ (v ++ drop (address + 4096 - address) (drop address m)))
     unfolding nodesStatus nodesMemory
     left-area e s v n l =

@@ -13,7 +13,7 @@ use Rattle.words.proofs.Numbers.{be-same, length-beBytes}
 use Rattle.words.proofs.Stores.{sets-before, sets-append, be-stored}
 use Rattle.journal.specs.declared.operation.Operation.{Operation}
 use Rattle.journal.specs.Journal.{wellFormed}
-use Rattle.journal.specs.Scope.{valid, rowOf}
+use Rattle.journal.specs.Scope.{valid, selectionOf}
 use Rattle.journal.specs.Reportable.{reportable}
 use Rattle.words.proofs.Choice.{choose, and-left, and-right}
 use Rattle.nodes.specs.Head.{isReserved}
@@ -36,7 +36,7 @@ decide false p q = q refl
 
 -- the list that a call hands out, and the state that it finds
 abbrev pub listed : ℕ → List ℕ → List Operation
-listed s j = reportable (rowOf s) j
+listed s j = reportable (selectionOf s) j
 
 abbrev pub state : List ℕ → ℕ → ℕ
 state m a = be32 (areaAt m a) 0
@@ -49,7 +49,7 @@ module _ (m : List ℕ) (a s : ℕ) (j : List ℕ) where
     pub scoped : valid s ≡ true
     pub formed : wellFormed j ≡ true
     pub clear : isReserved (areaAt m a) ≡ true
-    pub begun : goodState (rowOf s) j (areaAt m a) ≡ true
+    pub begun : goodState (selectionOf s) j (areaAt m a) ≡ true
 
   abbrev Checked : Status → Type 0
   Checked x = isAnswer x ≡ true → Passed
@@ -62,7 +62,7 @@ module _ (m : List ℕ) (a s : ℕ) (j : List ℕ) where
       (λ e₁. choose (valid s) Checked
       (λ e₂. choose (wellFormed j) Checked
       (λ e₃. choose (isReserved (areaAt m a)) Checked
-      (λ e₄. choose (goodState (rowOf s) j (areaAt m a)) Checked
+      (λ e₄. choose (goodState (selectionOf s) j (areaAt m a)) Checked
       (λ e₅ h. record {
         aligned = eqb-true _ _ (and-left _ _ e₁);
         inside = placed-inside m a e₁;
@@ -84,7 +84,7 @@ module _ (m : List ℕ) (a s : ℕ) (j : List ℕ) where
     unfolding placed
     well-placed = rw (eq-eqb _ _ (p .aligned), le-leb _ _ (p .inside))
 
-    area-status : areaStatus (rowOf s) j (areaAt m a) ≡ cond (remains (listed s j) (state m a)) Again Done
+    area-status : areaStatus (selectionOf s) j (areaAt m a) ≡ cond (remains (listed s j) (state m a)) Again Done
     unfolding areaStatus
     area-status = rw (p .formed, p .clear, p .begun)
 

@@ -14,7 +14,7 @@ use Rattle.journal.specs.Journal.{wellFormed}
 use Rattle.journal.specs.Reportable.{reportable}
 use Rattle.nodes.specs.Head.{isReserved}
 use Rattle.nodes.specs.Run.{remains}
-use Rattle.journal.specs.Scope.{valid, rowOf}
+use Rattle.journal.specs.Scope.{valid, Selection, selectionOf}
 use Rattle.calls.specs.declared.status.Number.the-variants.{Given}
 use Rattle.calls.specs.declared.status.Status.the-variants.{Done, Again, Malformed, Parameter}
 use Rattle.calls.specs.Status.{numberOf, isGiven, isAnswer, statusWord}
@@ -38,9 +38,9 @@ use Rattle.calls.proofs.Requests.{indices-refused, indices-outside, ind
 -- ---- the memory that update-nodes leaves
 
 -- an area that is answered had a good state
-answers-state : (row j area : List ℕ) → isAnswer (areaStatus row j area) ≡ true → goodState row j area ≡ true
+answers-state : (selection : Selection) (j area : List ℕ) → isAnswer (areaStatus selection j area) ≡ true → goodState selection j area ≡ true
 unfolding areaStatus
-answers-state row j area = go (wellFormed j) (isReserved area) (goodState row j area) (remains (reportable row j) (be32 area 0))
+answers-state selection j area = go (wellFormed j) (isReserved area) (goodState selection j area) (remains (reportable selection j) (be32 area 0))
   where
     go : (w r g m : Bool) → isAnswer (cond w (cond r (cond g (cond m Again Done) Parameter) Parameter) Malformed) ≡ true → g ≡ true
     go w r true m e = refl
@@ -48,10 +48,10 @@ answers-state row j area = go (wellFormed j) (isReserved area) (goodState row j 
     go true false false m e = e
     go true true false m e = e
 
-after-length : (row j area : List ℕ) → length area ≡ 4096 → length (areaAfter row j area) ≡ 4096
+after-length : (selection : Selection) (j area : List ℕ) → length area ≡ 4096 → length (areaAfter selection j area) ≡ 4096
 unfolding areaAfter
-after-length row j area size = decide (isAnswer (areaStatus row j area))
-    (λ e. rw e (written-length area (reportable row j) (be32 area 0) size (state-within row j area (answers-state row j area e))))
+after-length selection j area size = decide (isAnswer (areaStatus selection j area))
+    (λ e. rw e (written-length area (reportable selection j) (be32 area 0) size (state-within selection j area (answers-state selection j area e))))
     (λ e. rw e size)
 
 module _ (m : List ℕ) (address scope : ℕ) (j : List ℕ) where
@@ -59,9 +59,9 @@ module _ (m : List ℕ) (address scope : ℕ) (j : List ℕ) where
   area = areaAt m address
 
   abbrev next : List ℕ
-  next = areaAfter (rowOf scope) j area
+  next = areaAfter (selectionOf scope) j area
 
-  after-none : isAnswer (areaStatus (rowOf scope) j area) ≡ false → next ≡ area
+  after-none : isAnswer (areaStatus (selectionOf scope) j area) ≡ false → next ≡ area
   unfolding areaAfter
   after-none e = rw e
 
@@ -78,7 +78,7 @@ module _ (m : List ℕ) (address scope : ℕ) (j : List ℕ) where
   nodes-refused : isAnswer (nodesStatus m address scope j) ≡ false → nodesMemory m address scope j ≡ m
   nodes-refused e = ways (λ (l : List ℕ). l ≡ m) (λ p v. ap (withArea m address) (after-none (sym (ap isAnswer (status-here p v)) ∙ e)) ∙ part-same m address 4096) refl
     where
-      status-here : placed m address ≡ true → valid scope ≡ true → nodesStatus m address scope j ≡ areaStatus (rowOf scope) j area
+      status-here : placed m address ≡ true → valid scope ≡ true → nodesStatus m address scope j ≡ areaStatus (selectionOf scope) j area
       status-here p v = nodes-checked m address scope j p v
 
   module _ (p : placed m address ≡ true) where
@@ -86,7 +86,7 @@ module _ (m : List ℕ) (address scope : ℕ) (j : List ℕ) where
     inside = placed-inside m address p
 
     size : length next ≡ 4096
-    size = after-length (rowOf scope) j area (part-length m address 4096 inside)
+    size = after-length (selectionOf scope) j area (part-length m address 4096 inside)
 
   nodes-length : length (nodesMemory m address scope j) ≡ length m
   nodes-length = ways (λ (l : List ℕ). length l ≡ length m) (λ p v. part-kept m address 4096 (inside p) next (size p)) refl

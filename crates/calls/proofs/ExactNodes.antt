@@ -15,7 +15,7 @@ use Rattle.words.proofs.Choice.{choose}
 use Rattle.words.proofs.Stores.{length-wordBytes, wordBytes-append, wordBytes-one}
 use Rattle.journal.specs.declared.operation.Operation.{Operation}
 use Rattle.journal.specs.Journal.{wellFormed}
-use Rattle.journal.specs.Scope.{negative, valid, rowOf}
+use Rattle.journal.specs.Scope.{negative, valid, Selection, selectionOf}
 use Rattle.journal.specs.Reportable.{reportable}
 use Rattle.nodes.specs.Head.{isReserved}
 use Rattle.nodes.specs.Run.{cost, run, remains, nextState}
@@ -48,9 +48,9 @@ valid-exact : (scope : ℕ) → Exactly (valid scope ≡ true) ((2147483648 ≤ 
 unfolding valid negative
 valid-exact scope = either (leb 2147483648 scope) _ (at-most 2147483648 scope) (either (eqb scope 1) (eqb scope 2) (equal scope 1) (equal scope 2))
 
-state-exact : (row j area : List ℕ) → Exactly (goodState row j area ≡ true) ((be32 area 0 ≡ 0) ⊎ (be32 area 0 < length (reportable row j)))
+state-exact : (selection : Selection) (j area : List ℕ) → Exactly (goodState selection j area ≡ true) ((be32 area 0 ≡ 0) ⊎ (be32 area 0 < length (reportable selection j)))
 unfolding goodState
-state-exact row j area = either (eqb (be32 area 0) 0) (ltb (be32 area 0) (length (reportable row j))) (equal (be32 area 0) 0) (below (be32 area 0) (length (reportable row j)))
+state-exact selection j area = either (eqb (be32 area 0) 0) (ltb (be32 area 0) (length (reportable selection j))) (equal (be32 area 0) 0) (below (be32 area 0) (length (reportable selection j)))
 
 asked-exact : (m : List ℕ) (address scope : ℕ) → Exactly ((placed m address && valid scope) ≡ true) (exact.Asked m address scope)
 asked-exact m address scope =
@@ -91,7 +91,7 @@ module _ (m j : List ℕ) (address scope : ℕ) where
   area = areaAt m address
 
   abbrev os : List Operation
-  os = reportable (rowOf scope) j
+  os = reportable (selectionOf scope) j
 
   abbrev state : ℕ
   state = be32 area 0
@@ -102,7 +102,7 @@ module _ (m j : List ℕ) (address scope : ℕ) where
   abbrev after : List ℕ
   after = nodesMemory m address scope j
 
-  status-is : nodesStatus m address scope j ≡ ladder (placed m address) (valid scope) (wellFormed j) (isReserved area) (goodState (rowOf scope) j area) (remains os state)
+  status-is : nodesStatus m address scope j ≡ ladder (placed m address) (valid scope) (wellFormed j) (isReserved area) (goodState (selectionOf scope) j area) (remains os state)
   unfolding nodesStatus areaStatus
   status-is = refl
 
@@ -114,7 +114,7 @@ module _ (m j : List ℕ) (address scope : ℕ) where
   answered = (
     (λ h. let p = passed h in (
       record { aligned = p .aligned; inside = p .inside; scoped = valid-exact scope .0 (p .scoped) },
-      record { formed = p .formed; clear = p .clear; begun = state-exact (rowOf scope) j area .0 (p .begun) },
+      record { formed = p .formed; clear = p .clear; begun = state-exact (selectionOf scope) j area .0 (p .begun) },
     )),
     (λ h. at-most status 1 .0 (nodes-answers m address scope j (record {
       aligned = h .0 .aligned;
@@ -122,13 +122,13 @@ module _ (m j : List ℕ) (address scope : ℕ) where
       scoped = valid-exact scope .1 (h .0 .scoped);
       formed = h .1 .formed;
       clear = h .1 .clear;
-      begun = state-exact (rowOf scope) j area .1 (h .1 .begun);
+      begun = state-exact (selectionOf scope) j area .1 (h .1 .begun);
     }))),
   )
 
   malformed : Exactly (status ≡ minus 1) (exact.Asked m address scope × (wellFormed j ≡ false))
   malformed =
-      let test = ap isMalformed status-is ∙ ladder-malformed (placed m address) (valid scope) (wellFormed j) (isReserved area) (goodState (rowOf scope) j area) (remains os state) in
+      let test = ap isMalformed status-is ∙ ladder-malformed (placed m address) (valid scope) (wellFormed j) (isReserved area) (goodState (selectionOf scope) j area) (remains os state) in
       same (eqb status 4294967295) ((placed m address && valid scope) && not (wellFormed j)) test (equal status 4294967295)
       (both (placed m address && valid scope) (not (wellFormed j)) (asked-exact m address scope) (fails (wellFormed j)))
 
@@ -137,7 +137,7 @@ module _ (m j : List ℕ) (address scope : ℕ) where
     p = passed h
 
     within : state ≤ length os
-    within = state-within (rowOf scope) j area (p .begun)
+    within = state-within (selectionOf scope) j area (p .begun)
 
     size : length area ≡ 4096
     size = part-length m address 4096 (p .inside)
@@ -151,7 +151,7 @@ module _ (m j : List ℕ) (address scope : ℕ) where
     answers : Bytes j → exact.Answer area (areaAt after address) os (run os state) state status
     unfolding remains nextState isReserved
     answers bytes =
-        let listed : Listed os = area-claims .reportable-listed (rowOf scope) j bytes (p .formed) in
+        let listed : Listed os = area-claims .reportable-listed (selectionOf scope) j bytes (p .formed) in
         rw left-is
         (record {
           longest = area-claims .longest-run os state;
@@ -169,7 +169,7 @@ module _ (m j : List ℕ) (address scope : ℕ) where
       record {
         answered = answered;
         malformed = malformed;
-        otherwise = ladder-otherwise (placed m address) (valid scope) (wellFormed j) (isReserved area) (goodState (rowOf scope) j area) (remains os state);
+        otherwise = ladder-otherwise (placed m address) (valid scope) (wellFormed j) (isReserved area) (goodState (selectionOf scope) j area) (remains os state);
         answers = λ bytes h. answers h bytes;
         memory = λ h. nodes-memory m address scope j (passed h);
       }

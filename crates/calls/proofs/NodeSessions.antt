@@ -14,7 +14,7 @@ use Rattle.words.specs.Numbers.{be32, beBytes, wordBytes}
 use Rattle.words.specs.Reading.{read}
 use Rattle.journal.specs.declared.operation.Operation.{Operation}
 use Rattle.journal.specs.Journal.{wellFormed}
-use Rattle.journal.specs.Scope.{valid, rowOf}
+use Rattle.journal.specs.Scope.{valid, selectionOf}
 use Rattle.journal.specs.Reportable.{operandWords}
 use Rattle.nodes.specs.Run.{run, remains, nextState}
 use Rattle.nodes.specs.Area.{written}
@@ -169,5 +169,5 @@ module _ (j : List ℕ) (s : ℕ) (ls : Listed (listed s j)) where
 
 pub demand3 : Demand3
 demand3 j s bytes w v cs h =
-    let ls = area-claims .reportable-listed (rowOf s) j bytes w in
+    let ls = area-claims .reportable-listed (selectionOf s) j bytes w in
     (accounted j s ls w v cs h, ends j s ls w v cs h)

@@ -8,7 +8,7 @@ use lib.ListN.{length, take, getD}
 use lib.Seq.{sets}
 use Rattle.words.specs.Numbers.{Bytes, be32, beBytes}
 use Rattle.journal.specs.Journal.{wellFormed}
-use Rattle.journal.specs.Scope.{valid, rowOf}
+use Rattle.journal.specs.Scope.{valid, selectionOf}
 use Rattle.journal.specs.Reportable.{reportable, operandWords}
 use Rattle.words.specs.Reading.{read, readings}
 use Rattle.nodes.specs.Reading.{reading}
@@ -97,4 +97,4 @@ Ends j scope os cs = (n : ℕ) → Among after (WellMade j scope) start cs n →
 
 abbrev pub Demand3 : Type 0
 Demand3 = (j : List ℕ) (scope : ℕ) → Bytes j → wellFormed j ≡ true → valid scope ≡ true → (cs : List Found) → Session j scope cs
-    → let os = reportable (rowOf scope) j in Accounted j scope os (standing cs) × Ends j scope os cs
+    → let os = reportable (selectionOf scope) j in Accounted j scope os (standing cs) × Ends j scope os cs

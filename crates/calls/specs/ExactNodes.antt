@@ -10,7 +10,7 @@ use lib.Seq.{slice}
 use Rattle.words.specs.Numbers.{Bytes, be32, zeros}
 use Rattle.journal.specs.declared.operation.Operation.{Operation}
 use Rattle.journal.specs.Journal.{wellFormed}
-use Rattle.journal.specs.Scope.{rowOf}
+use Rattle.journal.specs.Scope.{selectionOf}
 use Rattle.journal.specs.Reportable.{reportable}
 use Rattle.nodes.specs.Run.{cost, run}
 use Rattle.nodes.specs.Longest.{LongestOf}
@@ -52,13 +52,13 @@ pub record Answer (area left : List ℕ) (os handed : List Operation) (state sta
 pub record ExactNodes (m j : List ℕ) (address scope status : ℕ) (after : List ℕ) : Type 0 where
   pub answered :
       let area = partAt m address 4096 in
-      Exactly (status ≤ 1) (Asked m address scope × Passed j area (reportable (rowOf scope) j))
+      Exactly (status ≤ 1) (Asked m address scope × Passed j area (reportable (selectionOf scope) j))
   pub malformed : Exactly (status ≡ minus 1) (Asked m address scope × (wellFormed j ≡ false))
   pub otherwise : (status ≤ 1 → ⊥) → (status ≡ minus 1 → ⊥) → status ≡ minus 3
   pub answers : Bytes j → status ≤ 1 →
       let area = partAt m address 4096 in
-      let os = reportable (rowOf scope) j in
+      let os = reportable (selectionOf scope) j in
       Answer area (partAt after address 4096) os (run os (be32 area 0)) (be32 area 0) status
   pub memory : status ≤ 1 →
       let area = partAt m address 4096 in
-      after ≡ withPart m address 4096 (written area (reportable (rowOf scope) j) (be32 area 0))
+      after ≡ withPart m address 4096 (written area (reportable (selectionOf scope) j) (be32 area 0))

@@ -194,7 +194,7 @@ cases =
     ∷ nodes (journalOf 1 0 508) 1 0 0 509 0
     ∷ nodes (journalOf 0 1 508) 1 0 0 509 0
     ∷ nodes (journalOf 0 1018 0) 1 0 0 1018 0
-    -- what each scope reports, deletes, then updates, then additions; every negative scope has the same row
+    -- what each scope reports, deletes, then updates, then additions; every negative scope has the same selection
     ∷ reports 2147483648 (16777221 ∷ 10 ∷ 11 ∷ 12 ∷ 13 ∷ 14 ∷ 33554440 ∷ 5 ∷ 8 ∷ 9 ∷ 10 ∷ 11 ∷ 12 ∷ 13 ∷ 14 ∷ 50331658 ∷ 10 ∷ 77 ∷ 11 ∷ 77 ∷ 12 ∷ 77 ∷ 13 ∷ 77 ∷ 14 ∷ 77 ∷ 0 ∷ [])
     ∷ reports 4294967295 (16777221 ∷ 10 ∷ 11 ∷ 12 ∷ 13 ∷ 14 ∷ 33554440 ∷ 5 ∷ 8 ∷ 9 ∷ 10 ∷ 11 ∷ 12 ∷ 13 ∷ 14 ∷ 50331658 ∷ 10 ∷ 77 ∷ 11 ∷ 77 ∷ 12 ∷ 77 ∷ 13 ∷ 77 ∷ 14 ∷ 77 ∷ 0 ∷ [])
     ∷ reports 1 (16777223 ∷ 6 ∷ 9 ∷ 10 ∷ 11 ∷ 12 ∷ 13 ∷ 14 ∷ 33554446 ∷ 1 ∷ 2 ∷ 3 ∷ 4 ∷ 5 ∷ 6 ∷ 7 ∷ 8 ∷ 9 ∷ 10 ∷ 11 ∷ 12 ∷ 13 ∷ 14 ∷ 50331662 ∷ 6 ∷ 77 ∷ 9 ∷ 77 ∷ 10 ∷ 77 ∷ 11 ∷ 77 ∷ 12 ∷ 77 ∷ 13 ∷ 77 ∷ 14 ∷ 77 ∷ 0 ∷ [])

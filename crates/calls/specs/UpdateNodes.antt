@@ -5,7 +5,7 @@ use mathlib.Core.List.{List}
 use lib.Dec.{leb, eqb}
 use lib.ListN.{length}
 use Rattle.journal.specs.Journal.{wellFormed}
-use Rattle.journal.specs.Scope.{valid, rowOf}
+use Rattle.journal.specs.Scope.{valid, selectionOf, Selection}
 use Rattle.journal.specs.Reportable.{reportable}
 use Rattle.nodes.specs.Head.{areaSize, stateIn, isReserved}
 use Rattle.nodes.specs.Run.{remains}
@@ -28,32 +28,32 @@ unfoldable pub placed : List ℕ → ℕ → Bool
 placed m address = eqb (address % areaSize) 0 && leb (address + areaSize) (length m)
 
 -- 01: "The state is 0, or above 0 and below the length of the reportable list."
-unfoldable pub goodState : List ℕ → List ℕ → List ℕ → Bool
-goodState row j area = isWithin (stateIn area) (length (reportable row j))
+unfoldable pub goodState : Selection → List ℕ → List ℕ → Bool
+goodState selection j area = isWithin (stateIn area) (length (reportable selection j))
 
 -- The checks of the area, after those of address and scope: journal (-1), reserved bytes (-3), state (-3).
-unfoldable pub areaStatus : List ℕ → List ℕ → List ℕ → Status
-areaStatus row j area =
+unfoldable pub areaStatus : Selection → List ℕ → List ℕ → Status
+areaStatus selection j area =
     cond (wellFormed j)
     (cond (isReserved area)
-    (cond (goodState row j area)
-    (cond (remains (reportable row j) (stateIn area)) Again Done)
+    (cond (goodState selection j area)
+    (cond (remains (reportable selection j) (stateIn area)) Again Done)
     Parameter)
     Parameter)
     Malformed
 
-unfoldable pub areaAfter : List ℕ → List ℕ → List ℕ → List ℕ
-areaAfter row j area = cond (isAnswer (areaStatus row j area)) (written area (reportable row j) (stateIn area)) area
+unfoldable pub areaAfter : Selection → List ℕ → List ℕ → List ℕ
+areaAfter selection j area = cond (isAnswer (areaStatus selection j area)) (written area (reportable selection j) (stateIn area)) area
 
 -- 01: "Checks in order: address .. (-3); scope (-3); journal (-1); bytes 4 to 15 of the area zero (-3); state (-3)."
 unfoldable pub nodesStatus : List ℕ → ℕ → ℕ → List ℕ → Status
 nodesStatus m address scope j =
     cond (placed m address)
     (cond (valid scope)
-    (areaStatus (rowOf scope) j (areaAt m address))
+    (areaStatus (selectionOf scope) j (areaAt m address))
     Parameter)
     Parameter
 
 unfoldable pub nodesMemory : List ℕ → ℕ → ℕ → List ℕ → List ℕ
 nodesMemory m address scope j =
-    cond (placed m address && valid scope) (withArea m address (areaAfter (rowOf scope) j (areaAt m address))) m
+    cond (placed m address && valid scope) (withArea m address (areaAfter (selectionOf scope) j (areaAt m address))) m

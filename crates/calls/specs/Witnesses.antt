@@ -9,7 +9,7 @@ use Rattle.words.specs.Numbers.{Bytes, wordBytes}
 use Rattle.dump.specs.Registration.{noRegistration}
 use Rattle.dump.specs.Claims.{times}
 use Rattle.journal.specs.Journal.{wellFormed}
-use Rattle.journal.specs.Scope.{valid, rowOf}
+use Rattle.journal.specs.Scope.{valid, selectionOf}
 use Rattle.journal.specs.Reportable.{reportable, operandWords}
 use Rattle.journal.specs.Claims.{long}
 use Rattle.inventory.specs.Inventory as inventory
@@ -41,7 +41,7 @@ pub record NodesWitness : Type 0 where
   pub session : nodes.Session additions 1 nodesCalls
   pub refused : isAnswered (nodesCall 4096 0) ≡ false
   pub well-made : Among nodes.after (nodes.WellMade additions 1) nodes.start nodesCalls 2
-  pub enough : operandWords (reportable (rowOf 1) additions) < 1015 * 2
+  pub enough : operandWords (reportable (selectionOf 1) additions) < 1015 * 2
   pub ended : nodes.standing nodesCalls .done ≡ true
 
 -- ---- the whole list: two sensors of type 9 with codes of 79 bytes, of which an area of 92 bytes holds one

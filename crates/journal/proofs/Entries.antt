@@ -7,6 +7,7 @@ use lib.ListN.{length, drop, length-map}
 use Rattle.records.specs.Records.{sizeOf, firstRecord, records}
 use Rattle.records.proofs.Steps.{records-step, records-end, records-few}
 use Rattle.records.proofs.Choosing.{Items, chosen-few}
+use Rattle.journal.specs.Scope.{Selection}
 use Rattle.journal.specs.Journal.{entryOf, entries}
 use Rattle.journal.specs.Reportable.{operation, reports, chosen}
 
@@ -24,6 +25,6 @@ pub each-entry : Items entries (λ (b : List ℕ). entryOf (firstRecord b))
 each-entry = record { step = entries-step; end = entries-end }
 
 -- no more operations than bytes
-pub operations-few : (row j : List ℕ) (code : ℕ) → length (chosen row code (entries j)) ≤ length j
+pub operations-few : (sel : Selection) (j : List ℕ) (code : ℕ) → length (chosen sel code (entries j)) ≤ length j
 unfolding entries records
-operations-few row j code = omega (arith, chosen-few (reports row code) operation (entries j), length-map (records j) entryOf, records-few 0 j)
+operations-few sel j code = omega (arith, chosen-few (reports sel code) operation (entries j), length-map (records j) entryOf, records-few 0 j)

@@ -11,6 +11,7 @@ use lib.Seq.{length-sets, getD-set-same, getD-set-other}
 use borrow.Author.Count.{below-more}
 use borrow.Author.Tests.{le-leb, lt-leb, leb-true}
 use Rattle.words.proofs.Stores.{sets-before}
+use Rattle.journal.specs.Scope.{Selection}
 use Rattle.journal.specs.declared.marks.Place.{Place}
 use Rattle.journal.specs.declared.stride.Position.{Position}
 use Rattle.journal.specs.Journal.{IsOpcode}
@@ -33,12 +34,12 @@ noted-length m n p m′ r unchanged = refl
 noted-length m n p m′ r (added h) = length-sets m (2 * n) (p .at ∷ p .counts ∷ [])
 
 -- no marks are true marks: the scan's start
-pub marked-none : (row j m : List ℕ) → Marked row j m 0
-marked-none row j m = record { few = omega arith; each = λ i code h. absurd (omega arith) }
+pub marked-none : (sel : Selection) (j m : List ℕ) → Marked sel j m 0
+marked-none sel j m = record { few = omega arith; each = λ i code h. absurd (omega arith) }
 
 -- a place that the scan came to resumes the list of each opcode
-reached-resumes : (row j : List ℕ) (p : Position) (code : ℕ) → Reached row j p → IsOpcode code → Resumes row j code (count code (p .counts)) (p .at) 0
-reached-resumes row j p code r o = record {
+reached-resumes : (sel : Selection) (j : List ℕ) (p : Position) (code : ℕ) → Reached sel j p → IsOpcode code → Resumes sel j code (count code (p .counts)) (p .at) 0
+reached-resumes sel j p code r o = record {
   inside = r .inside;
   sound = λ w. sym (r .good) ∙ w;
   number = omega (arith, r .before code o .number);
@@ -46,9 +47,9 @@ reached-resumes row j p code r o = record {
 }
 
 -- the marks stay true when such a place is noted: the scan's turn
-pub marked-note : (row j m : List ℕ) (n : ℕ) (p : Position) (m′ : List ℕ) (r : ℕ) → length m ≡ 128 → Reached row j p → Marked row j m n → Noted m n p m′ r → Marked row j m′ r
-marked-note row j m n p m′ r l reached marked unchanged = marked
-marked-note row j m n p m′ r l reached marked (added h) =
+pub marked-note : (sel : Selection) (j m : List ℕ) (n : ℕ) (p : Position) (m′ : List ℕ) (r : ℕ) → length m ≡ 128 → Reached sel j p → Marked sel j m n → Noted m n p m′ r → Marked sel j m′ r
+marked-note sel j m n p m′ r l reached marked unchanged = marked
+marked-note sel j m n p m′ r l reached marked (added h) =
     let first = set m (2 * n) (p .at) in
     let new = set first (suc (2 * n)) (p .counts) in
     let at-is : getD new (2 * n) 0 ≡ p .at = getD-set-other first (suc (2 * n)) (2 * n) (p .counts) 0 (λ e. omega arith) ∙ getD-set-same m (2 * n) (p .at) 0 (omega arith) in
@@ -56,9 +57,9 @@ marked-note row j m n p m′ r l reached marked (added h) =
     let old : (k : ℕ) → k < 2 * n → getD new k 0 ≡ getD m k 0 = sets-before (p .at ∷ p .counts ∷ []) m (2 * n) in
     record {
       few = omega arith;
-      each = λ i code q. below-more (λ (k : ℕ). IsOpcode code → Resumes row j code (count code (getD new (2 * k + 1) 0)) (getD new (2 * k) 0) 0) n
+      each = λ i code q. below-more (λ (k : ℕ). IsOpcode code → Resumes sel j code (count code (getD new (2 * k + 1) 0)) (getD new (2 * k) 0) 0) n
           (λ k g. rw (old (2 * k) (omega arith), old (2 * k + 1) (omega arith)) (marked .each k code g))
-          (rw (add-one (2 * n), at-is, counts-is) (reached-resumes row j p code reached)) i q;
+          (rw (add-one (2 * n), at-is, counts-is) (reached-resumes sel j p code reached)) i q;
     }
 
 -- ---- the mark sought
@@ -91,21 +92,21 @@ module _ (m : List ℕ) (code k : ℕ) where
   sought-start (suc n) h = absurd (omega arith)
 
 -- a place that resumes a list from a number on resumes it from a later one
-later : (row j : List ℕ) (code n k at : ℕ) → Resumes row j code n at 0 → n ≤ k → Resumes row j code k at (k - n)
-later row j code n k at r h =
-    let before : Before row j at code n = record { number = omega (arith, r .number); rest = r .same } in
+later : (sel : Selection) (j : List ℕ) (code n k at : ℕ) → Resumes sel j code n at 0 → n ≤ k → Resumes sel j code k at (k - n)
+later sel j code n k at r h =
+    let before : Before sel j at code n = record { number = omega (arith, r .number); rest = r .same } in
     record {
       inside = r .inside;
       sound = r .sound;
       number = omega (arith, r .number);
-      same = before-later (reports row code) operation each-entry j at n before k h;
+      same = before-later (reports sel code) operation each-entry j at n before k h;
     }
 
 -- what is sought resumes the list of the opcode from number k on, for the writer that starts there
-pub sought-resumes : (row j m : List ℕ) (n code k : ℕ) → Marked row j m n → IsOpcode code → Resumes row j code k (sought m n code k .at) (sought m n code k .skip)
+pub sought-resumes : (sel : Selection) (j m : List ℕ) (n code k : ℕ) → Marked sel j m n → IsOpcode code → Resumes sel j code k (sought m n code k .at) (sought m n code k .skip)
 unfolding sought
-sought-resumes row j m zero code k marked o = record { inside = omega arith; sound = λ w. w; number = omega arith; same = refl }
-sought-resumes row j m (suc n) code k marked o =
-    choose (leb (before m code k n) k) (λ (p : Place). Resumes row j code k (p .at) (p .skip))
-    (λ t. later row j code _ k _ (marked .each n code (omega arith) o) (leb-true _ k t))
-    (λ _. sought-resumes row j m n code k (record { few = omega arith; each = λ i c h. marked .each i c (omega arith) }) o)
+sought-resumes sel j m zero code k marked o = record { inside = omega arith; sound = λ w. w; number = omega arith; same = refl }
+sought-resumes sel j m (suc n) code k marked o =
+    choose (leb (before m code k n) k) (λ (p : Place). Resumes sel j code k (p .at) (p .skip))
+    (λ t. later sel j code _ k _ (marked .each n code (omega arith) o) (leb-true _ k t))
+    (λ _. sought-resumes sel j m n code k (record { few = omega arith; each = λ i c h. marked .each i c (omega arith) }) o)

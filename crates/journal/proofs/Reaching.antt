@@ -10,6 +10,7 @@ use Rattle.words.specs.Numbers.{le}
 use Rattle.records.specs.Records.{records, allGood, sizeLimit}
 use Rattle.records.proofs.Choosing.{before-step, before-none, before-all}
 use Rattle.records.proofs.Steps.{good-step, bad-step, none-good, formed, not-formed}
+use Rattle.journal.specs.Scope.{Selection}
 use Rattle.journal.specs.declared.scanning.Judgement.the-variants.{Malformed, Counted}
 use Rattle.journal.specs.declared.stride.Position.{Position}
 use Rattle.journal.specs.declared.stride.Step.{Step}
@@ -68,30 +69,30 @@ packed-more p w n h c l k =
 abbrev pub position : ℕ → ℕ → Position
 position at counts = record { at = at; counts = counts }
 
-pub reached-none : (row j : List ℕ) → Reached row j (position 0 0)
-reached-none row j =
-    let none : (code : ℕ) → Before row j 0 code 0 = λ code. before-none (reports row code) operation each-entry j in
+pub reached-none : (sel : Selection) (j : List ℕ) → Reached sel j (position 0 0)
+reached-none sel j =
+    let none : (code : ℕ) → Before sel j 0 code 0 = λ code. before-none (reports sel code) operation each-entry j in
     record {
       inside = omega arith;
       good = refl;
-      before = each-code (λ (k : ℕ). Before row j 0 k (count k 0)) (none 1) (none 2) (none 3);
+      before = each-code (λ (k : ℕ). Before sel j 0 k (count k 0)) (none 1) (none 2) (none 3);
       few = omega arith;
       packed = omega arith;
     }
 
-module _ (row j : List ℕ) (at counts : ℕ) (small : length j ≤ sizeLimit) (t : Reached row j (position at counts)) where
+module _ (sel : Selection) (j : List ℕ) (at counts : ℕ) (small : length j ≤ sizeLimit) (t : Reached sel j (position at counts)) where
   -- past a good record
-  pub reached-step : (size weight : ℕ) → at < length j → Weighed row j at size weight → Reached row j (position (at + size) (counts + weight))
+  pub reached-step : (size weight : ℕ) → at < length j → Weighed sel j at size weight → Reached sel j (position (at + size) (counts + weight))
   reached-step size weight h g =
-      let light = weighed-light row j at size weight g in
+      let light = weighed-light sel j at size weight g in
       let f = t .few in
       let sums : (code : ℕ) → IsOpcode code → count code (counts + weight) ≡ count code counts + count code weight = count-sum counts weight (omega arith) (omega arith) (omega arith) in
-      let fits = weighed-fits row j at size weight g in
-      let large = weighed-size row j at size weight g in
+      let fits = weighed-fits sel j at size weight g in
+      let large = weighed-size sel j at size weight g in
       record {
         inside = omega arith;
         good = t .good ∙ good-step goodRecord j at h (g .good) ∙ ap (λ (n : ℕ). allGood goodRecord (records (drop (at + n) j))) (g .size-is);
-        before = λ code o. rw (sums code o, weighed-adds row j at size weight g code o, ← g .size-is) (before-step (reports row code) operation each-entry j at (count code counts) (t .before code o) h);
+        before = λ code o. rw (sums code o, weighed-adds sel j at size weight g code o, ← g .size-is) (before-step (reports sel code) operation each-entry j at (count code counts) (t .before code o) h);
         few = omega (arith, sums 1 code-1, sums 2 code-2, sums 3 code-3);
         packed = packed-more counts weight at (t .packed) (omega arith) (omega (arith, t .inside)) (light .1);
       }
@@ -102,22 +103,22 @@ module _ (row j : List ℕ) (at counts : ℕ) (small : length j ≤ sizeLimit) (
   reached-bad h e = not-formed sizeLimit goodRecord j (t .good ∙ bad-step goodRecord j at h e)
 
   -- at the end
-  pub reached-end : length j ≤ at → Counted (unpacked counts) ≡ judgementOf row j
+  pub reached-end : length j ≤ at → Counted (unpacked counts) ≡ judgementOf sel j
   unfolding judgementOf wellFormed
   reached-end h =
-      let all : (code : ℕ) → IsOpcode code → count code counts ≡ length (chosen row code (entries j)) = λ code o. before-all (reports row code) operation each-entry j at (count code counts) (t .before code o) h in
+      let all : (code : ℕ) → IsOpcode code → count code counts ≡ length (chosen sel code (entries j)) = λ code o. before-all (reports sel code) operation each-entry j at (count code counts) (t .before code o) h in
       rw (formed sizeLimit goodRecord j small (t .good ∙ none-good goodRecord j at h), ← all 1 code-1, ← all 2 code-2, ← all 3 code-3)
 
-pub malformed : (row j : List ℕ) → wellFormed j ≡ false → Malformed ≡ judgementOf row j
+pub malformed : (sel : Selection) (j : List ℕ) → wellFormed j ≡ false → Malformed ≡ judgementOf sel j
 unfolding judgementOf
-malformed row j h = rw h
+malformed sel j h = rw h
 
 -- past four records of a known header
-module _ (row j : List ℕ) (header size weight : ℕ) (small : length j ≤ sizeLimit) (k : Known row j header size weight) where
-  reached-same : (at counts : ℕ) → at + size ≤ length j → le 6 j at ≡ header → Reached row j (position at counts) → Reached row j (position (at + size) (counts + weight))
-  reached-same at counts r e t = reached-step row j at counts small t size weight (omega (arith, k .large)) (k .here at r e)
+module _ (sel : Selection) (j : List ℕ) (header size weight : ℕ) (small : length j ≤ sizeLimit) (k : Known sel j header size weight) where
+  reached-same : (at counts : ℕ) → at + size ≤ length j → le 6 j at ≡ header → Reached sel j (position at counts) → Reached sel j (position (at + size) (counts + weight))
+  reached-same at counts r e t = reached-step sel j at counts small t size weight (omega (arith, k .large)) (k .here at r e)
 
-  pub reached-four : (at counts : ℕ) → at + 4 * size ≤ length j → fourHeaded j header size at ≡ true → Reached row j (position at counts) → Reached row j (position (at + 4 * size) (counts + 4 * weight))
+  pub reached-four : (at counts : ℕ) → at + 4 * size ≤ length j → fourHeaded j header size at ≡ true → Reached sel j (position at counts) → Reached sel j (position (at + 4 * size) (counts + 4 * weight))
   reached-four at counts r e t =
       let q = four-equal (le 6 j at) (le 6 j (at + size)) (le 6 j (at + 2 * size)) (le 6 j (at + 3 * size)) header e in
       let s₂ : at + size + size ≡ at + 2 * size = omega arith in
@@ -131,12 +132,12 @@ module _ (row j : List ℕ) (header size weight : ℕ) (small : length j ≤ siz
       rw (s₄, w₄) at t₄
 
 -- what a step gave
-pub advanced-lower : (row j : List ℕ) (a b : ℕ) (s : Step) → a ≤ b → Advanced row j b s → Advanced row j a s
-advanced-lower row j a b Bad h w = w
-advanced-lower row j a b (Upto p) h w = (w .0, omega (arith, w .1))
+pub advanced-lower : (sel : Selection) (j : List ℕ) (a b : ℕ) (s : Step) → a ≤ b → Advanced sel j b s → Advanced sel j a s
+advanced-lower sel j a b Bad h w = w
+advanced-lower sel j a b (Upto p) h w = (w .0, omega (arith, w .1))
 
-pub advanced-bad : (row j : List ℕ) (end : ℕ) (s : Step) → s ≡ Bad → Advanced row j end s → wellFormed j ≡ false
-advanced-bad row j end s e w = rw e at w
+pub advanced-bad : (sel : Selection) (j : List ℕ) (end : ℕ) (s : Step) → s ≡ Bad → Advanced sel j end s → wellFormed j ≡ false
+advanced-bad sel j end s e w = rw e at w
 
-pub advanced-upto : (row j : List ℕ) (end : ℕ) (s : Step) (p : Position) → s ≡ Upto p → Advanced row j end s → Reached row j p × (end ≤ p .at)
-advanced-upto row j end s p e w = rw e at w
+pub advanced-upto : (sel : Selection) (j : List ℕ) (end : ℕ) (s : Step) (p : Position) → s ≡ Upto p → Advanced sel j end s → Reached sel j p × (end ≤ p .at)
+advanced-upto sel j end s p e w = rw e at w

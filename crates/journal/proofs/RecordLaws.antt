@@ -18,7 +18,7 @@ use Rattle.journal.specs.declared.judging.Shape.{Shape}
 use Rattle.journal.specs.declared.judging.Verdict.{Verdict}
 use Rattle.journal.specs.declared.judging.Verdict.the-variants.{Bad, Good}
 use Rattle.journal.specs.Journal.{within, largestType, goodFrame, goodType, nodeType, goodRecord, opcode, IsOpcode, operationOf, entryOf}
-use Rattle.journal.specs.Scope.{holds}
+use Rattle.journal.specs.Scope.{holds, Selection}
 use Rattle.journal.specs.Reportable.{reports}
 use Rattle.journal.specs.Marks.{countLimit, count}
 use Rattle.journal.specs.Scanning.{lengthFor, goodAt, goodHere, shapeAt, verdictAt, largestWeight, weightOf, Weighed, Known}
@@ -197,17 +197,17 @@ module _ (j : List ℕ) (at : ℕ) where
         let l = eqb-true len 12 (sym (frame-is len 3 code-3) ∙ ap (goodFrame len) (sym e) ∙ frame-good left len kind node good-is) in
         omega arith
 
-    -- whether a row reports it, by its kind and node type
-    pub good-reports : (row : List ℕ) (code : ℕ) → reports row code (entryOf here) ≡ (eqb kind code && holds (getD row node 0) code)
+    -- whether a selection reports it, by its kind and node type
+    pub good-reports : (sel : Selection) (code : ℕ) → reports sel code (entryOf here) ≡ (eqb kind code && holds (getD (sel .sets) node 0) code)
     unfolding reports
-    good-reports row code =
+    good-reports sel code =
         let f = frame-here in
         let op : opcode (operationOf here) ≡ kind = opcode-kind here kind (record-kind j at (omega (arith, f .large))) (f .of) in
         rw (op, node-here (omega (arith, f .large)))
 
     -- a record that is reported under an opcode is of its kind
-    pub reported-kind : (row : List ℕ) (code : ℕ) → reports row code (entryOf here) ≡ true → kind ≡ code
-    reported-kind row code e = eqb-true kind code (and-left _ (holds (getD row node 0) code) (sym (good-reports row code) ∙ e))
+    pub reported-kind : (sel : Selection) (code : ℕ) → reports sel code (entryOf here) ≡ true → kind ≡ code
+    reported-kind sel code e = eqb-true kind code (and-left _ (holds (getD (sel .sets) node 0) code) (sym (good-reports sel code) ∙ e))
 
 -- ---- what a good record adds
 
@@ -221,29 +221,29 @@ count-one kind code o = each-code (λ (k : ℕ). (c : ℕ) → IsOpcode c → co
 count-zero : (code : ℕ) → IsOpcode code → count code 0 ≡ 0
 count-zero = each-code (λ (c : ℕ). count c 0 ≡ 0) refl refl refl
 
-module _ (row : List ℕ) (kind node : ℕ) (of : IsOpcode kind) where
-  weight-adds : (code : ℕ) → IsOpcode code → count code (weightOf row kind node) ≡ one-if (eqb kind code && holds (getD row node 0) code)
-  weight-adds code o = go (holds (getD row node 0) kind) (eqb kind code) refl refl
+module _ (sel : Selection) (kind node : ℕ) (of : IsOpcode kind) where
+  weight-adds : (code : ℕ) → IsOpcode code → count code (weightOf sel kind node) ≡ one-if (eqb kind code && holds (getD (sel .sets) node 0) code)
+  weight-adds code o = go (holds (getD (sel .sets) node 0) kind) (eqb kind code) refl refl
     where
-      go : (t u : Bool) → holds (getD row node 0) kind ≡ t → eqb kind code ≡ u → count code (cond (holds (getD row node 0) kind) (countLimit ^ (kind - 1)) 0) ≡ one-if (eqb kind code && holds (getD row node 0) code)
+      go : (t u : Bool) → holds (getD (sel .sets) node 0) kind ≡ t → eqb kind code ≡ u → count code (cond (holds (getD (sel .sets) node 0) kind) (countLimit ^ (kind - 1)) 0) ≡ one-if (eqb kind code && holds (getD (sel .sets) node 0) code)
       go true true p q = rw (p, count-one kind code of o, q, ← eqb-true kind code q, p)
       go true false p q = rw (p, count-one kind code of o, q)
       go false true p q = rw (p, count-zero code o, q, ← eqb-true kind code q, p)
       go false false p q = rw (p, count-zero code o, q)
 
-  weight-light : (count 1 (weightOf row kind node) + count 2 (weightOf row kind node) + count 3 (weightOf row kind node) ≤ 1) × (weightOf row kind node ≤ largestWeight)
+  weight-light : (count 1 (weightOf sel kind node) + count 2 (weightOf sel kind node) + count 3 (weightOf sel kind node) ≤ 1) × (weightOf sel kind node ≤ largestWeight)
   weight-light =
-      each-code (λ (k : ℕ). Light (cond (holds (getD row node 0) k) (countLimit ^ (k - 1)) 0)) (go 1 1 (omega arith)) (go 2 countLimit (omega arith)) (go 3 largestWeight (omega arith)) kind of
+      each-code (λ (k : ℕ). Light (cond (holds (getD (sel .sets) node 0) k) (countLimit ^ (k - 1)) 0)) (go 1 1 (omega arith)) (go 2 countLimit (omega arith)) (go 3 largestWeight (omega arith)) kind of
     where
       Light : ℕ → Type 0
       Light w = (count 1 w + count 2 w + count 3 w ≤ 1) × (w ≤ largestWeight)
 
-      go : (k w : ℕ) → Light w → Light (cond (holds (getD row node 0) k) w 0)
-      go k w h = choose (holds (getD row node 0) k) Light {x = w} {y = 0} (λ _. h) (λ _. (omega arith, omega arith))
+      go : (k w : ℕ) → Light w → Light (cond (holds (getD (sel .sets) node 0) k) w 0)
+      go k w h = choose (holds (getD (sel .sets) node 0) k) Light {x = w} {y = 0} (λ _. h) (λ _. (omega arith, omega arith))
 
 -- ---- a record with its weight
 
-module _ (row j : List ℕ) (at size weight : ℕ) (g : Weighed row j at size weight) where
+module _ (sel : Selection) (j : List ℕ) (at size weight : ℕ) (g : Weighed sel j at size weight) where
   pub weighed-size : (10 ≤ size) × (size ≤ 14)
   weighed-size = rw (g .size-is) at (good-size j at (g .good))
 
@@ -251,10 +251,10 @@ module _ (row j : List ℕ) (at size weight : ℕ) (g : Weighed row j at size we
   weighed-fits = rw (g .size-is) at (good-fits j at (g .good))
 
   pub weighed-light : (count 1 weight + count 2 weight + count 3 weight ≤ 1) × (weight ≤ largestWeight)
-  weighed-light = rw (g .weight-is) (weight-light row (kindOf (drop at j)) (le 2 j (at + 4)) (good-kind j at (g .good)))
+  weighed-light = rw (g .weight-is) (weight-light sel (kindOf (drop at j)) (le 2 j (at + 4)) (good-kind j at (g .good)))
 
-  pub weighed-adds : (code : ℕ) → IsOpcode code → count code weight ≡ one-if (reports row code (entryOf (here j at)))
-  weighed-adds code o = rw (g .weight-is, good-reports j at (g .good) row code) (weight-adds row (kindOf (drop at j)) (le 2 j (at + 4)) (good-kind j at (g .good)) code o)
+  pub weighed-adds : (code : ℕ) → IsOpcode code → count code weight ≡ one-if (reports sel code (entryOf (here j at)))
+  weighed-adds code o = rw (g .weight-is, good-reports j at (g .good) sel code) (weight-adds sel (kindOf (drop at j)) (le 2 j (at + 4)) (good-kind j at (g .good)) code o)
 
 -- ---- a header
 
@@ -269,8 +269,8 @@ module _ (j : List ℕ) (bytes : Bytes j) (w at i : ℕ) (h : le (2 + w) j i ≡
   first-two : le 2 j i ≡ le 2 j at
   first-two = omega (arith, split-two, behind-two)
 
-module _ (row j : List ℕ) (bytes : Bytes j) (at size weight : ℕ) (g : Weighed row j at size weight) where
-  again : (i : ℕ) → i + size ≤ length j → le 6 j i ≡ le 6 j at → Weighed row j i size weight
+module _ (sel : Selection) (j : List ℕ) (bytes : Bytes j) (at size weight : ℕ) (g : Weighed sel j at size weight) where
+  again : (i : ℕ) → i + size ≤ length j → le 6 j i ≡ le 6 j at → Weighed sel j i size weight
   again i r h =
       let four = behind-two j bytes 4 at i h in
       let len : lengthOf (drop at j) ≡ lengthOf (drop i j) = length-at j at ∙ sym (length-at j i ∙ first-two j bytes 4 at i h) in
@@ -282,10 +282,10 @@ module _ (row j : List ℕ) (bytes : Bytes j) (at size weight : ℕ) (g : Weighe
         weight-is = g .weight-is ∙ rw (kind, node);
       }
 
-  pub known : Known row j (le 6 j at) size weight
+  pub known : Known sel j (le 6 j at) size weight
   known =
-      let s = weighed-size row j at size weight g in
-      record { large = s .0; small = s .1; narrow = weighed-light row j at size weight g .1; here = again }
+      let s = weighed-size sel j at size weight g in
+      record { large = s .0; small = s .1; narrow = weighed-light sel j at size weight g .1; here = again }
 
 -- four equal headers
 pub four-equal : (a b c d h : ℕ) → (eqb a h && (eqb b h && (eqb c h && eqb d h))) ≡ true → (a ≡ h) × (b ≡ h) × (c ≡ h) × (d ≡ h)

@@ -8,6 +8,7 @@ use lib.ListN.{length, drop}
 use Rattle.records.specs.Records.{kindOf, sizeOf, firstRecord, records, allGood, sizeLimit}
 use Rattle.records.proofs.Choosing.{one-if, one-if-le, chosen-length, chosen-skip}
 use Rattle.records.proofs.Steps.{judge-step, formed-good, formed-within, record-kind, field-at}
+use Rattle.journal.specs.Scope.{Selection}
 use Rattle.journal.specs.Journal.{goodRecord, wellFormed, operands, operationOf, Entry, entryOf, entries}
 use Rattle.journal.specs.Reportable.{operation, reports, chosen}
 use Rattle.journal.specs.Marks.{Resumes, operandsAt}
@@ -46,10 +47,10 @@ module _ (j : List ℕ) (at : ℕ) (inside : at < length j) (good : allGood good
   walked-size = (good-size j at walked .0, good-addition j at walked)
 
   -- the operands of a reported record are the numbers at its place
-  pub walked-operands : (row : List ℕ) (code : ℕ) → reports row code (entryOf (firstRecord (drop at j))) ≡ true → operands (operationOf (firstRecord (drop at j))) ≡ operandsAt j code at
+  pub walked-operands : (sel : Selection) (code : ℕ) → reports sel code (entryOf (firstRecord (drop at j))) ≡ true → operands (operationOf (firstRecord (drop at j))) ≡ operandsAt j code at
   unfolding operationOf
-  walked-operands row code e =
-      let kind = reported-kind j at walked row code e in
+  walked-operands sel code e =
+      let kind = reported-kind j at walked sel code e in
       let here = record-kind j at (omega (arith, walked-size .0)) ∙ kind in
       let first = field-at j at 4 6 (omega (arith, walked-size .0)) in
       each-code (λ (k : ℕ). kindOf (drop at j) ≡ k → kindOf (firstRecord (drop at j)) ≡ k → operands (operationOf (firstRecord (drop at j))) ≡ operandsAt j k at)
@@ -57,15 +58,15 @@ module _ (j : List ℕ) (at : ℕ) (inside : at < length j) (good : allGood good
       code (rw kind at (good-kind j at walked)) kind here
 
 -- a walk that has operations to pass over goes on past a record
-pub resumes-step : (row j : List ℕ) (code k at skip : ℕ) → allGood goodRecord (records j) ≡ true → at < length j → 0 < skip → Resumes row j code k at skip
-    → Resumes row j code k (at + sizeOf (drop at j)) (skip - one-if (reports row code (entryOf (firstRecord (drop at j)))))
-resumes-step row j code k at skip w h s r =
+pub resumes-step : (sel : Selection) (j : List ℕ) (code k at skip : ℕ) → allGood goodRecord (records j) ≡ true → at < length j → 0 < skip → Resumes sel j code k at skip
+    → Resumes sel j code k (at + sizeOf (drop at j)) (skip - one-if (reports sel code (entryOf (firstRecord (drop at j)))))
+resumes-step sel j code k at skip w h s r =
     let e = entryOf (firstRecord (drop at j)) in
     let es = entries (drop (at + sizeOf (drop at j)) j) in
     let step : entries (drop at j) ≡ e ∷ es = each-entry .step j at h in
     record {
       inside = walked-fits j at h (r .sound w);
       sound = λ v. walked-on j at h (r .sound v);
-      number = omega (arith, r .number, ap (λ (l : List Entry). length (chosen row code l)) step, chosen-length (reports row code) operation e es, one-if-le (reports row code e));
-      same = r .same ∙ ap (λ (l : List Entry). drop skip (chosen row code l)) step ∙ chosen-skip (reports row code) operation e es skip s;
+      number = omega (arith, r .number, ap (λ (l : List Entry). length (chosen sel code l)) step, chosen-length (reports sel code) operation e es, one-if-le (reports sel code e));
+      same = r .same ∙ ap (λ (l : List Entry). drop skip (chosen sel code l)) step ∙ chosen-skip (reports sel code) operation e es skip s;
     }

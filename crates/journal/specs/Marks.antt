@@ -7,6 +7,7 @@ use lib.Dec.{eqb}
 use lib.ListN.{length, getD, drop}
 use Rattle.words.specs.Numbers.{le32}
 use Rattle.records.specs.Records.{records, allGood}
+use Rattle.journal.specs.Scope.{Selection}
 use Rattle.journal.specs.Journal.{goodRecord, IsOpcode, entries}
 use Rattle.journal.specs.Reportable.{chosen}
 
@@ -23,11 +24,11 @@ markLimit = 64
 
 -- From this place of the journal on, where a record begins, the list of an opcode holds after `skip` operations what it holds of
 -- the whole journal from number k on.
-pub record Resumes (row j : List ℕ) (code k at skip : ℕ) : Type 0 where
+pub record Resumes (selection : Selection) (j : List ℕ) (code k at skip : ℕ) : Type 0 where
   pub inside : at ≤ length j
   pub sound : allGood goodRecord (records j) ≡ true → allGood goodRecord (records (drop at j)) ≡ true
-  pub number : length (chosen row code (entries j)) + skip ≡ k + length (chosen row code (entries (drop at j)))
-  pub same : drop k (chosen row code (entries j)) ≡ drop skip (chosen row code (entries (drop at j)))
+  pub number : length (chosen selection code (entries j)) + skip ≡ k + length (chosen selection code (entries (drop at j)))
+  pub same : drop k (chosen selection code (entries j)) ≡ drop skip (chosen selection code (entries (drop at j)))
 
 -- The operand words that a record of this opcode's kind holds at a place: a phandle, or a parent's phandle and a drc-index; and where they end.
 abbrev pub firstOperand : List ℕ → ℕ → ℕ
@@ -42,7 +43,7 @@ operandsAt j code at = cond (eqb code 3) (firstOperand j at ∷ secondOperand j 
 abbrev pub operandsEnd : ℕ → ℕ → ℕ
 operandsEnd code at = at + cond (eqb code 3) 14 10
 
--- A mark is two numbers, a place and the packed counts of what the row reports before it. Of n marks each resumes the list of every opcode.
-pub record Marked (row j marks : List ℕ) (n : ℕ) : Type 0 where
+-- A mark is two numbers, a place and the packed counts of what the selection reports before it. Of n marks each resumes the list of every opcode.
+pub record Marked (selection : Selection) (j marks : List ℕ) (n : ℕ) : Type 0 where
   pub few : n ≤ markLimit
-  pub each : (i code : ℕ) → i < n → IsOpcode code → Resumes row j code (count code (getD marks (2 * i + 1) 0)) (getD marks (2 * i) 0) 0
+  pub each : (i code : ℕ) → i < n → IsOpcode code → Resumes selection j code (count code (getD marks (2 * i + 1) 0)) (getD marks (2 * i) 0) 0

@@ -10,32 +10,32 @@ use Rattle.journal.specs.declared.scanning.Counts.{Counts}
 use Rattle.journal.specs.declared.scanning.Judgement.{Judgement}
 use Rattle.journal.specs.declared.scanning.Judgement.the-variants.{Malformed, Counted}
 use Rattle.journal.specs.Journal.{Entry, opcode, operands, entries, wellFormed}
-use Rattle.journal.specs.Scope.{holds}
+use Rattle.journal.specs.Scope.{holds, Selection}
 
 abbrev pub operation : Entry → Operation
 operation e = e .operation
 
--- a row reports an entry under an opcode
-unfoldable pub reports : List ℕ → ℕ → Entry → Bool
-reports row code e = eqb (opcode (e .operation)) code && holds (getD row (e .node) 0) code
+-- a selection reports an entry under an opcode
+unfoldable pub reports : Selection → ℕ → Entry → Bool
+reports selection code e = eqb (opcode (e .operation)) code && holds (getD (selection .sets) (e .node) 0) code
 
 -- 01: "Records that the scope doesn't report are passed over.", "Equal records stay as separate operations."
--- The operations of an opcode that a row reports, in journal order.
-abbrev pub chosen : List ℕ → ℕ → List Entry → List Operation
-chosen row code es = chosenBy (reports row code) operation es
+-- The operations of an opcode that a selection reports, in journal order.
+abbrev pub chosen : Selection → ℕ → List Entry → List Operation
+chosen selection code es = chosenBy (reports selection code) operation es
 
 -- 01: "The reportable list is all reportable deletes in journal order, then updates, then additions."
-unfoldable pub reportable : List ℕ → List ℕ → List Operation
-reportable row j = chosen row 1 (entries j) ++ (chosen row 2 (entries j) ++ chosen row 3 (entries j))
+unfoldable pub reportable : Selection → List ℕ → List Operation
+reportable selection j = chosen selection 1 (entries j) ++ (chosen selection 2 (entries j) ++ chosen selection 3 (entries j))
 
 -- The number of operand words that operations fill.
 unfoldable pub operandWords : List Operation → ℕ
 operandWords [] = 0
 operandWords (o ∷ os) = length (operands o) + operandWords os
 
--- What a scan tells: the journal is malformed, or how many operations of each opcode a row reports of it.
-abbrev pub countsOf : List ℕ → List ℕ → Counts
-countsOf row j = record { deletes = length (chosen row 1 (entries j)); updates = length (chosen row 2 (entries j)); additions = length (chosen row 3 (entries j)) }
+-- What a scan tells: the journal is malformed, or how many operations of each opcode a selection reports of it.
+abbrev pub countsOf : Selection → List ℕ → Counts
+countsOf selection j = record { deletes = length (chosen selection 1 (entries j)); updates = length (chosen selection 2 (entries j)); additions = length (chosen selection 3 (entries j)) }
 
-unfoldable pub judgementOf : List ℕ → List ℕ → Judgement
-judgementOf row j = cond (wellFormed j) (Counted (countsOf row j)) Malformed
+unfoldable pub judgementOf : Selection → List ℕ → Judgement
+judgementOf selection j = cond (wellFormed j) (Counted (countsOf selection j)) Malformed

@@ -18,7 +18,7 @@ use Rattle.journal.specs.declared.stride.Position.{Position}
 use Rattle.journal.specs.declared.stride.Step.{Step}
 use Rattle.journal.specs.declared.stride.Step.the-variants as step
 use Rattle.journal.specs.Journal.{goodFrame, goodType, goodRecord, wellFormed, IsOpcode, entries}
-use Rattle.journal.specs.Scope.{holds}
+use Rattle.journal.specs.Scope.{holds, Selection}
 use Rattle.journal.specs.Reportable.{reports, operation}
 use Rattle.journal.specs.Marks.{countLimit, count, markLimit}
 
@@ -41,9 +41,9 @@ shapeAt j at = record { size = sizeOf (drop at j); kind = kindOf (drop at j); no
 abbrev pub verdictAt : List ℕ → ℕ → Verdict
 verdictAt j at = cond (goodHere j at) (Good (shapeAt j at)) Bad
 
--- n operations of an opcode that a row reports stand before a place
-abbrev pub Before : List ℕ → List ℕ → ℕ → ℕ → ℕ → Type 0
-Before row j at code n = choosing.Before (reports row code) operation entries j at n
+-- n operations of an opcode that a selection reports stand before a place
+abbrev pub Before : Selection → List ℕ → ℕ → ℕ → ℕ → Type 0
+Before selection j at code n = choosing.Before (reports selection code) operation entries j at n
 
 -- packed counts are below this, and the largest that one operation adds is this
 abbrev pub packedLimit : ℕ
@@ -52,42 +52,42 @@ packedLimit = 9223372036854775808
 abbrev pub largestWeight : ℕ
 largestWeight = 4398046511104
 
--- a scan has come to a place over good records alone, and has counted what the row reports of them
-pub record Reached (row j : List ℕ) (p : Position) : Type 0 where
+-- a scan has come to a place over good records alone, and has counted what the selection reports of them
+pub record Reached (selection : Selection) (j : List ℕ) (p : Position) : Type 0 where
   pub inside : p .at ≤ length j
   pub good : allGood goodRecord (records j) ≡ allGood goodRecord (records (drop (p .at) j))
-  pub before : (code : ℕ) → IsOpcode code → Before row j (p .at) code (count code (p .counts))
+  pub before : (code : ℕ) → IsOpcode code → Before selection j (p .at) code (count code (p .counts))
   pub few : count 1 (p .counts) + count 2 (p .counts) + count 3 (p .counts) ≤ p .at
   pub packed : p .counts < packedLimit
 
 -- what a step along the journal gives: a bad record, or a position at or behind an end
-abbrev pub Advanced : List ℕ → List ℕ → ℕ → Step → Type 0
-Advanced row j end step.Bad = wellFormed j ≡ false
-Advanced row j end (step.Upto p) = Reached row j p × (end ≤ p .at)
+abbrev pub Advanced : Selection → List ℕ → ℕ → Step → Type 0
+Advanced selection j end step.Bad = wellFormed j ≡ false
+Advanced selection j end (step.Upto p) = Reached selection j p × (end ≤ p .at)
 
 -- what a good record adds to the packed counts
-abbrev pub weightOf : List ℕ → ℕ → ℕ → ℕ
-weightOf row kind node = cond (holds (getD row node 0) kind) (countLimit ^ (kind - 1)) 0
+abbrev pub weightOf : Selection → ℕ → ℕ → ℕ
+weightOf selection kind node = cond (holds (getD (selection .sets) node 0) kind) (countLimit ^ (kind - 1)) 0
 
-abbrev pub Weights : List ℕ → List ℕ → Type 0
-Weights row table = (i : ℕ) → 32 ≤ i → i < 128 → getD table i 0 ≡ weightOf row (i / 32) (i % 32)
+abbrev pub Weights : Selection → List ℕ → Type 0
+Weights selection table = (i : ℕ) → 32 ≤ i → i < 128 → getD table i 0 ≡ weightOf selection (i / 32) (i % 32)
 
 -- a good record of this size stands at a place, and adds this weight
-pub record Weighed (row j : List ℕ) (at size weight : ℕ) : Type 0 where
+pub record Weighed (selection : Selection) (j : List ℕ) (at size weight : ℕ) : Type 0 where
   pub size-is : sizeOf (drop at j) ≡ size
   pub good : goodHere j at ≡ true
-  pub weight-is : weight ≡ weightOf row (kindOf (drop at j)) (le16 j (at + 4))
+  pub weight-is : weight ≡ weightOf selection (kindOf (drop at j)) (le16 j (at + 4))
 
 -- the six bytes of a record's length, kind and node type, as one number, at four places a size apart
 abbrev pub fourHeaded : List ℕ → ℕ → ℕ → ℕ → Bool
 fourHeaded j header size at = eqb (le 6 j at) header && (eqb (le 6 j (at + size)) header && (eqb (le 6 j (at + 2 * size)) header && eqb (le 6 j (at + 3 * size)) header))
 
 -- wherever this header stands and the size fits, there is such a record
-pub record Known (row j : List ℕ) (header size weight : ℕ) : Type 0 where
+pub record Known (selection : Selection) (j : List ℕ) (header size weight : ℕ) : Type 0 where
   pub large : 10 ≤ size
   pub small : size ≤ 14
   pub narrow : weight ≤ largestWeight
-  pub here : (at : ℕ) → at + size ≤ length j → le 6 j at ≡ header → Weighed row j at size weight
+  pub here : (at : ℕ) → at + size ≤ length j → le 6 j at ≡ header → Weighed selection j at size weight
 
 -- the marks after p was offered as the next one
 pub data Noted (marks : List ℕ) (n : ℕ) (p : Position) : List ℕ → ℕ → Type 0 where

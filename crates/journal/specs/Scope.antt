@@ -58,5 +58,15 @@ rowOf scope =
     (cond (eqb scope 2) (byType secondRow)
     (byType noRow)))
 
+-- What a scope asks for: the set of opcodes of each node type.
+pub record Selection : Type 0 where
+  pub sets : List ℕ
+
+abbrev pub byRow : List ℕ → Selection
+byRow row = record { sets = row }
+
+abbrev pub selectionOf : ℕ → Selection
+selectionOf scope = byRow (rowOf scope)
+
 abbrev pub scopeRow : ℕ → Row
 scopeRow scope = record { valid = valid scope; sets = rowOf scope }

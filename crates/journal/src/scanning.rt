@@ -1,5 +1,6 @@
 // The scan: the whole journal judged and counted in one pass, with marks noted on the way.
 ghost use mathlib.Core.Path.{_≡_};
+ghost use Rattle.journal.specs.Scope.{byRow};
 ghost use Rattle.journal.specs.Reportable.{judgementOf};
 ghost use Rattle.journal.specs.Marks.{Marked};
 ghost use Rattle.journal.specs.Claims.{WellFormedCases, SizeLimit};
@@ -42,7 +43,7 @@ fn counts_of(packed: u64) -> Counts
 
 // The journal judged, and the operations counted that the row reports. Which marks were noted is left free; each is true.
 pub fn scan(j: &[u8], row: &[u8; 17]) -> Scanned
-    ensures { λ r. ⌜ (r .judgement ≡ judgementOf (now (row .entry)) (now (j .entry))) × Marked (now (row .entry)) (now (j .entry)) (r .marks) (r .noted) ⌝ }
+    ensures { λ r. ⌜ (r .judgement ≡ judgementOf (byRow (now (row .entry))) (now (j .entry))) × Marked (byRow (now (row .entry))) (now (j .entry)) (r .marks) (r .noted) ⌝ }
     ensures rules { λ _. ⌜ WellFormedCases × SizeLimit ⌝ }
 {
     let mut marks: [u64; 128] = [0; 128];

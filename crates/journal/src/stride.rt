@@ -4,6 +4,7 @@ ghost use Prim.Native.Nat.{_+_, _*_, _<_, _≤_};
 ghost use lib.ListN.{length, getD};
 ghost use Rattle.words.specs.Numbers.{le};
 ghost use Rattle.records.specs.Records.{sizeLimit};
+ghost use Rattle.journal.specs.Scope.{byRow};
 ghost use Rattle.journal.specs.Journal.{largestType};
 ghost use Rattle.journal.specs.Scanning.{fourHeaded, Reached, Known, Advanced, Weights};
 use crate::judging::Shape;
@@ -61,8 +62,8 @@ fn past_same(
     weight: u64,
     limit: usize,
 ) -> Position
-    requires { ⌜ Reached (now row) (now j) from × Known (now row) (now j) header size weight × (limit ≤ length (now j)) × (length (now j) ≤ sizeLimit) ⌝ }
-    ensures { λ r. ⌜ Reached (now (row .entry)) (now (j .entry)) r × (from .at ≤ r .at) ⌝ }
+    requires { ⌜ Reached (byRow (now row)) (now j) from × Known (byRow (now row)) (now j) header size weight × (limit ≤ length (now j)) × (length (now j) ≤ sizeLimit) ⌝ }
+    ensures { λ r. ⌜ Reached (byRow (now (row .entry))) (now (j .entry)) r × (from .at ≤ r .at) ⌝ }
 {
     let mut at = from.at;
     let mut counts = from.counts;
@@ -79,8 +80,8 @@ fn past_same(
 
 // Past records one at a time, up to an end: the step is the record's own length, and one sum counts all three opcodes.
 fn past_each(j: &[u8], row: &[u8; 17], weights: &[u64; 160], from: Position, end: usize) -> Step
-    requires { ⌜ Reached (now row) (now j) from × Weights (now row) (now weights) × (end ≤ length (now j)) × (length (now j) ≤ sizeLimit) ⌝ }
-    ensures { λ r. ⌜ Advanced (now (row .entry)) (now (j .entry)) end r ⌝ }
+    requires { ⌜ Reached (byRow (now row)) (now j) from × Weights (byRow (now row)) (now weights) × (end ≤ length (now j)) × (length (now j) ≤ sizeLimit) ⌝ }
+    ensures { λ r. ⌜ Advanced (byRow (now (row .entry))) (now (j .entry)) end r ⌝ }
 {
     let mut at = from.at;
     let mut counts = from.counts;
@@ -112,8 +113,8 @@ fn clamped_end(at: usize, by: usize, end: usize) -> usize
 
 // Past a record and more: those of the same header behind it, then others one at a time.
 pub fn stride(j: &[u8], row: &[u8; 17], weights: &[u64; 160], from: Position) -> Step
-    requires { ⌜ Reached (now row) (now j) from × Weights (now row) (now weights) × (from .at < length (now j)) × (length (now j) ≤ sizeLimit) ⌝ }
-    ensures { λ r. ⌜ Advanced (now (row .entry)) (now (j .entry)) (from .at + 1) r ⌝ }
+    requires { ⌜ Reached (byRow (now row)) (now j) from × Weights (byRow (now row)) (now weights) × (from .at < length (now j)) × (length (now j) ≤ sizeLimit) ⌝ }
+    ensures { λ r. ⌜ Advanced (byRow (now (row .entry))) (now (j .entry)) (from .at + 1) r ⌝ }
 {
     let at = from.at;
     let verdict = judge(j, at);

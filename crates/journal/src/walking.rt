@@ -6,7 +6,7 @@ ghost use Prim.Native.Nat.{_<_, _≤_};
 ghost use lib.ListN.{length, drop};
 ghost use Rattle.records.specs.Records.{sizeOf, firstRecord, records, allGood};
 ghost use Rattle.journal.specs.Journal.{goodRecord, IsOpcode, entryOf, entries, wellFormed};
-ghost use Rattle.journal.specs.Scope.{holds};
+ghost use Rattle.journal.specs.Scope.{holds, byRow};
 ghost use Rattle.journal.specs.Reportable.{reports, chosen};
 ghost use Rattle.journal.specs.Marks.{firstOperand, secondOperand, operandsEnd, Resumes, Marked};
 use crate::judging::read_type;
@@ -60,7 +60,7 @@ pub struct Visited {
 // The record at a place from which the records are good.
 pub fn visit(j: &[u8], row: &[u8; 17], code: usize, at: usize) -> Visited
     requires { ⌜ (at < length (now j)) × (allGood goodRecord (records (drop at (now j))) ≡ true) × IsOpcode code ⌝ }
-    ensures { λ r. ⌜ (r .size ≡ sizeOf (drop at (now (j .entry)))) × (r .reported ≡ cond (reports (now (row .entry)) code (entryOf (firstRecord (drop at (now (j .entry)))))) 1 0) ⌝ }
+    ensures { λ r. ⌜ (r .size ≡ sizeOf (drop at (now (j .entry)))) × (r .reported ≡ cond (reports (byRow (now (row .entry))) code (entryOf (firstRecord (drop at (now (j .entry)))))) 1 0) ⌝ }
 {
     let frame = records::read_frame(j, at);
     let node = read_type(j, at);
@@ -80,8 +80,8 @@ pub fn find(
     code: usize,
     k: usize,
 ) -> usize
-    requires { ⌜ (wellFormed (now j) ≡ true) × Marked (now row) (now j) (now marks) noted × IsOpcode code × (k < length (chosen (now row) code (entries (now j)))) ⌝ }
-    ensures { λ r. ⌜ Resumes (now (row .entry)) (now (j .entry)) code k r 0 ⌝ }
+    requires { ⌜ (wellFormed (now j) ≡ true) × Marked (byRow (now row)) (now j) (now marks) noted × IsOpcode code × (k < length (chosen (byRow (now row)) code (entries (now j)))) ⌝ }
+    ensures { λ r. ⌜ Resumes (byRow (now (row .entry))) (now (j .entry)) code k r 0 ⌝ }
 {
     let place = seek(marks, noted, code, k);
     let mut at = place.at;

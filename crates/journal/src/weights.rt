@@ -4,7 +4,7 @@ ghost use mathlib.Core.Bool.{cond};
 ghost use Prim.Native.Nat.{_-_, _^_, _<_};
 ghost use lib.ListN.{getD};
 ghost use Rattle.journal.specs.Journal.{IsOpcode};
-ghost use Rattle.journal.specs.Scope.{holds};
+ghost use Rattle.journal.specs.Scope.{holds, byRow};
 ghost use Rattle.journal.specs.Marks.{countLimit};
 ghost use Rattle.journal.specs.Scanning.{Weights};
 use crate::marks::COUNT_LIMIT;
@@ -39,7 +39,7 @@ pub type WeightTable = [u64; 160];
 
 // The weights of a row: that of a kind and a node type stands at 32 times the kind and the type.
 pub fn weights_of(row: &[u8; 17]) -> WeightTable
-    ensures { λ r. ⌜ Weights (now (row .entry)) r ⌝ }
+    ensures { λ r. ⌜ Weights (byRow (now (row .entry))) r ⌝ }
 {
     let mut table: [u64; 160] = [0; 160];
     let mut i: usize = 32;

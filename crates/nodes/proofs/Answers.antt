@@ -7,6 +7,7 @@ use native.Mathlib.Nat.{zero-add, one-mul}
 use native.Mathlib.Omega.{arith}
 use lib.ListN.{length, drop, length-append, length-drop}
 use lib.Seq.{sets, sets-eq}
+use Rattle.journal.specs.Scope.{Selection}
 use Rattle.words.specs.Numbers.{beBytes, wordBytes}
 use Rattle.words.proofs.Stores.{length-wordBytes, words-behind, store-first}
 use Rattle.journal.specs.declared.scanning.Counts.{Counts}
@@ -24,8 +25,8 @@ use Rattle.nodes.proofs.Listed.{parts, fits, body-is, total-is}
 use Rattle.nodes.proofs.Runs.{length-body, run-facts}
 
 -- counts of a well-formed journal are small
-pub counts-small : (row j : List ℕ) (c : Counts) → wellFormed j ≡ true → c ≡ countsOf row j → total c ≤ 3145728
-counts-small row j c w e = rw e (omega (arith, within-limit j w, operations-few row j 1, operations-few row j 2, operations-few row j 3))
+pub counts-small : (selection : Selection) (j : List ℕ) (c : Counts) → wellFormed j ≡ true → c ≡ countsOf selection j → total c ≤ 3145728
+counts-small selection j c w e = rw e (omega (arith, within-limit j w, operations-few selection j 1, operations-few selection j 2, operations-few selection j 3))
 
 -- ---- the parts and the terminator
 
@@ -37,30 +38,30 @@ body-stored l l₁ l₂ l₃ l₄ p₁ p₂ p₃ t₁ t₂ t₃ e₁ f₁ e₂ f
     ∙ ap (λ (m : List ℕ). sets m t₂ (wordBytes (p₃ ++ (0 ∷ [])))) e₂ ∙ words-behind l₁ t₁ t₂ p₂ (p₃ ++ (0 ∷ [])) f₂
     ∙ ap (λ (m : List ℕ). sets m t₁ (wordBytes (p₂ ++ (p₃ ++ (0 ∷ []))))) e₁ ∙ words-behind l headSize t₁ p₁ (p₂ ++ (p₃ ++ (0 ∷ []))) f₁
 
-module _ (row j : List ℕ) (c : Counts) (k : ℕ) (counted : c ≡ countsOf row j) (inside : k ≤ total c) (r : Counts) (fitting : r ≡ cut (remainingOf c k)) where
+module _ (selection : Selection) (j : List ℕ) (c : Counts) (k : ℕ) (counted : c ≡ countsOf selection j) (inside : k ≤ total c) (r : Counts) (fitting : r ≡ cut (remainingOf c k)) where
   -- what the writer of the parts is asked
-  pub handed : Handed row j (passedOf c k) r
+  pub handed : Handed selection j (passedOf c k) r
   handed =
-      let p : Parts _ _ _ (r .deletes) (r .updates) (r .additions) = parts row j c k counted inside r fitting in
+      let p : Parts _ _ _ (r .deletes) (r .updates) (r .additions) = parts selection j c k counted inside r fitting in
       record {
-        deletes = rw (← length-drop k (chosen row 1 (entries j))) (p .x-in);
-        updates = rw (← length-drop (k - c .deletes) (chosen row 2 (entries j))) (p .y-in);
-        additions = rw (← length-drop (k - c .deletes - c .updates) (chosen row 3 (entries j))) (p .z-in);
-        room = rw (one-mul (r .deletes), one-mul (r .updates)) (fits row j c k counted inside r fitting);
+        deletes = rw (← length-drop k (chosen selection 1 (entries j))) (p .x-in);
+        updates = rw (← length-drop (k - c .deletes) (chosen selection 2 (entries j))) (p .y-in);
+        additions = rw (← length-drop (k - c .deletes - c .updates) (chosen selection 3 (entries j))) (p .z-in);
+        room = rw (one-mul (r .deletes), one-mul (r .updates)) (fits selection j c k counted inside r fitting);
       }
 
   -- the head, and behind it the parts and the terminator, are the whole answer
-  body-written : bodyFrom row j (passedOf c k) r ≡ body (run (reportable row j) k) ++ (0 ∷ [])
+  body-written : bodyFrom selection j (passedOf c k) r ≡ body (run (reportable selection j) k) ++ (0 ∷ [])
   unfolding bodyFrom
-  body-written = sym (ap (λ (l : List ℕ). l ++ (0 ∷ [])) (body-is row j c k counted inside r fitting) ∙ simp append-assoc)
+  body-written = sym (ap (λ (l : List ℕ). l ++ (0 ∷ [])) (body-is selection j c k counted inside r fitting) ∙ simp append-assoc)
 
-  pub answer-stored : (l l₁ l₂ : List ℕ) → length l ≡ areaSize → l₁ ≡ sets l 0 (carriedHead (nextState (reportable row j) k)) → l₂ ≡ sets l₁ headSize (wordBytes (bodyFrom row j (passedOf c k) r))
-      → l₂ ≡ written l (reportable row j) k
+  pub answer-stored : (l l₁ l₂ : List ℕ) → length l ≡ areaSize → l₁ ≡ sets l 0 (carriedHead (nextState (reportable selection j) k)) → l₂ ≡ sets l₁ headSize (wordBytes (bodyFrom selection j (passedOf c k) r))
+      → l₂ ≡ written l (reportable selection j) k
   unfolding written answer
   answer-stored l l₁ l₂ n e f =
-      let os = reportable row j in
+      let os = reportable selection j in
       let ws = headWords (nextState os k) ++ (body (run os k) ++ (0 ∷ [])) in
-      let within : k ≤ length os = omega (arith, inside, total-is row j, ap total counted) in
+      let within : k ≤ length os = omega (arith, inside, total-is selection j, ap total counted) in
       let size : length (wordBytes ws) ≤ areaSize = rw (length-wordBytes ws, length-append (body (run os k)) (0 ∷ []), length-body (run os k)) (omega (arith, run-facts os k within .fits)) in
       f ∙ ap (λ (v : List ℕ). sets l₁ headSize (wordBytes v)) body-written ∙ ap (λ (m : List ℕ). sets m headSize (wordBytes (body (run os k) ++ (0 ∷ [])))) e
       ∙ words-behind l 0 headSize (headWords (nextState os k)) (body (run os k) ++ (0 ∷ [])) refl

@@ -7,6 +7,7 @@ use native.Mathlib.Omega.{arith}
 use lib.Dec.{eqb}
 use lib.ListN.{length, take, drop, length-append, length-drop}
 use borrow.Author.Tests.{ltb-true}
+use Rattle.journal.specs.Scope.{Selection}
 use Rattle.words.specs.Numbers.{Small, beBytes, wordBytes, words, zeros}
 use Rattle.words.proofs.Stores.{length-wordBytes}
 use Rattle.words.proofs.Words.{words-bytes}
@@ -40,24 +41,24 @@ small-join : (os ps : List Operation) → SmallOperands os → SmallOperands ps 
 small-join [] ps h g = g
 small-join (o ∷ os) ps h g = (h .0, small-join os ps (h .1) g)
 
-chosen-small : (row : List ℕ) (code : ℕ) (es : List Entry) → SmallEntries es → SmallOperands (chosen row code es)
+chosen-small : (selection : Selection) (code : ℕ) (es : List Entry) → SmallEntries es → SmallOperands (chosen selection code es)
 unfolding chosenBy
-chosen-small row code [] h = tt
-chosen-small row code (e ∷ es) h =
-    choose (reports row code e) SmallOperands {x = e .operation ∷ chosen row code es} {y = chosen row code es}
-    (λ _. (h .0, chosen-small row code es (h .1)))
-    (λ _. chosen-small row code es (h .1))
+chosen-small selection code [] h = tt
+chosen-small selection code (e ∷ es) h =
+    choose (reports selection code e) SmallOperands {x = e .operation ∷ chosen selection code es} {y = chosen selection code es}
+    (λ _. (h .0, chosen-small selection code es (h .1)))
+    (λ _. chosen-small selection code es (h .1))
 
 reportable-listed : ReportableListed
 unfolding reportable
-reportable-listed row j bytes good =
-    let of : ℕ → List Operation = λ code. chosen row code (entries j) in
-    let from : (code : ℕ) (ps : List Operation) → Sorted (suc code) ps → Sorted code (of code ++ ps) = λ code ps s. sorted-join code (of code) ps (chosen-code row code (entries j)) s in
-    let fit : (code : ℕ) → SmallOperands (of code) = λ code. chosen-small row code (entries j) (entries-small j bytes) in
+reportable-listed selection j bytes good =
+    let of : ℕ → List Operation = λ code. chosen selection code (entries j) in
+    let from : (code : ℕ) (ps : List Operation) → Sorted (suc code) ps → Sorted code (of code ++ ps) = λ code ps s. sorted-join code (of code) ps (chosen-code selection code (entries j)) s in
+    let fit : (code : ℕ) → SmallOperands (of code) = λ code. chosen-small selection code (entries j) (entries-small j bytes) in
     record {
       sorted = sorted-lower 0 1 (of 1 ++ (of 2 ++ of 3)) (omega arith) (from 1 (of 2 ++ of 3) (from 2 (of 3) (rw append-nil at (from 3 [] tt))));
       small = small-join (of 1) (of 2 ++ of 3) (fit 1) (small-join (of 2) (of 3) (fit 2) (fit 3));
-      few = simp length-append (omega (arith, within-limit j good, operations-few row j 1, operations-few row j 2, operations-few row j 3));
+      few = simp length-append (omega (arith, within-limit j good, operations-few selection j 1, operations-few selection j 2, operations-few selection j 3));
     }
 
 -- ---- the words of an answer

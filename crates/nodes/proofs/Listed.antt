@@ -9,6 +9,7 @@ use lib.Dec.{ltb, eqb}
 use borrow.Author.Tests.{eqb-true}
 use lib.ListN.{length, take, drop, length-append, length-drop}
 use lib.Seq.{drop-nil, length-take-le}
+use Rattle.journal.specs.Scope.{Selection}
 use Rattle.records.specs.Choosing.{chosenBy}
 use Rattle.journal.specs.declared.operation.Operation.{Operation}
 use Rattle.journal.specs.declared.scanning.Counts.{Counts}
@@ -23,76 +24,76 @@ use Rattle.nodes.proofs.Runs.{longest-one, longest-run, run-facts}
 use Rattle.nodes.proofs.Cut.{code-take, code-drop, body-split, Parts, parts-in, Cut, cut-is, cut-longest}
 
 -- an entry that is reported under an opcode is an operation of it
-pub report-code : (row : List ℕ) (code : ℕ) (e : Entry) → reports row code e ≡ true → opcode (e .operation) ≡ code
+pub report-code : (selection : Selection) (code : ℕ) (e : Entry) → reports selection code e ≡ true → opcode (e .operation) ≡ code
 unfolding reports
-report-code row code e h = eqb-true _ _ (and-left (eqb (opcode (e .operation)) code) _ h)
+report-code selection code e h = eqb-true _ _ (and-left (eqb (opcode (e .operation)) code) _ h)
 
-pub chosen-code : (row : List ℕ) (code : ℕ) (es : List Entry) → AllOf code (chosen row code es)
+pub chosen-code : (selection : Selection) (code : ℕ) (es : List Entry) → AllOf code (chosen selection code es)
 unfolding chosenBy
-chosen-code row code [] = tt
-chosen-code row code (e ∷ es) =
-    choose (reports row code e) (AllOf code) {x = e .operation ∷ chosen row code es} {y = chosen row code es}
-    (λ h. (report-code row code e h, chosen-code row code es))
-    (λ _. chosen-code row code es)
+chosen-code selection code [] = tt
+chosen-code selection code (e ∷ es) =
+    choose (reports selection code e) (AllOf code) {x = e .operation ∷ chosen selection code es} {y = chosen selection code es}
+    (λ h. (report-code selection code e h, chosen-code selection code es))
+    (λ _. chosen-code selection code es)
 
 pub drop-append : (n : ℕ) (xs ys : List Operation) → drop n (xs ++ ys) ≡ drop n xs ++ drop (n - length xs) ys
 drop-append n [] ys = rw (drop-nil n, sub-zero n)
 drop-append zero (x ∷ xs) ys = rw (zero-sub (suc (length xs)))
 drop-append (suc n) (x ∷ xs) ys = rw suc-sub-suc (drop-append n xs ys)
 
-pub total-is : (row j : List ℕ) → total (countsOf row j) ≡ length (reportable row j)
+pub total-is : (selection : Selection) (j : List ℕ) → total (countsOf selection j) ≡ length (reportable selection j)
 unfolding reportable
-total-is row j = simp length-append (omega arith)
+total-is selection j = simp length-append (omega arith)
 
 -- ---- what is left of an opcode
 
--- the operations of an opcode that a row reports, after the first `skip`
-abbrev pub later : List ℕ → List ℕ → ℕ → ℕ → List Operation
-later row j code skip = drop skip (chosen row code (entries j))
+-- the operations of an opcode that a selection reports, after the first `skip`
+abbrev pub later : Selection → List ℕ → ℕ → ℕ → List Operation
+later selection j code skip = drop skip (chosen selection code (entries j))
 
-module _ (row j : List ℕ) (code skip : ℕ) where
-  pub later-code : AllOf code (later row j code skip)
-  later-code = code-drop code skip (chosen row code (entries j)) (chosen-code row code (entries j))
+module _ (selection : Selection) (j : List ℕ) (code skip : ℕ) where
+  pub later-code : AllOf code (later selection j code skip)
+  later-code = code-drop code skip (chosen selection code (entries j)) (chosen-code selection code (entries j))
 
-  later-length : (n : ℕ) → n ≡ length (chosen row code (entries j)) → length (later row j code skip) ≡ n - skip
-  later-length n e = length-drop skip (chosen row code (entries j)) ∙ rw (← e)
+  later-length : (n : ℕ) → n ≡ length (chosen selection code (entries j)) → length (later selection j code skip) ≡ n - skip
+  later-length n e = length-drop skip (chosen selection code (entries j)) ∙ rw (← e)
 
-  pub first-code : (n : ℕ) → AllOf code (take n (later row j code skip))
-  first-code n = code-take code n (later row j code skip) later-code
+  pub first-code : (n : ℕ) → AllOf code (take n (later selection j code skip))
+  first-code n = code-take code n (later selection j code skip) later-code
 
 -- ---- the run of a call
 
-module _ (row j : List ℕ) (c : Counts) (k : ℕ) (counted : c ≡ countsOf row j) (inside : k ≤ total c) (r : Counts) (fitting : r ≡ cut (remainingOf c k)) where
+module _ (selection : Selection) (j : List ℕ) (c : Counts) (k : ℕ) (counted : c ≡ countsOf selection j) (inside : k ≤ total c) (r : Counts) (fitting : r ≡ cut (remainingOf c k)) where
   abbrev ds : List Operation
-  ds = later row j 1 k
+  ds = later selection j 1 k
 
   abbrev us : List Operation
-  us = later row j 2 (k - c .deletes)
+  us = later selection j 2 (k - c .deletes)
 
   abbrev adds : List Operation
-  adds = later row j 3 (k - c .deletes - c .updates)
+  adds = later selection j 3 (k - c .deletes - c .updates)
 
-  deletes-are : c .deletes ≡ length (chosen row 1 (entries j))
+  deletes-are : c .deletes ≡ length (chosen selection 1 (entries j))
   deletes-are = ap (λ (x : Counts). x .deletes) counted
 
-  updates-are : c .updates ≡ length (chosen row 2 (entries j))
+  updates-are : c .updates ≡ length (chosen selection 2 (entries j))
   updates-are = ap (λ (x : Counts). x .updates) counted
 
-  additions-are : c .additions ≡ length (chosen row 3 (entries j))
+  additions-are : c .additions ≡ length (chosen selection 3 (entries j))
   additions-are = ap (λ (x : Counts). x .additions) counted
 
-  rest : drop k (reportable row j) ≡ ds ++ (us ++ adds)
+  rest : drop k (reportable selection j) ≡ ds ++ (us ++ adds)
   unfolding reportable
   rest =
-      drop-append k (chosen row 1 (entries j)) (chosen row 2 (entries j) ++ chosen row 3 (entries j))
-      ∙ rw (← deletes-are, drop-append (k - c .deletes) (chosen row 2 (entries j)) (chosen row 3 (entries j)), ← updates-are)
+      drop-append k (chosen selection 1 (entries j)) (chosen selection 2 (entries j) ++ chosen selection 3 (entries j))
+      ∙ rw (← deletes-are, drop-append (k - c .deletes) (chosen selection 2 (entries j)) (chosen selection 3 (entries j)), ← updates-are)
 
   cut-here : Cut (length ds) (length us) (length adds) (r .deletes) (r .updates) (r .additions)
   cut-here =
       rw (
-        later-length row j 1 k (c .deletes) deletes-are,
-        later-length row j 2 (k - c .deletes) (c .updates) updates-are,
-        later-length row j 3 (k - c .deletes - c .updates) (c .additions) additions-are,
+        later-length selection j 1 k (c .deletes) deletes-are,
+        later-length selection j 2 (k - c .deletes) (c .updates) updates-are,
+        later-length selection j 3 (k - c .deletes - c .updates) (c .additions) additions-are,
         fitting,
       )
       (cut-is (remainingOf c k))
@@ -101,26 +102,26 @@ module _ (row j : List ℕ) (c : Counts) (k : ℕ) (counted : c ≡ countsOf row
   pub parts : Parts (length ds) (length us) (length adds) (r .deletes) (r .updates) (r .additions)
   parts = parts-in (cut-here .inside)
 
-  pub run-parts : run (reportable row j) k ≡ take (r .deletes) ds ++ (take (r .updates) us ++ take (r .additions) adds)
+  pub run-parts : run (reportable selection j) k ≡ take (r .deletes) ds ++ (take (r .updates) us ++ take (r .additions) adds)
   run-parts =
-      longest-one (drop k (reportable row j)) _ _ (longest-run (reportable row j) k)
+      longest-one (drop k (reportable selection j)) _ _ (longest-run (reportable selection j) k)
       (rw rest
-      (cut-longest ds us adds (later-code row j 1 k) (later-code row j 2 (k - c .deletes)) (later-code row j 3 (k - c .deletes - c .updates)) (r .deletes) (r .updates) (r .additions) cut-here))
+      (cut-longest ds us adds (later-code selection j 1 k) (later-code selection j 2 (k - c .deletes)) (later-code selection j 3 (k - c .deletes - c .updates)) (r .deletes) (r .updates) (r .additions) cut-here))
 
-  pub run-length : length (run (reportable row j) k) ≡ total r
+  pub run-length : length (run (reportable selection j) k) ≡ total r
   run-length =
       rw run-parts
       (simp (length-append, length-take-le (r .deletes) ds (parts .x-in), length-take-le (r .updates) us (parts .y-in), length-take-le (r .additions) adds (parts .z-in)) (omega arith))
 
-  all : length (reportable row j) ≡ total c
-  all = sym (total-is row j) ∙ ap total (sym counted)
+  all : length (reportable selection j) ≡ total c
+  all = sym (total-is selection j) ∙ ap total (sym counted)
 
   -- whether operations remain and the next state, from the number of operations reported by then
-  pub remains-is : (after : ℕ) → after ≡ k + total r → ltb after (total c) ≡ remains (reportable row j) k
+  pub remains-is : (after : ℕ) → after ≡ k + total r → ltb after (total c) ≡ remains (reportable selection j) k
   unfolding remains
   remains-is after e = rw (e, run-length, all)
 
-  pub next-is : (after next : ℕ) (more : Bool) → after ≡ k + total r → more ≡ ltb after (total c) → next ≡ cond more after 0 → next ≡ nextState (reportable row j) k
+  pub next-is : (after next : ℕ) (more : Bool) → after ≡ k + total r → more ≡ ltb after (total c) → next ≡ cond more after 0 → next ≡ nextState (reportable selection j) k
   unfolding nextState
   next-is after next more e m f = f ∙ rw (m, remains-is after e, e, run-length)
 
@@ -128,18 +129,18 @@ module _ (row j : List ℕ) (c : Counts) (k : ℕ) (counted : c ≡ countsOf row
   fits = cut-here .fits
 
   pub few : k + total r ≤ total c
-  few = rw (← run-length, ← all) (run-facts (reportable row j) k (rw all inside) .within)
+  few = rw (← run-length, ← all) (run-facts (reportable selection j) k (rw all inside) .within)
 
   code-ds : AllOf 1 (take (r .deletes) ds)
-  code-ds = first-code row j 1 k (r .deletes)
+  code-ds = first-code selection j 1 k (r .deletes)
 
   code-us : AllOf 2 (take (r .updates) us)
-  code-us = first-code row j 2 (k - c .deletes) (r .updates)
+  code-us = first-code selection j 2 (k - c .deletes) (r .updates)
 
   code-adds : AllOf 3 (take (r .additions) adds)
-  code-adds = first-code row j 3 (k - c .deletes - c .updates) (r .additions)
+  code-adds = first-code selection j 3 (k - c .deletes - c .updates) (r .additions)
 
-  pub body-is : body (run (reportable row j) k)
+  pub body-is : body (run (reportable selection j) k)
       ≡ part 1 (wordsOf (take (r .deletes) ds)) ++ (part 2 (wordsOf (take (r .updates) us)) ++ part 3 (wordsOf (take (r .additions) adds)))
   body-is =
       rw run-parts

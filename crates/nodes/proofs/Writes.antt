@@ -10,6 +10,7 @@ use lib.Dec.{eqb}
 use lib.ListN.{length, take, drop, length-drop}
 use lib.Seq.{sets, length-sets, length-take-le}
 use borrow.Author.Tests.{eqb-true, eq-eqb, ne-eqb}
+use Rattle.journal.specs.Scope.{Selection}
 use Rattle.words.specs.Numbers.{beBytes, wordBytes}
 use Rattle.words.proofs.Stores.{sets-over, length-wordBytes, words-behind, store-first}
 use Rattle.records.specs.Records.{sizeOf, firstRecord}
@@ -51,41 +52,41 @@ length-operandsAt j code at = go (eqb code 3) (firstOperand j at) (secondOperand
     go true p d = refl
     go false p d = refl
 
-module _ (row j : List ℕ) (code at n : ℕ) (d : Due row j code at n) where
-  pub due-length : length (dueWords row j code at n) ≡ width code * n
+module _ (selection : Selection) (j : List ℕ) (code at n : ℕ) (d : Due selection j code at n) where
+  pub due-length : length (dueWords selection j code at n) ≡ width code * n
   unfolding dueWords
   due-length =
-      let os = chosen row code (entries (drop at j)) in
-      words-width code (take n os) (d .of) (code-take code n os (chosen-code row code (entries (drop at j))))
+      let os = chosen selection code (entries (drop at j)) in
+      words-width code (take n os) (d .of) (code-take code n os (chosen-code selection code (entries (drop at j))))
       ∙ ap (λ (k : ℕ). width code * k) (length-take-le n os (d .enough))
 
   -- while an operation is due, a record stands at the place, and its operands are inside
   pub due-inside : 0 < n → at < length j
-  due-inside h = still-inside (reports row code) operation each-entry j at (omega (arith, d .enough))
+  due-inside h = still-inside (reports selection code) operation each-entry j at (omega (arith, d .enough))
 
   pub due-record : 0 < n → operandsEnd code at ≤ length j
-  due-record h = go (reports row code (entryOf (firstRecord (drop at j)))) (eqb code 3) refl refl
+  due-record h = go (reports selection code (entryOf (firstRecord (drop at j)))) (eqb code 3) refl refl
     where
       there : at < length j
       there = due-inside h
 
-      go : (t u : Bool) → reports row code (entryOf (firstRecord (drop at j))) ≡ t → eqb code 3 ≡ u → operandsEnd code at ≤ length j
+      go : (t u : Bool) → reports selection code (entryOf (firstRecord (drop at j))) ≡ t → eqb code 3 ≡ u → operandsEnd code at ≤ length j
       go t false e f = rw f (omega (arith, walked-fits j at there (d .sound), walked-size j at there (d .sound) .0))
       go true true e f =
-          let k = reported-kind j at (walked j at there (d .sound)) row code e ∙ eqb-true code 3 f in
+          let k = reported-kind j at (walked j at there (d .sound)) selection code e ∙ eqb-true code 3 f in
           rw f (omega (arith, walked-fits j at there (d .sound), walked-size j at there (d .sound) .1 k))
       go false true e f =
-          let c = chosen-later (reports row code) operation each-entry j at there e in
+          let c = chosen-later (reports selection code) operation each-entry j at there e in
           let next = at + sizeOf (drop at j) in
-          let there′ : next < length j = still-inside (reports row code) operation each-entry j next (omega (arith, d .enough, ap (λ (l : List Operation). length l) c)) in
+          let there′ : next < length j = still-inside (reports selection code) operation each-entry j next (omega (arith, d .enough, ap (λ (l : List Operation). length l) c)) in
           let good′ = walked-on j at there (d .sound) in
           rw f (omega (arith, walked-size j at there (d .sound) .0, walked-fits j next there′ good′, walked-size j next there′ good′ .0))
 
 -- ---- the loop of the operands
 
-due-words : (row j : List ℕ) (code at past left : ℕ) → chosen row code (entries (drop at j)) ≡ chosen row code (entries (drop past j)) → dueWords row j code past left ≡ dueWords row j code at left
+due-words : (selection : Selection) (j : List ℕ) (code at past left : ℕ) → chosen selection code (entries (drop at j)) ≡ chosen selection code (entries (drop past j)) → dueWords selection j code past left ≡ dueWords selection j code at left
 unfolding dueWords
-due-words row j code at past left c = ap (λ (os : List Operation). wordsOf (take left os)) (sym c)
+due-words selection j code at past left c = ap (λ (os : List Operation). wordsOf (take left os)) (sym c)
 
 pub mul-one-le : (a n : ℕ) → 0 < n → a ≤ a * n
 mul-one-le a n h = omega (arith, mul-le-mul-left a h)
@@ -94,14 +95,14 @@ pub once-le : (a n : ℕ) → n ≤ 1 → a * n ≤ a
 once-le a n h = omega (arith, mul-le-mul-left a h)
 
 -- what the writer stores from here on makes the area what it is to be
-pub record Writing (aim row j : List ℕ) (code : ℕ) (area : List ℕ) (at to left : ℕ) : Type 0 where
-  pub due : Due row j code at left
+pub record Writing (aim : List ℕ) (selection : Selection) (j : List ℕ) (code : ℕ) (area : List ℕ) (at to left : ℕ) : Type 0 where
+  pub due : Due selection j code at left
   pub room : to + 4 * (width code * left) ≤ length area
-  pub rest : sets area to (wordBytes (dueWords row j code at left)) ≡ aim
+  pub rest : sets area to (wordBytes (dueWords selection j code at left)) ≡ aim
 
-module _ (aim row j : List ℕ) (code : ℕ) (area : List ℕ) (at to left : ℕ) (w : Writing aim row j code area at to left) (h : 0 < left) where
+module _ (aim : List ℕ) (selection : Selection) (j : List ℕ) (code : ℕ) (area : List ℕ) (at to left : ℕ) (w : Writing aim selection j code area at to left) (h : 0 < left) where
   abbrev shown : Bool
-  shown = reports row code (entryOf (firstRecord (drop at j)))
+  shown = reports selection code (entryOf (firstRecord (drop at j)))
 
   abbrev past : ℕ
   past = at + sizeOf (drop at j)
@@ -110,22 +111,22 @@ module _ (aim row j : List ℕ) (code : ℕ) (area : List ℕ) (at to left : ℕ
   stored = sets area to (wordBytes (operandsAt j code at))
 
   inside : at < length j
-  inside = due-inside row j code at left (w .due) h
+  inside = due-inside selection j code at left (w .due) h
 
   same-size : length stored ≡ length area
   same-size = length-sets area to (wordBytes (operandsAt j code at))
 
   -- a record that counts: its operands stay
-  counts : shown ≡ true → Writing aim row j code stored past (to + 4 * width code) (left - 1)
+  counts : shown ≡ true → Writing aim selection j code stored past (to + 4 * width code) (left - 1)
   unfolding dueWords wordsOf
   counts e =
       let d = w .due in
-      let c = chosen-here (reports row code) operation each-entry j at inside e in
-      let os = chosen row code (entries (drop past j)) in
+      let c = chosen-here (reports selection code) operation each-entry j at inside e in
+      let os = chosen selection code (entries (drop past j)) in
       let more : width code * left ≡ width code + width code * (left - 1) = pred-mul (width code) left h in
-      let first : take left (chosen row code (entries (drop at j))) ≡ operationOf (firstRecord (drop at j)) ∷ take (left - 1) os = ap (take left) c ∙ take-one left _ os h in
-      let words : wordsOf (take left (chosen row code (entries (drop at j)))) ≡ operandsAt j code at ++ wordsOf (take (left - 1) os) =
-      ap wordsOf first ∙ ap (λ (l : List ℕ). l ++ wordsOf (take (left - 1) os)) (walked-operands j at inside (d .sound) row code e) in
+      let first : take left (chosen selection code (entries (drop at j))) ≡ operationOf (firstRecord (drop at j)) ∷ take (left - 1) os = ap (take left) c ∙ take-one left _ os h in
+      let words : wordsOf (take left (chosen selection code (entries (drop at j)))) ≡ operandsAt j code at ++ wordsOf (take (left - 1) os) =
+      ap wordsOf first ∙ ap (λ (l : List ℕ). l ++ wordsOf (take (left - 1) os)) (walked-operands j at inside (d .sound) selection code e) in
       record {
         due = record { of = d .of; sound = walked-on j at inside (d .sound); enough = omega (arith, d .enough, ap (λ (l : List Operation). length l) c) };
         room = rw same-size (omega (arith, w .room, more));
@@ -142,35 +143,35 @@ module _ (aim row j : List ℕ) (code : ℕ) (area : List ℕ) (at to left : ℕ
       pred-mul a (suc n) p = rw (sub-one (suc n)) (omega arith)
 
   -- a record that is passed over: what was stored is stored over
-  passes : shown ≡ false → Writing aim row j code stored past to left
+  passes : shown ≡ false → Writing aim selection j code stored past to left
   passes e =
       let d = w .due in
-      let c = chosen-later (reports row code) operation each-entry j at inside e in
-      let words : dueWords row j code past left ≡ dueWords row j code at left = due-words row j code at past left c in
+      let c = chosen-later (reports selection code) operation each-entry j at inside e in
+      let words : dueWords selection j code past left ≡ dueWords selection j code at left = due-words selection j code at past left c in
       let wide : width code ≤ width code * left = mul-one-le (width code) left h in
       record {
         due = record { of = d .of; sound = walked-on j at inside (d .sound); enough = omega (arith, d .enough, ap (λ (l : List Operation). length l) c) };
         room = rw same-size (w .room);
         rest = ap (λ (l : List ℕ). sets stored to (wordBytes l)) words
-            ∙ sets-over (wordBytes (operandsAt j code at)) (wordBytes (dueWords row j code at left)) area to
-            (omega (arith, length-wordBytes (operandsAt j code at), length-operandsAt j code at, length-wordBytes (dueWords row j code at left), due-length row j code at left d))
+            ∙ sets-over (wordBytes (operandsAt j code at)) (wordBytes (dueWords selection j code at left)) area to
+            (omega (arith, length-wordBytes (operandsAt j code at), length-operandsAt j code at, length-wordBytes (dueWords selection j code at left), due-length selection j code at left d))
             ∙ w .rest;
       }
 
-  pub turn : Writing aim row j code stored past (to + 4 * width code * one-if shown) (left - one-if shown)
+  pub turn : Writing aim selection j code stored past (to + 4 * width code * one-if shown) (left - one-if shown)
   turn = go shown refl
     where
-      go : (t : Bool) → shown ≡ t → Writing aim row j code stored past (to + 4 * width code * one-if t) (left - one-if t)
+      go : (t : Bool) → shown ≡ t → Writing aim selection j code stored past (to + 4 * width code * one-if t) (left - one-if t)
       go true e = rw (mul-one (4 * width code)) (counts e)
       go false e = let z : left - 0 ≡ left = omega arith in let y : to + 0 ≡ to = omega arith in rw (mul-zero (4 * width code), z, y) (passes e)
 
-pub writing-start : (row j : List ℕ) (code at n : ℕ) (area : List ℕ) (to : ℕ) → Due row j code at n → to + 4 * (width code * n) ≤ length area
-    → Writing (sets area to (wordBytes (dueWords row j code at n))) row j code area at to n
-writing-start row j code at n area to d h = record { due = d; room = h; rest = refl }
+pub writing-start : (selection : Selection) (j : List ℕ) (code at n : ℕ) (area : List ℕ) (to : ℕ) → Due selection j code at n → to + 4 * (width code * n) ≤ length area
+    → Writing (sets area to (wordBytes (dueWords selection j code at n))) selection j code area at to n
+writing-start selection j code at n area to d h = record { due = d; room = h; rest = refl }
 
-pub writing-end : (aim row j : List ℕ) (code : ℕ) (area : List ℕ) (at to left : ℕ) → Writing aim row j code area at to left → left ≡ 0 → area ≡ aim
+pub writing-end : (aim : List ℕ) (selection : Selection) (j : List ℕ) (code : ℕ) (area : List ℕ) (at to left : ℕ) → Writing aim selection j code area at to left → left ≡ 0 → area ≡ aim
 unfolding dueWords wordsOf wordBytes
-writing-end aim row j code area at to left w h = rw h at (w .rest)
+writing-end aim selection j code area at to left w h = rw h at (w .rest)
 
 pub width-three : (code : ℕ) → code ≡ 3 → width code ≡ 2
 width-three code h = rw (eq-eqb code 3 h)
@@ -183,20 +184,20 @@ operands-other j code at h = rw (ne-eqb code 3 h)
 
 -- ---- one opcode's part
 
-pub part-length : (row j : List ℕ) (code first count : ℕ) → IsOpcode code → count ≤ length (chosen row code (entries j)) - first
-    → length (partFrom row j code first count) ≡ partWords (width code * count)
-part-length row j code first count of inside =
-    let rest = drop first (chosen row code (entries j)) in
+pub part-length : (selection : Selection) (j : List ℕ) (code first count : ℕ) → IsOpcode code → count ≤ length (chosen selection code (entries j)) - first
+    → length (partFrom selection j code first count) ≡ partWords (width code * count)
+part-length selection j code first count of inside =
+    let rest = drop first (chosen selection code (entries j)) in
     let all : length (take count rest) ≡ count = length-take-le count rest (rw length-drop inside) in
     length-part code (wordsOf (take count rest))
-    ∙ ap partWords (words-width code (take count rest) of (first-code row j code first count) ∙ ap (λ (n : ℕ). width code * n) all)
+    ∙ ap partWords (words-width code (take count rest) of (first-code selection j code first count) ∙ ap (λ (n : ℕ). width code * n) all)
 
 -- the operations from a place that was found are those of the whole journal from number k on
-module _ (row j : List ℕ) (code k from n : ℕ) (r : Resumes row j code k from 0) where
-  pub found-due : wellFormed j ≡ true → IsOpcode code → k + n ≤ length (chosen row code (entries j)) → Due row j code from n
+module _ (selection : Selection) (j : List ℕ) (code k from n : ℕ) (r : Resumes selection j code k from 0) where
+  pub found-due : wellFormed j ≡ true → IsOpcode code → k + n ≤ length (chosen selection code (entries j)) → Due selection j code from n
   found-due w o e = record { of = o; sound = r .sound (all-good j w); enough = omega (arith, r .number) }
 
-  pub found-words : dueWords row j code from n ≡ wordsOf (take n (drop k (chosen row code (entries j))))
+  pub found-words : dueWords selection j code from n ≡ wordsOf (take n (drop k (chosen selection code (entries j))))
   unfolding dueWords
   found-words = ap (λ (os : List Operation). wordsOf (take n os)) (sym (r .same))
 
@@ -211,9 +212,9 @@ sized code r n e l h =
     let b = width-some code in
     rw e (record { is = refl; some = omega (arith, mul-one-le (width code) n l); few = omega (arith, mul-le-mul (b .1) h) })
 
-pub no-part : (l row j : List ℕ) (code k n to : ℕ) → n ≡ 0 → (to ≡ to + 4 * partWords (width code * n)) × (l ≡ sets l to (wordBytes (partFrom row j code k n)))
+pub no-part : (l : List ℕ) (selection : Selection) (j : List ℕ) (code k n to : ℕ) → n ≡ 0 → (to ≡ to + 4 * partWords (width code * n)) × (l ≡ sets l to (wordBytes (partFrom selection j code k n)))
 unfolding wordBytes wordsOf operator
-no-part l row j code k n to h = rw (h, mul-zero (width code)) (omega arith, refl)
+no-part l selection j code k n to h = rw (h, mul-zero (width code)) (omega arith, refl)
 
 -- the operator, and the operands behind it
 pub part-stored : (l l₁ l₂ : List ℕ) (to code n : ℕ) (ws : List ℕ) → n ≡ length ws → 0 < n → l₁ ≡ sets l to (beBytes 4 (code * 16777216 + n)) → l₂ ≡ sets l₁ (to + 4) (wordBytes ws)

@@ -5,6 +5,7 @@ use mathlib.Core.Bool.{Bool, true}
 use mathlib.Core.List.{List, [], _∷_, _++_}
 use lib.Dec.{T, eqb}
 use lib.ListN.{length, replicate}
+use Rattle.journal.specs.Scope.{Selection}
 use Rattle.words.specs.Numbers.{Bytes, Small}
 use Rattle.words.specs.Cases.{all}
 use Rattle.journal.specs.declared.operation.Operation.{Operation}
@@ -35,7 +36,7 @@ pub record Listed (os : List Operation) : Type 0 where
 
 -- Every reportable list is one.
 abbrev pub ReportableListed : Type 0
-ReportableListed = (row j : List ℕ) → Bytes j → wellFormed j ≡ true → Listed (reportable row j)
+ReportableListed = (selection : Selection) (j : List ℕ) → Bytes j → wellFormed j ≡ true → Listed (reportable selection j)
 
 -- Reading what was written gives back the run, so it is never refused.
 abbrev pub RoundTrip : Type 0

@@ -4,6 +4,7 @@ ghost use mathlib.Core.Bool.{true};
 ghost use Prim.Native.Nat.{_+_, _*_, _-_, _<_, _≤_};
 ghost use lib.ListN.{length};
 ghost use lib.Seq.{sets};
+ghost use Rattle.journal.specs.Scope.{byRow};
 ghost use Rattle.words.specs.Numbers.{wordBytes};
 ghost use Rattle.journal.specs.Journal.{IsOpcode, wellFormed, entries};
 ghost use Rattle.journal.specs.Reportable.{chosen, reportable};
@@ -51,8 +52,8 @@ fn write_operands(
     count: usize,
     start: usize,
 )
-    requires { ⌜ Due (now row) (now j) code from count × (start + 4 * (width code * count) ≤ length (now area)) ⌝ }
-    ensures { λ _. ⌜ now (area .exit) ≡ sets (now (area .entry)) start (wordBytes (dueWords (now (row .entry)) (now (j .entry)) code from count)) ⌝ }
+    requires { ⌜ Due (byRow (now row)) (now j) code from count × (start + 4 * (width code * count) ≤ length (now area)) ⌝ }
+    ensures { λ _. ⌜ now (area .exit) ≡ sets (now (area .entry)) start (wordBytes (dueWords (byRow (now (row .entry))) (now (j .entry)) code from count)) ⌝ }
 {
     let step = 4 * width_of(code);
     let mut at = from;
@@ -84,9 +85,9 @@ fn write_part(
     part: Part,
     to: usize,
 ) -> usize
-    requires { ⌜ (wellFormed (now j) ≡ true) × Marked (now row) (now j) (now marks) noted × IsOpcode (part .code) × (part .count ≤ length (chosen (now row) (part .code) (entries (now j))) - part .first) × (part .count ≤ areaWords) × (to + 4 * partWords (width (part .code) * part .count) ≤ length (now area)) ⌝ }
+    requires { ⌜ (wellFormed (now j) ≡ true) × Marked (byRow (now row)) (now j) (now marks) noted × IsOpcode (part .code) × (part .count ≤ length (chosen (byRow (now row)) (part .code) (entries (now j))) - part .first) × (part .count ≤ areaWords) × (to + 4 * partWords (width (part .code) * part .count) ≤ length (now area)) ⌝ }
     ensures { λ r. ⌜ r ≡ to + 4 * partWords (width (part .code) * part .count) ⌝ }
-    ensures { λ _. ⌜ now (area .exit) ≡ sets (now (area .entry)) to (wordBytes (partFrom (now (row .entry)) (now (j .entry)) (part .code) (part .first) (part .count))) ⌝ }
+    ensures { λ _. ⌜ now (area .exit) ≡ sets (now (area .entry)) to (wordBytes (partFrom (byRow (now (row .entry))) (now (j .entry)) (part .code) (part .first) (part .count))) ⌝ }
 {
     let code = part.code;
     let first = part.first;
@@ -111,8 +112,8 @@ fn write_body(
     passed: Counts,
     run: Counts,
 )
-    requires { ⌜ (length (now area) ≡ areaSize) × (wellFormed (now j) ≡ true) × Marked (now row) (now j) (now marks) noted × Handed (now row) (now j) passed run ⌝ }
-    ensures { λ _. ⌜ now (area .exit) ≡ sets (now (area .entry)) headSize (wordBytes (bodyFrom (now (row .entry)) (now (j .entry)) passed run)) ⌝ }
+    requires { ⌜ (length (now area) ≡ areaSize) × (wellFormed (now j) ≡ true) × Marked (byRow (now row)) (now j) (now marks) noted × Handed (byRow (now row)) (now j) passed run ⌝ }
+    ensures { λ _. ⌜ now (area .exit) ≡ sets (now (area .entry)) headSize (wordBytes (bodyFrom (byRow (now (row .entry))) (now (j .entry)) passed run)) ⌝ }
 {
     let deletes = Part {
         code: 1,
@@ -145,9 +146,9 @@ pub fn write_answer(
     noted: usize,
     state: StateVariable,
 ) -> bool
-    requires { ⌜ (length (now area) ≡ areaSize) × Source (now row) (now j) counts (now marks) noted × (state .0 ≤ total counts) ⌝ }
-    ensures { λ r. ⌜ r ≡ remains (reportable (now (row .entry)) (now (j .entry))) (state .0) ⌝ }
-    ensures { λ _. ⌜ now (area .exit) ≡ written (now (area .entry)) (reportable (now (row .entry)) (now (j .entry))) (state .0) ⌝ }
+    requires { ⌜ (length (now area) ≡ areaSize) × Source (byRow (now row)) (now j) counts (now marks) noted × (state .0 ≤ total counts) ⌝ }
+    ensures { λ r. ⌜ r ≡ remains (reportable (byRow (now (row .entry))) (now (j .entry))) (state .0) ⌝ }
+    ensures { λ _. ⌜ now (area .exit) ≡ written (now (area .entry)) (reportable (byRow (now (row .entry))) (now (j .entry))) (state .0) ⌝ }
     ensures claims { λ _. ⌜ AreaClaims ⌝ }
 {
     let run = longest_run(state.remaining(counts));

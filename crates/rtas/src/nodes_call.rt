@@ -2,6 +2,7 @@
 ghost use mathlib.Core.Path.{_≡_};
 ghost use Prim.Native.Nat.{_<_};
 ghost use lib.ListN.{length};
+ghost use Rattle.journal.specs.Scope.{byRow};
 ghost use Rattle.nodes.specs.Head.{areaSize};
 ghost use Rattle.nodes.specs.Source.{Source};
 ghost use Rattle.calls.specs.UpdateNodes.{placed, areaStatus, areaAfter, nodesStatus, nodesMemory};
@@ -27,9 +28,9 @@ fn answer_counted(
     marks: &[u64; 128],
     noted: usize,
 ) -> Status
-    requires { ⌜ (length (now area) ≡ areaSize) × Source (now row) (now j) counts (now marks) noted ⌝ }
-    ensures { λ r. ⌜ r ≡ areaStatus (now (row .entry)) (now (j .entry)) (now (area .entry)) ⌝ }
-    ensures { λ _. ⌜ now (area .exit) ≡ areaAfter (now (row .entry)) (now (j .entry)) (now (area .entry)) ⌝ }
+    requires { ⌜ (length (now area) ≡ areaSize) × Source (byRow (now row)) (now j) counts (now marks) noted ⌝ }
+    ensures { λ r. ⌜ r ≡ areaStatus (byRow (now (row .entry))) (now (j .entry)) (now (area .entry)) ⌝ }
+    ensures { λ _. ⌜ now (area .exit) ≡ areaAfter (byRow (now (row .entry))) (now (j .entry)) (now (area .entry)) ⌝ }
 {
     if !nodes::is_reserved(area) {
         return Status::Parameter;
@@ -48,8 +49,8 @@ fn answer_counted(
 // The answer of a call in its work area: the journal is judged first.
 fn answer_area(area: &mut [u8], j: &[u8], row: &[u8; 17]) -> Status
     requires { ⌜ length (now area) ≡ areaSize ⌝ }
-    ensures { λ r. ⌜ r ≡ areaStatus (now (row .entry)) (now (j .entry)) (now (area .entry)) ⌝ }
-    ensures { λ _. ⌜ now (area .exit) ≡ areaAfter (now (row .entry)) (now (j .entry)) (now (area .entry)) ⌝ }
+    ensures { λ r. ⌜ r ≡ areaStatus (byRow (now (row .entry))) (now (j .entry)) (now (area .entry)) ⌝ }
+    ensures { λ _. ⌜ now (area .exit) ≡ areaAfter (byRow (now (row .entry))) (now (j .entry)) (now (area .entry)) ⌝ }
 {
     let scanned = journal::scan(j, row);
     let judgement = scanned.judgement;

@@ -6,14 +6,14 @@ use denote.Ref.{now}
 use Rattle.bench.proofs.Counting.{total-of, light-of}
 use Rattle.bench.specs.Bench.{reportedOf}
 use Rattle.journal.specs.Reportable.{judgementOf}
-use Rattle.journal.specs.Scope.{rowOf}
+use Rattle.journal.specs.Scope.{byRow, selectionOf}
 use Rattle.journal.specs.declared.scope.Row.{Row}
 use Rattle.bench.proofs.draugsten_bench_scan.Statement.{statement}
 use Rattle.bench.proofs.draugsten_bench_scan.Tie as tie
 
--- what the scan told, over the row of the scope
-told : (c : tie.After-scan) → c .scan .result .judgement ≡ judgementOf (rowOf (c .before .before .before .before .before .args .scope)) (now (c .before .before .before .before .before .args .journal))
-told c = c .scan .ensures .0 .0 ∙ ap (λ (r : Row). judgementOf (r .sets) (now (c .before .before .before .before .before .args .journal))) (c .before .before .before .scope-row .ensures .0)
+-- what the scan told, over the selection of the scope
+told : (c : tie.After-scan) → c .scan .result .judgement ≡ judgementOf (selectionOf (c .before .before .before .before .before .args .scope)) (now (c .before .before .before .before .before .args .journal))
+told c = c .scan .ensures .0 .0 ∙ ap (λ (r : Row). judgementOf (byRow (r .sets)) (now (c .before .before .before .before .before .args .journal))) (c .before .before .before .scope-row .ensures .0)
 
 scope-row-requires : tie.Need-scope-row-requires
 scope-row-requires c κs = search needs

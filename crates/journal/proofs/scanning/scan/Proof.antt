@@ -8,6 +8,7 @@ use denote.Ref.{now}
 use Rattle.journal.proofs.Claims.{well-formed-cases, too-large, size-limit}
 use Rattle.journal.proofs.MarkLaws.{marked-none, marked-note, noted-length}
 use Rattle.journal.proofs.Reaching.{position, reached-none, reached-end, malformed, advanced-bad, advanced-upto}
+use Rattle.journal.specs.Scope.{byRow}
 use Rattle.journal.specs.Claims.{WellFormedCases, SizeLimit}
 use Rattle.journal.specs.Marks.{Marked}
 use Rattle.journal.specs.Scanning.{Reached}
@@ -19,7 +20,7 @@ rules : WellFormedCases × SizeLimit
 rules = (well-formed-cases, size-limit)
 
 abbrev Inv-loop : tie.InvT-loop
-Inv-loop j row marks₀ noted₀ weights at₀ counts₀ marks noted at counts = Reached row j (position at counts) × Marked row j marks noted × (length marks ≡ 128)
+Inv-loop j row marks₀ noted₀ weights at₀ counts₀ marks noted at counts = Reached (byRow row) j (position at counts) × Marked (byRow row) j marks noted × (length marks ≡ 128)
 
 abbrev μ-loop : tie.MeasureT-loop
 μ-loop j row marks₀ noted₀ weights at₀ counts₀ marks noted at counts = length j - at
@@ -37,12 +38,12 @@ note-requires : tie.Need-note-requires Inv-loop μ-loop
 note-requires c κs = c .before .before .loop .inv .1 .few
 
 -- the marks after one was offered
-marks-then : (c : tie.After-note Inv-loop μ-loop) → Marked (now (c .before .before .before .before .before .before .before .args .row)) (now (c .before .before .before .before .before .before .before .args .j)) (c .note .last .0) (c .note .result)
-marks-then c = marked-note (now (c .before .before .before .before .before .before .before .args .row)) (now (c .before .before .before .before .before .before .before .args .j)) _ _ _ _ _ (c .before .before .before .loop .inv .2) (c .before .before .before .loop .inv .0) (c .before .before .before .loop .inv .1) (c .note .ensures)
+marks-then : (c : tie.After-note Inv-loop μ-loop) → Marked (byRow (now (c .before .before .before .before .before .before .before .args .row))) (now (c .before .before .before .before .before .before .before .args .j)) (c .note .last .0) (c .note .result)
+marks-then c = marked-note (byRow (now (c .before .before .before .before .before .before .before .args .row))) (now (c .before .before .before .before .before .before .before .args .j)) _ _ _ _ _ (c .before .before .before .loop .inv .2) (c .before .before .before .loop .inv .0) (c .before .before .before .loop .inv .1) (c .note .ensures)
 
 -- where the scan stands after a step
-turn : (c : tie.After-known-told Inv-loop μ-loop) → Reached (now (c .before .before .before .before .before .before .before .before .before .before .before .before .args .row)) (now (c .before .before .before .before .before .before .before .before .before .before .before .before .args .j)) (c .before .step .given .0 .0) × (c .before .before .before .before .before .before .before .before .loop .at + 1 ≤ c .before .step .given .0 .0 .at)
-turn c = advanced-upto (now (c .before .before .before .before .before .before .before .before .before .before .before .before .args .row)) (now (c .before .before .before .before .before .before .before .before .before .before .before .before .args .j)) _ _ _ (c .before .step .given .1) (c .before .before .before .stride .ensures)
+turn : (c : tie.After-known-told Inv-loop μ-loop) → Reached (byRow (now (c .before .before .before .before .before .before .before .before .before .before .before .before .args .row))) (now (c .before .before .before .before .before .before .before .before .before .before .before .before .args .j)) (c .before .step .given .0 .0) × (c .before .before .before .before .before .before .before .before .loop .at + 1 ≤ c .before .step .given .0 .0 .at)
+turn c = advanced-upto (byRow (now (c .before .before .before .before .before .before .before .before .before .before .before .before .args .row))) (now (c .before .before .before .before .before .before .before .before .before .before .before .before .args .j)) _ _ _ (c .before .step .given .1) (c .before .before .before .stride .ensures)
 
 stride-requires : tie.Need-stride-requires Inv-loop μ-loop
 stride-requires c κs = (c .before .before .before .before .loop .inv .0, c .before .before .before .before .before .weights-of .ensures, c .before .before .before .loop-test .taken, c .before .before .before .before .before .before .if1 .left)
@@ -51,7 +52,7 @@ enum-told : tie.Need-enum-told Inv-loop μ-loop
 enum-told c = search needs
 
 returns-2 : tie.Need-returns-2 Inv-loop μ-loop
-returns-2 c = ((malformed _ _ (advanced-bad (now (c .before .before .before .before .before .before .before .before .before .before .before .args .row)) (now (c .before .before .before .before .before .before .before .before .before .before .before .args .j)) _ _ (c .enum-told .given .1) (c .before .before .stride .ensures)), marks-then (c .before .before .before .before)), rules)
+returns-2 c = ((malformed _ _ (advanced-bad (byRow (now (c .before .before .before .before .before .before .before .before .before .before .before .args .row))) (now (c .before .before .before .before .before .before .before .before .before .before .before .args .j)) _ _ (c .enum-told .given .1) (c .before .before .stride .ensures)), marks-then (c .before .before .before .before)), rules)
 
 enum-known-step : tie.Need-enum-known-step Inv-loop μ-loop
 enum-known-step c = search needs
@@ -66,7 +67,7 @@ counts-of-requires : tie.Need-counts-of-requires Inv-loop μ-loop
 counts-of-requires c κs = search needs
 
 returns-3 : tie.Need-returns-3 Inv-loop μ-loop
-returns-3 c = ((ap Counted (c .counts-of .ensures) ∙ reached-end (now (c .before .before .before .before .before .before .args .row)) (now (c .before .before .before .before .before .before .args .j)) (c .before .before .loop .at) _ (c .before .before .before .before .if1 .left) (c .before .before .loop .inv .0) (c .before .loop-test .left), c .before .before .loop .inv .1), rules)
+returns-3 c = ((ap Counted (c .counts-of .ensures) ∙ reached-end (byRow (now (c .before .before .before .before .before .before .args .row))) (now (c .before .before .before .before .before .before .args .j)) (c .before .before .loop .at) _ (c .before .before .before .before .if1 .left) (c .before .before .loop .inv .0) (c .before .loop-test .left), c .before .before .loop .inv .1), rules)
 
 pub scan-spec : {M : Type 1} → statement M
 scan-spec =

@@ -9,12 +9,13 @@ use denote.Ref.{now}
 use Rattle.journal.proofs.RecordLaws.{given-bad, given-good, good-fits, shape-bounds, weighed-size}
 use Rattle.journal.proofs.WeightLaws.{weighed}
 use Rattle.journal.proofs.Reaching.{position, reached-step, reached-bad}
+use Rattle.journal.specs.Scope.{byRow}
 use Rattle.journal.specs.Scanning.{goodHere, shapeAt, Reached, Weighed}
 use Rattle.journal.proofs.stride.past_each.Statement.{statement}
 use Rattle.journal.proofs.stride.past_each.Tie as tie
 
 abbrev Inv-loop : tie.InvT-loop
-Inv-loop j row weights end at₀ counts₀ at counts = Reached row j (position at counts)
+Inv-loop j row weights end at₀ counts₀ at counts = Reached (byRow row) j (position at counts)
 
 abbrev μ-loop : tie.MeasureT-loop
 μ-loop j row weights end at₀ counts₀ at counts = length j - at
@@ -29,7 +30,7 @@ enum-told : tie.Need-enum-told Inv-loop μ-loop
 enum-told c = search needs
 
 returns : tie.Need-returns Inv-loop μ-loop
-returns c = reached-bad (now (c .before .before .before .before .before .before .args .row)) (now (c .before .before .before .before .before .before .args .j)) (c .before .before .before .before .loop .at) (c .before .before .before .before .loop .counts) (c .before .before .before .before .before .before .pre .3) (c .before .before .before .before .loop .inv) (omega (arith, c .before .before .before .before .before .before .pre .2))
+returns c = reached-bad (byRow (now (c .before .before .before .before .before .before .args .row))) (now (c .before .before .before .before .before .before .args .j)) (c .before .before .before .before .loop .at) (c .before .before .before .before .loop .counts) (c .before .before .before .before .before .before .pre .3) (c .before .before .before .before .loop .inv) (omega (arith, c .before .before .before .before .before .before .pre .2))
     (given-bad (now (c .before .before .before .before .before .before .args .j)) (c .before .before .before .before .loop .at) _ (c .enum-told .given .1) (c .before .before .judge .ensures))
 
 enum-known-verdict : tie.Need-enum-known-verdict Inv-loop μ-loop
@@ -39,11 +40,11 @@ enum-known-verdict c = search needs
 good : (c : tie.After-struct-known Inv-loop μ-loop) → (goodHere (now (c .before .before .before .before .before .before .before .before .args .j)) (c .before .before .before .before .before .before .loop .at) ≡ true) × (c .before .before .verdict .given .0 .0 ≡ shapeAt (now (c .before .before .before .before .before .before .before .before .args .j)) (c .before .before .before .before .before .before .loop .at))
 good c = given-good (now (c .before .before .before .before .before .before .before .before .args .j)) (c .before .before .before .before .before .before .loop .at) _ _ (c .before .before .verdict .given .1) (c .before .before .before .before .judge .ensures)
 
-here : (c : tie.After-weight-of Inv-loop μ-loop) → Weighed (now (c .before .before .before .before .before .before .before .before .before .args .row)) (now (c .before .before .before .before .before .before .before .before .before .args .j)) (c .before .before .before .before .before .before .before .loop .at) (c .before .before .before .verdict .given .0 .0 .size) (c .weight-of .result)
-here c = weighed (now (c .before .before .before .before .before .before .before .before .before .args .row)) (now (c .before .before .before .before .before .before .before .before .before .args .j)) (now (c .before .before .before .before .before .before .before .before .before .args .weights)) (c .before .before .before .before .before .before .before .loop .at) _ _ (c .before .before .before .before .before .before .before .before .before .pre .1) (good (c .before)) (c .weight-of .ensures)
+here : (c : tie.After-weight-of Inv-loop μ-loop) → Weighed (byRow (now (c .before .before .before .before .before .before .before .before .before .args .row))) (now (c .before .before .before .before .before .before .before .before .before .args .j)) (c .before .before .before .before .before .before .before .loop .at) (c .before .before .before .verdict .given .0 .0 .size) (c .weight-of .result)
+here c = weighed (byRow (now (c .before .before .before .before .before .before .before .before .before .args .row))) (now (c .before .before .before .before .before .before .before .before .before .args .j)) (now (c .before .before .before .before .before .before .before .before .before .args .weights)) (c .before .before .before .before .before .before .before .loop .at) _ _ (c .before .before .before .before .before .before .before .before .before .pre .1) (good (c .before)) (c .weight-of .ensures)
 
-turn : (c : tie.After-weight-of Inv-loop μ-loop) → Reached (now (c .before .before .before .before .before .before .before .before .before .args .row)) (now (c .before .before .before .before .before .before .before .before .before .args .j)) (position (c .before .before .before .before .before .before .before .loop .at + c .before .before .before .verdict .given .0 .0 .size) (c .before .before .before .before .before .before .before .loop .counts + c .weight-of .result))
-turn c = reached-step (now (c .before .before .before .before .before .before .before .before .before .args .row)) (now (c .before .before .before .before .before .before .before .before .before .args .j)) (c .before .before .before .before .before .before .before .loop .at) (c .before .before .before .before .before .before .before .loop .counts) (c .before .before .before .before .before .before .before .before .before .pre .3) (c .before .before .before .before .before .before .before .loop .inv) _ _ (omega (arith, c .before .before .before .before .before .before .before .before .before .pre .2)) (here c)
+turn : (c : tie.After-weight-of Inv-loop μ-loop) → Reached (byRow (now (c .before .before .before .before .before .before .before .before .before .args .row))) (now (c .before .before .before .before .before .before .before .before .before .args .j)) (position (c .before .before .before .before .before .before .before .loop .at + c .before .before .before .verdict .given .0 .0 .size) (c .before .before .before .before .before .before .before .loop .counts + c .weight-of .result))
+turn c = reached-step (byRow (now (c .before .before .before .before .before .before .before .before .before .args .row))) (now (c .before .before .before .before .before .before .before .before .before .args .j)) (c .before .before .before .before .before .before .before .loop .at) (c .before .before .before .before .before .before .before .loop .counts) (c .before .before .before .before .before .before .before .before .before .pre .3) (c .before .before .before .before .before .before .before .loop .inv) _ _ (omega (arith, c .before .before .before .before .before .before .before .before .before .pre .2)) (here c)
 
 add-at : tie.Need-add-at Inv-loop μ-loop
 add-at c = rw (good c .1) (omega (arith, good-fits (now (c .before .before .before .before .before .before .before .before .args .j)) (c .before .before .before .before .before .before .loop .at) (good c .0), c .before .before .before .before .before .before .loop .inv .inside))
@@ -55,7 +56,7 @@ add-counts : tie.Need-add-counts Inv-loop μ-loop
 add-counts c = record { fits = omega (arith, turn c) }
 
 loop-less : tie.Need-loop-less Inv-loop μ-loop
-loop-less c = omega (arith, turn c, weighed-size (now (c .before .before .before .before .before .before .before .before .before .args .row)) (now (c .before .before .before .before .before .before .before .before .before .args .j)) (c .before .before .before .before .before .before .before .loop .at) _ _ (here c))
+loop-less c = omega (arith, turn c, weighed-size (byRow (now (c .before .before .before .before .before .before .before .before .before .args .row))) (now (c .before .before .before .before .before .before .before .before .before .args .j)) (c .before .before .before .before .before .before .before .loop .at) _ _ (here c))
 
 loop-again : tie.Need-loop-again Inv-loop μ-loop
 loop-again c = turn c

@@ -6,12 +6,13 @@ use borrow.Author.Needs.{needs}
 use borrow.Author.Tests.{not-false}
 use denote.Ref.{now}
 use Rattle.journal.proofs.Reaching.{position, reached-four}
+use Rattle.journal.specs.Scope.{byRow}
 use Rattle.journal.specs.Scanning.{Reached}
 use Rattle.journal.proofs.stride.past_same.Statement.{statement}
 use Rattle.journal.proofs.stride.past_same.Tie as tie
 
 abbrev Inv-loop : tie.InvT-loop
-Inv-loop j row header size weight limit at₀ counts₀ four at counts = Reached row j (position at counts) × (at₀ ≤ at) × (four ≡ 4 * size)
+Inv-loop j row header size weight limit at₀ counts₀ four at counts = Reached (byRow row) j (position at counts) × (at₀ ≤ at) × (four ≡ 4 * size)
 
 abbrev μ-loop : tie.MeasureT-loop
 μ-loop j row header size weight limit at₀ counts₀ four at counts = limit - at
@@ -29,9 +30,9 @@ four-headers-requires : tie.Need-four-headers-requires Inv-loop μ-loop
 four-headers-requires c κs = (omega (arith, c .before .before .before .pre .1 .large), c .before .before .before .pre .1 .small)
 
 -- past four records
-turn : (c : tie.Else1 Inv-loop μ-loop) → Reached (now (c .before .before .before .before .before .args .row)) (now (c .before .before .before .before .before .args .j)) (position (c .before .before .before .loop .at + 4 * c .before .before .before .before .before .args .size) (c .before .before .before .loop .counts + 4 * c .before .before .before .before .before .args .weight))
+turn : (c : tie.Else1 Inv-loop μ-loop) → Reached (byRow (now (c .before .before .before .before .before .args .row))) (now (c .before .before .before .before .before .args .j)) (position (c .before .before .before .loop .at + 4 * c .before .before .before .before .before .args .size) (c .before .before .before .loop .counts + 4 * c .before .before .before .before .before .args .weight))
 turn c =
-    reached-four (now (c .before .before .before .before .before .args .row)) (now (c .before .before .before .before .before .args .j)) (c .before .before .before .before .before .args .header) (c .before .before .before .before .before .args .size) (c .before .before .before .before .before .args .weight) (c .before .before .before .before .before .pre .3) (c .before .before .before .before .before .pre .1) (c .before .before .before .loop .at) (c .before .before .before .loop .counts)
+    reached-four (byRow (now (c .before .before .before .before .before .args .row))) (now (c .before .before .before .before .before .args .j)) (c .before .before .before .before .before .args .header) (c .before .before .before .before .before .args .size) (c .before .before .before .before .before .args .weight) (c .before .before .before .before .before .pre .3) (c .before .before .before .before .before .pre .1) (c .before .before .before .loop .at) (c .before .before .before .loop .counts)
     (omega arith) (sym (c .before .four-headers .ensures) ∙ not-false _ (c .if1 .left)) (c .before .before .before .loop .inv .0)
 
 mul-counts : tie.Need-mul-counts Inv-loop μ-loop

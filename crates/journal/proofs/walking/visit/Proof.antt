@@ -8,6 +8,7 @@ use borrow.Author.Needs.{needs}
 use denote.Ref.{now}
 use Rattle.journal.proofs.RecordLaws.{good-size, good-fits, good-node, good-reports}
 use Rattle.journal.proofs.Walks.{walked}
+use Rattle.journal.specs.Scope.{byRow}
 use Rattle.journal.specs.Scanning.{goodHere}
 use Rattle.records.specs.declared.framing.Frame.{Frame}
 use Rattle.journal.proofs.walking.visit.Statement.{statement}
@@ -44,7 +45,7 @@ record-size-requires c κs = search needs
 returns : tie.Need-returns
 returns c = (
   c .record-size .ensures ∙ ap (λ (f : Frame). f .length + 2) (c .before .before .before .before .before .read-frame .ensures),
-  c .before .reported .ensures ∙ rw (good-reports (now (c .before .before .before .before .before .before .before .args .j)) (c .before .before .before .before .before .before .before .args .at) (good (c .before .before .before .before .before .before .before)) (now (c .before .before .before .before .before .before .before .args .row)) (c .before .before .before .before .before .before .before .args .code), c .before .before .before .before .read-type .ensures, c .before .before .before .before .before .read-frame .ensures),
+  c .before .reported .ensures ∙ rw (good-reports (now (c .before .before .before .before .before .before .before .args .j)) (c .before .before .before .before .before .before .before .args .at) (good (c .before .before .before .before .before .before .before)) (byRow (now (c .before .before .before .before .before .before .before .args .row))) (c .before .before .before .before .before .before .before .args .code), c .before .before .before .before .read-type .ensures, c .before .before .before .before .before .read-frame .ensures),
 )
 
 pub visit-spec : {M : Type 1} → statement M

@@ -3,12 +3,13 @@ use mathlib.Core.Path.{refl}
 use Prim.Native.Nat.{_-_}
 use native.Mathlib.Omega.{arith}
 use borrow.Author.Needs.{needs}
+use Rattle.journal.specs.Scope.{byRow}
 use Rattle.journal.proofs.WeightLaws.{Filled, filled-next}
 use Rattle.journal.proofs.weights.weights_of.Statement.{statement}
 use Rattle.journal.proofs.weights.weights_of.Tie as tie
 
 abbrev Inv-loop : tie.InvT-loop
-Inv-loop row table₀ i₀ table i = Filled row table i
+Inv-loop row table₀ i₀ table i = Filled (byRow row) table i
 
 abbrev μ-loop : tie.MeasureT-loop
 μ-loop row table₀ i₀ table i = 128 - i

@@ -5,6 +5,7 @@ use native.Mathlib.Omega.{arith}
 use lib.Seq.{sets}
 use borrow.Author.Needs.{needs}
 use denote.Ref.{now}
+use Rattle.journal.specs.Scope.{byRow}
 use Rattle.nodes.proofs.Answers.{counts-small, handed, answer-stored}
 use Rattle.nodes.proofs.Claims.{area-claims}
 use Rattle.nodes.proofs.Listed.{few, remains-is, next-is}
@@ -29,10 +30,10 @@ sums : (c : tie.After-longest-run)
     (a .state .0 + total (c .longest-run .result) ≤ total (a .counts)) × (total (a .counts) ≤ 3145728)
 sums c =
     let s = c .before .before .before .before in
-    let row = now (s .args .row) in
+    let selection = byRow (now (s .args .row)) in
     let j = now (s .args .j) in
     let p = s .pre in
-    (few row j (s .args .counts) (s .args .state .0) (p .1 .counted) (p .2) _ (fitting c), counts-small row j _ (p .1 .good) (p .1 .counted))
+    (few selection j (s .args .counts) (s .args .state .0) (p .1 .counted) (p .2) _ (fitting c), counts-small selection j _ (p .1 .good) (p .1 .counted))
 
 after-requires : tie.Need-after-requires
 after-requires c κs = omega (arith, sums c)
@@ -54,7 +55,7 @@ write-body-requires c κs =
     let s = c .before .before .before .before .before .before .before .before .before .before .before .before .before in
     let p = s .pre in
     let f = fitting (c .before .before .before .before .before .before .before .before .before) in
-    let h = handed (now (s .args .row)) (now (s .args .j)) (s .args .counts) (s .args .state .0) (p .1 .counted) (p .2) _ f in
+    let h = handed (byRow (now (s .args .row))) (now (s .args .j)) (s .args .counts) (s .args .state .0) (p .1 .counted) (p .2) _ f in
     (c .before .before .before .before .write-head .kept .0 ∙ p .0, p .1 .good, p .1 .marked, rw (c .passed .ensures) h)
 
 same-length : tie.Need-same-length
@@ -65,7 +66,7 @@ returns c =
     let s = c .before .before .before .before .before .before .before .before .before .before .before .before .before .before .before .before in
     let a = s .args in
     let p = s .pre in
-    let row = now (a .row) in
+    let selection = byRow (now (a .row)) in
     let j = now (a .j) in
     let k = a .state .0 in
     let f = fitting (c .before .before .before .before .before .before .before .before .before .before .before .before) in
@@ -74,10 +75,10 @@ returns c =
     let next = c .before .before .before .before .before .before .before .before .carried in
     let head = c .before .before .before .before .before .before .before .write-head in
     let body = c .before .before .write-body in
-    let state = next-is row j (a .counts) k (p .1 .counted) (p .2) _ f (after .result .0) (next .result .0) (more .result) (after .ensures) (more .ensures) (next .ensures) in (
-      more .ensures ∙ remains-is row j (a .counts) k (p .1 .counted) (p .2) _ f _ (after .ensures),
+    let state = next-is selection j (a .counts) k (p .1 .counted) (p .2) _ f (after .result .0) (next .result .0) (more .result) (after .ensures) (more .ensures) (next .ensures) in (
+      more .ensures ∙ remains-is selection j (a .counts) k (p .1 .counted) (p .2) _ f _ (after .ensures),
       (
-        answer-stored row j (a .counts) k (p .1 .counted) (p .2) _ f (now (a .area)) (head .last .0) (body .last .0) (p .0)
+        answer-stored selection j (a .counts) k (p .1 .counted) (p .2) _ f (now (a .area)) (head .last .0) (body .last .0) (p .0)
             (head .ensures ∙ ap (λ (n : ℕ). sets (now (a .area)) 0 (carriedHead n)) state) (rw (c .before .before .before .passed .ensures) at (body .ensures)),
         area-claims,
       ),

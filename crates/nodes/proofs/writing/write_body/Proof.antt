@@ -3,6 +3,7 @@ use mathlib.Core.Path.{_∙_}
 use native.Mathlib.Omega.{arith}
 use borrow.Author.Needs.{needs}
 use denote.Ref.{now}
+use Rattle.journal.specs.Scope.{byRow}
 use Rattle.nodes.proofs.Answers.{body-stored}
 use Rattle.nodes.proofs.Writes.{part-length}
 use Rattle.journal.proofs.Opcodes.{code-1, code-2, code-3}
@@ -51,14 +52,14 @@ returns c =
     let w = c .before .before .before .before .before .before .before .before .before .before .before .before .before .before .write-part in
     let v = c .before .before .before .before .before .before .before .before .before .before .write-part2 in
     let u = c .before .before .before .before .before .before .write-part3 in
-    let row = now (a .row) in
+    let selection = byRow (now (a .row)) in
     let j = now (a .j) in
     body-stored (now (a .area)) (w .last .0) (v .last .0) (u .last .0) (c .before .before .store-be32 .last .0)
-    (partFrom row j 1 (a .passed .deletes) (a .run .deletes)) (partFrom row j 2 (a .passed .updates) (a .run .updates)) (partFrom row j 3 (a .passed .additions) (a .run .additions))
+    (partFrom selection j 1 (a .passed .deletes) (a .run .deletes)) (partFrom selection j 2 (a .passed .updates) (a .run .updates)) (partFrom selection j 3 (a .passed .additions) (a .run .additions))
     (w .result) (v .result) (u .result)
-    (w .ensures .1) (w .ensures .0 ∙ rw (part-length row j 1 (a .passed .deletes) (a .run .deletes) code-1 (h .deletes)))
-    (v .ensures .1) (v .ensures .0 ∙ rw (part-length row j 2 (a .passed .updates) (a .run .updates) code-2 (h .updates)))
-    (u .ensures .1) (u .ensures .0 ∙ rw (part-length row j 3 (a .passed .additions) (a .run .additions) code-3 (h .additions)))
+    (w .ensures .1) (w .ensures .0 ∙ rw (part-length selection j 1 (a .passed .deletes) (a .run .deletes) code-1 (h .deletes)))
+    (v .ensures .1) (v .ensures .0 ∙ rw (part-length selection j 2 (a .passed .updates) (a .run .updates) code-2 (h .updates)))
+    (u .ensures .1) (u .ensures .0 ∙ rw (part-length selection j 3 (a .passed .additions) (a .run .additions) code-3 (h .additions)))
     (c .before .before .store-be32 .ensures)
 
 pub write-body-spec : {M : Type 1} → statement M

@@ -6,6 +6,7 @@ use lib.ListN.{length, drop}
 use lib.Seq.{sets}
 use borrow.Author.Needs.{needs}
 use denote.Ref.{now}
+use Rattle.journal.specs.Scope.{byRow}
 use Rattle.records.proofs.Choosing.{one-if-le}
 use Rattle.journal.proofs.Walks.{walked-fits, walked-size}
 use Rattle.journal.specs.Journal.{entryOf}
@@ -19,8 +20,8 @@ use Rattle.nodes.proofs.writing.write_operands.Tie as tie
 
 abbrev Inv-loop : tie.InvT-loop
 Inv-loop area₀ j row code from count start step at₀ to₀ due₀ area at to due =
-    let aim = sets area₀ start (wordBytes (dueWords row j code from count)) in
-    Writing aim row j code area at to due × (length area ≡ length area₀) × (step ≡ 4 * width code)
+    let aim = sets area₀ start (wordBytes (dueWords (byRow row) j code from count)) in
+    Writing aim (byRow row) j code area at to due × (length area ≡ length area₀) × (step ≡ 4 * width code)
 
 abbrev μ-loop : tie.MeasureT-loop
 μ-loop area₀ j row code from count start step at₀ to₀ due₀ area at to due = length j - at
@@ -34,13 +35,13 @@ mul-step c = omega (arith, c .width-of .ensures, width-some (c .before .before .
 loop-holds : tie.Need-loop-holds Inv-loop μ-loop
 loop-holds c =
     let s = c .before .before .before in
-    (writing-start (now (s .args .row)) (now (s .args .j)) _ _ _ _ _ (s .pre .0) (s .pre .1), refl, ap (λ (n : ℕ). 4 * n) (c .width-of .ensures))
+    (writing-start (byRow (now (s .args .row))) (now (s .args .j)) _ _ _ _ _ (s .pre .0) (s .pre .1), refl, ap (λ (n : ℕ). 4 * n) (c .width-of .ensures))
 
 visit-requires : tie.Need-visit-requires Inv-loop μ-loop
 visit-requires c κs =
     let a = c .before .before .before .before .before .args in
     let d = c .before .loop .inv .0 .due in
-    (due-inside (now (a .row)) (now (a .j)) _ _ _ d (c .loop-test .taken), d .sound, d .of)
+    (due-inside (byRow (now (a .row))) (now (a .j)) _ _ _ d (c .loop-test .taken), d .sound, d .of)
 
 room : (c : tie.After-store-operands-arg Inv-loop μ-loop)
     → let l = c .before .before .before .loop in
@@ -52,25 +53,25 @@ room c =
 store-operands-requires : tie.Need-store-operands-requires Inv-loop μ-loop
 store-operands-requires c κs =
     let a = c .before .before .before .before .before .before .before .args in
-    (room c, due-record (now (a .row)) (now (a .j)) _ _ _ (c .before .before .before .loop .inv .0 .due) (c .before .before .loop-test .taken))
+    (room c, due-record (byRow (now (a .row))) (now (a .j)) _ _ _ (c .before .before .before .loop .inv .0 .due) (c .before .before .loop-test .taken))
 
 -- past a record, whether it counts or not
 done : (c : tie.After-store-operands Inv-loop μ-loop)
     → let a = c .before .before .before .before .before .before .before .before .args in
     let l = c .before .before .before .before .loop in
     let p = c .before .before .visit .result in
-    let aim = sets (now (a .area)) (a .start) (wordBytes (dueWords (now (a .row)) (now (a .j)) (a .code) (a .from) (a .count))) in
-    Writing aim (now (a .row)) (now (a .j)) (a .code) (c .store-operands .last .0) (l .at + p .size) (l .to + 4 * width (a .code) * p .reported) (l .due - p .reported)
+    let aim = sets (now (a .area)) (a .start) (wordBytes (dueWords (byRow (now (a .row))) (now (a .j)) (a .code) (a .from) (a .count))) in
+    Writing aim (byRow (now (a .row))) (now (a .j)) (a .code) (c .store-operands .last .0) (l .at + p .size) (l .to + 4 * width (a .code) * p .reported) (l .due - p .reported)
 done c =
     let a = c .before .before .before .before .before .before .before .before .args in
     let p = c .before .before .visit .ensures in
-    rw (c .store-operands .ensures, p .0, p .1) (turn _ (now (a .row)) (now (a .j)) _ _ _ _ _ (c .before .before .before .before .loop .inv .0) (c .before .before .before .loop-test .taken))
+    rw (c .store-operands .ensures, p .0, p .1) (turn _ (byRow (now (a .row))) (now (a .j)) _ _ _ _ _ (c .before .before .before .before .loop .inv .0) (c .before .before .before .loop-test .taken))
 
 -- a record counts once or not at all
 once : (c : tie.After-store-operands Inv-loop μ-loop) → c .before .before .visit .result .reported ≤ 1
 once c =
     let a = c .before .before .before .before .before .before .before .before .args in
-    rw (c .before .before .visit .ensures .1) (one-if-le (reports (now (a .row)) (a .code) (entryOf (firstRecord (drop (c .before .before .before .before .loop .at) (now (a .j)))))))
+    rw (c .before .before .visit .ensures .1) (one-if-le (reports (byRow (now (a .row))) (a .code) (entryOf (firstRecord (drop (c .before .before .before .before .loop .at) (now (a .j)))))))
 
 -- what the record adds to the place in the area, and its own place in the journal
 adds : (c : tie.After-store-operands Inv-loop μ-loop) → 4 * c .before .before .before .before .before .width-of .result * c .before .before .visit .result .reported ≤ 8
@@ -82,11 +83,11 @@ moves : (c : tie.After-store-operands Inv-loop μ-loop)
     → let size = c .before .before .visit .result .size in
     (c .before .before .before .before .loop .at + size ≤ length (now (c .before .before .before .before .before .before .before .before .args .j))) × (10 ≤ size)
 moves c =
-    let row = now (c .before .before .before .before .before .before .before .before .args .row) in
+    let selection = byRow (now (c .before .before .before .before .before .before .before .before .args .row)) in
     let j = now (c .before .before .before .before .before .before .before .before .args .j) in
     let l = c .before .before .before .before .loop in
     let d = l .inv .0 .due in
-    let there = due-inside row j _ _ _ d (c .before .before .before .loop-test .taken) in
+    let there = due-inside selection j _ _ _ d (c .before .before .before .loop-test .taken) in
     rw (c .before .before .visit .ensures .0) (walked-fits j (l .at) there (d .sound), walked-size j (l .at) there (d .sound) .0)
 
 add-at : tie.Need-add-at Inv-loop μ-loop
@@ -118,7 +119,7 @@ same-length c = c .before .loop .inv .1
 returns : tie.Need-returns Inv-loop μ-loop
 returns c =
     let a = c .before .before .before .before .before .args in
-    writing-end _ (now (a .row)) (now (a .j)) _ _ _ _ _ (c .before .loop .inv .0) (omega arith)
+    writing-end _ (byRow (now (a .row))) (now (a .j)) _ _ _ _ _ (c .before .loop .inv .0) (omega arith)
 
 pub write-operands-spec : {M : Type 1} → statement M
 write-operands-spec =

@@ -6,6 +6,7 @@ use native.Mathlib.Omega.{arith}
 use lib.ListN.{length, take, drop}
 use borrow.Author.Needs.{needs}
 use denote.Ref.{now}
+use Rattle.journal.specs.Scope.{byRow}
 use Rattle.journal.specs.Journal.{entries}
 use Rattle.journal.specs.Reportable.{chosen}
 use Rattle.nodes.proofs.Runs.{operator-pos}
@@ -18,7 +19,7 @@ use Rattle.nodes.proofs.writing.write_part.Tie as tie
 returns : tie.Need-returns
 returns c =
     let a = c .before .before .before .args in
-    no-part (now (a .area)) (now (a .row)) (now (a .j)) (a .part .code) (a .part .first) (a .part .count) (a .to) (c .if1 .taken)
+    no-part (now (a .area)) (byRow (now (a .row))) (now (a .j)) (a .part .code) (a .part .first) (a .part .count) (a .to) (c .if1 .taken)
 
 find-requires : tie.Need-find-requires
 find-requires c κs = let p = c .before .before .before .pre in (p .0, p .1, p .2, omega (arith, p .3, c .if1 .left))
@@ -36,11 +37,11 @@ room c =
     let s = c .before .before .before .before .before in
     omega (arith, s .pre .5, operator-pos (width (s .args .part .code) * s .args .part .count) (omega (arith, sizes c)))
 
-due : (c : tie.After-width-of) → let a = c .before .before .before .before .before .args in Due (now (a .row)) (now (a .j)) (a .part .code) (c .before .find .result) (a .part .count)
+due : (c : tie.After-width-of) → let a = c .before .before .before .before .before .args in Due (byRow (now (a .row))) (now (a .j)) (a .part .code) (c .before .find .result) (a .part .count)
 due c =
     let s = c .before .before .before .before .before in
     let p = s .pre in
-    found-due (now (s .args .row)) (now (s .args .j)) _ _ _ _ (c .before .find .ensures) (p .0) (p .2) (omega (arith, p .3, c .before .before .if1 .left))
+    found-due (byRow (now (s .args .row))) (now (s .args .j)) _ _ _ _ (c .before .find .ensures) (p .0) (p .2) (omega (arith, p .3, c .before .before .if1 .left))
 
 mul-operands : tie.Need-mul-operands
 mul-operands c = omega (arith, sizes c)
@@ -81,15 +82,15 @@ returns-2 : tie.Need-returns-2
 returns-2 c =
     let w = c .before .before .before .before .before .before .before .before in
     let a = w .before .before .before .before .before .args in
-    let row = now (a .row) in
+    let selection = byRow (now (a .row)) in
     let j = now (a .j) in
     let n = sizes w in
     let operator = c .before .before .before .before .before .before .store-be32 in
     let operands = c .before .before .write-operands in
-    let found = found-words row j _ _ _ (a .part .count) (w .before .find .ensures) in (
+    let found = found-words selection j _ _ _ (a .part .count) (w .before .find .ensures) in (
       omega (arith, n .is, operator-pos (width (a .part .code) * a .part .count) (omega (arith, n .is, n .some))),
-      part-stored (now (a .area)) (operator .last .0) (operands .last .0) (a .to) (a .part .code) _ (wordsOf (take (a .part .count) (drop (a .part .first) (chosen row (a .part .code) (entries j)))))
-          (n .is ∙ sym (due-length row j _ _ _ (due w)) ∙ ap (λ (l : List ℕ). length l) found) (n .some) (operator .ensures)
+      part-stored (now (a .area)) (operator .last .0) (operands .last .0) (a .to) (a .part .code) _ (wordsOf (take (a .part .count) (drop (a .part .first) (chosen selection (a .part .code) (entries j)))))
+          (n .is ∙ sym (due-length selection j _ _ _ (due w)) ∙ ap (λ (l : List ℕ). length l) found) (n .some) (operator .ensures)
           (operands .ensures ∙ rw found),
     )
 

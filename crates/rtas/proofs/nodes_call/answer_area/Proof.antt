@@ -1,6 +1,7 @@
 -- `nodes_call::answer_area` meets its contract.
 use borrow.Author.Needs.{needs}
 use denote.Ref.{now}
+use Rattle.journal.specs.Scope.{byRow}
 use Rattle.calls.proofs.Areas.{left-malformed, scanned-malformed, scanned-counted}
 use Rattle.rtas.proofs.nodes_call.answer_area.Statement.{statement}
 use Rattle.rtas.proofs.nodes_call.answer_area.Tie as tie
@@ -15,11 +16,11 @@ enum-known-judgement : tie.Need-enum-known-judgement
 enum-known-judgement c = search needs
 
 answer-counted-requires : tie.Need-answer-counted-requires
-answer-counted-requires c κs = let s = scanned-counted (now (c .before .before .before .before .before .before .before .before .before .args .row)) (now (c .before .before .before .before .before .before .before .before .before .args .j)) _ _ (c .before .before .before .judgement .given .1) (c .before .before .before .before .before .before .scan .ensures .0 .0) in
+answer-counted-requires c κs = let s = scanned-counted (byRow (now (c .before .before .before .before .before .before .before .before .before .args .row))) (now (c .before .before .before .before .before .before .before .before .before .args .j)) _ _ (c .before .before .before .judgement .given .1) (c .before .before .before .before .before .before .scan .ensures .0 .0) in
     (c .before .before .before .before .before .before .before .before .before .pre, record { good = s .0; counted = s .1; marked = c .before .before .before .before .before .before .scan .ensures .0 .1 })
 
 returns : tie.Need-returns
-returns c = left-malformed (now (c .before .before .before .before .before .before .args .row)) (now (c .before .before .before .before .before .before .args .j)) (now (c .before .before .before .before .before .before .args .area)) (scanned-malformed (now (c .before .before .before .before .before .before .args .row)) (now (c .before .before .before .before .before .before .args .j)) _ (c .enum-told .given .1) (c .before .before .before .scan .ensures .0 .0))
+returns c = left-malformed (byRow (now (c .before .before .before .before .before .before .args .row))) (now (c .before .before .before .before .before .before .args .j)) (now (c .before .before .before .before .before .before .args .area)) (scanned-malformed (byRow (now (c .before .before .before .before .before .before .args .row))) (now (c .before .before .before .before .before .before .args .j)) _ (c .enum-told .given .1) (c .before .before .before .scan .ensures .0 .0))
 
 same-length : tie.Need-same-length
 same-length c = search needs

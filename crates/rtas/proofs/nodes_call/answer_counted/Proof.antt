@@ -6,6 +6,7 @@ use native.Mathlib.Omega.{arith}
 use borrow.Author.Needs.{needs}
 use borrow.Author.Tests.{not-true, not-false}
 use denote.Ref.{now}
+use Rattle.journal.specs.Scope.{byRow}
 use Rattle.journal.specs.Reportable.{reportable}
 use Rattle.nodes.proofs.Answers.{counts-small}
 use Rattle.nodes.proofs.Listed.{total-is}
@@ -30,27 +31,27 @@ reserved-is c = c .is-reserved .ensures
 returns : tie.Need-returns
 returns c =
     let s = c .before .before .before .before .before in
-    left-reserved (now (s .args .row)) (now (s .args .j)) (now (s .args .area)) (s .pre .1 .good) (sym (reserved-is (c .before)) ∙ not-true _ (c .if1 .taken))
+    left-reserved (byRow (now (s .args .row))) (now (s .args .j)) (now (s .args .area)) (s .pre .1 .good) (sym (reserved-is (c .before)) ∙ not-true _ (c .if1 .taken))
 
 read-requires : tie.Need-read-requires
 read-requires c κs = search needs
 
 is-within-requires : tie.Need-is-within-requires
-is-within-requires c κs = let s = c .before .before .before .before .before .before .before in omega (arith, counts-small (now (s .args .row)) (now (s .args .j)) (s .args .counts) (s .pre .1 .good) (s .pre .1 .counted))
+is-within-requires c κs = let s = c .before .before .before .before .before .before .before in omega (arith, counts-small (byRow (now (s .args .row))) (now (s .args .j)) (s .args .counts) (s .pre .1 .good) (s .pre .1 .counted))
 
-good-is : (c : tie.After-is-within) → c .is-within .result ≡ goodState (now (c .before .before .before .before .before .before .before .before .args .row)) (now (c .before .before .before .before .before .before .before .before .args .j)) (now (c .before .before .before .before .before .before .before .before .args .area))
-good-is c = let s = c .before .before .before .before .before .before .before .before in c .is-within .ensures ∙ state-is (now (s .args .row)) (now (s .args .j)) (now (s .args .area)) _ _ (c .before .read .ensures) (s .pre .1 .counted)
+good-is : (c : tie.After-is-within) → c .is-within .result ≡ goodState (byRow (now (c .before .before .before .before .before .before .before .before .args .row))) (now (c .before .before .before .before .before .before .before .before .args .j)) (now (c .before .before .before .before .before .before .before .before .args .area))
+good-is c = let s = c .before .before .before .before .before .before .before .before in c .is-within .ensures ∙ state-is (byRow (now (s .args .row))) (now (s .args .j)) (now (s .args .area)) _ _ (c .before .read .ensures) (s .pre .1 .counted)
 
 reserved-yes : (c : tie.Else2) → isReserved (now (c .before .before .before .before .before .before .before .before .before .args .area)) ≡ true
 reserved-yes c = sym (reserved-is (c .before .before .before .before .before)) ∙ not-false _ (c .before .before .before .before .if1 .left)
 
-good-yes : (c : tie.Else2) → goodState (now (c .before .before .before .before .before .before .before .before .before .args .row)) (now (c .before .before .before .before .before .before .before .before .before .args .j)) (now (c .before .before .before .before .before .before .before .before .before .args .area)) ≡ true
+good-yes : (c : tie.Else2) → goodState (byRow (now (c .before .before .before .before .before .before .before .before .before .args .row))) (now (c .before .before .before .before .before .before .before .before .before .args .j)) (now (c .before .before .before .before .before .before .before .before .before .args .area)) ≡ true
 good-yes c = sym (good-is (c .before)) ∙ not-false _ (c .if2 .left)
 
 within : (c : tie.Else2) → c .before .before .read .result .0 ≤ total (c .before .before .before .before .before .before .before .before .before .args .counts)
 within c =
     let s = c .before .before .before .before .before .before .before .before .before in
-    rw (c .before .before .read .ensures, s .pre .1 .counted) (rw (← total-is (now (s .args .row)) (now (s .args .j))) at (state-within (now (s .args .row)) (now (s .args .j)) (now (s .args .area)) (good-yes c)))
+    rw (c .before .before .read .ensures, s .pre .1 .counted) (rw (← total-is (byRow (now (s .args .row))) (now (s .args .j))) at (state-within (byRow (now (s .args .row))) (now (s .args .j)) (now (s .args .area)) (good-yes c)))
 
 same-length-2 : tie.Need-same-length-2
 same-length-2 c = search needs
@@ -58,7 +59,7 @@ same-length-2 c = search needs
 returns-2 : tie.Need-returns-2
 returns-2 c =
     let s = c .before .before .before .before .before .before .before .before .before in
-    left-state (now (s .args .row)) (now (s .args .j)) (now (s .args .area)) (s .pre .1 .good) (sym (reserved-is (c .before .before .before .before .before)) ∙ not-false _ (c .before .before .before .before .if1 .left)) (sym (good-is (c .before)) ∙ not-true _ (c .if2 .taken))
+    left-state (byRow (now (s .args .row))) (now (s .args .j)) (now (s .args .area)) (s .pre .1 .good) (sym (reserved-is (c .before .before .before .before .before)) ∙ not-false _ (c .before .before .before .before .if1 .left)) (sym (good-is (c .before)) ∙ not-true _ (c .if2 .taken))
 
 write-answer-requires : tie.Need-write-answer-requires
 write-answer-requires c κs = let p = c .before .before .before .before .before .before .before .before .before .before .pre in (p .0, p .1, within (c .before))
@@ -69,13 +70,13 @@ same-length-3 c = search needs
 returns-3 : tie.Need-returns-3
 returns-3 c =
     let s = c .before .before .before .before .before .before .before .before .before .before .before .before .before .before in
-    let row = now (s .args .row) in
+    let selection = byRow (now (s .args .row)) in
     let j = now (s .args .j) in
     let area = now (s .args .area) in
     let w = c .before .before .before .write-answer in
     let e = c .before .before .before .before .before .before .before .read .ensures in
-    let l = left-again row j area (s .pre .1 .good) (reserved-yes (c .before .before .before .before .before)) (good-yes (c .before .before .before .before .before)) (rw e at (sym (w .ensures .0) ∙ c .if3 .taken)) in
-    (l .0, w .ensures .1 .0 ∙ ap (written area (reportable row j)) e ∙ l .1)
+    let l = left-again selection j area (s .pre .1 .good) (reserved-yes (c .before .before .before .before .before)) (good-yes (c .before .before .before .before .before)) (rw e at (sym (w .ensures .0) ∙ c .if3 .taken)) in
+    (l .0, w .ensures .1 .0 ∙ ap (written area (reportable selection j)) e ∙ l .1)
 
 same-length-4 : tie.Need-same-length-4
 same-length-4 c = search needs
@@ -83,13 +84,13 @@ same-length-4 c = search needs
 returns-4 : tie.Need-returns-4
 returns-4 c =
     let s = c .before .before .before .before .before .before .before .before .before .before .before .before .before .before in
-    let row = now (s .args .row) in
+    let selection = byRow (now (s .args .row)) in
     let j = now (s .args .j) in
     let area = now (s .args .area) in
     let w = c .before .before .before .write-answer in
     let e = c .before .before .before .before .before .before .before .read .ensures in
-    let l = left-done row j area (s .pre .1 .good) (reserved-yes (c .before .before .before .before .before)) (good-yes (c .before .before .before .before .before)) (rw e at (sym (w .ensures .0) ∙ c .if3 .left)) in
-    (l .0, w .ensures .1 .0 ∙ ap (written area (reportable row j)) e ∙ l .1)
+    let l = left-done selection j area (s .pre .1 .good) (reserved-yes (c .before .before .before .before .before)) (good-yes (c .before .before .before .before .before)) (rw e at (sym (w .ensures .0) ∙ c .if3 .left)) in
+    (l .0, w .ensures .1 .0 ∙ ap (written area (reportable selection j)) e ∙ l .1)
 
 pub answer-counted-spec : {M : Type 1} → statement M
 answer-counted-spec =
