@@ -1,78 +1,82 @@
 -- The sets of an index area as words in a buffer.
 use mathlib.Core.Path.{_≡_, refl, ap, _∙_}
-use mathlib.Core.Bool.{Bool, true, false, cond, _||_}
 use mathlib.Core.List.{List, [], _∷_}
 use Prim.Native.Nat.{ℕ, zero, suc, _+_, _*_, _-_, _/_, _<_, _≤_, min}
 use native.Mathlib.Omega.{arith}
-use lib.Dec.{ltb, eqb}
-use lib.ListN.{length}
+use lib.Dec.{ltb}
+use lib.ListN.{length, getD}
 use lib.Seq.{sets, length-sets}
+use Rattle.words.specs.Numbers.{be32}
+use Rattle.words.specs.Nul.{untilNul}
 use Rattle.words.proofs.Choice.{choose}
 use Rattle.inventory.specs.Listing.{Entry}
 use Rattle.indices.specs.declared.reading.Refusal.{Refusal}
 use Rattle.indices.specs.declared.reading.Check.the-variants.{Entries, Refused}
-use Rattle.indices.specs.declared.reading.Cursor.{Cursor}
-use Rattle.indices.specs.declared.reading.Set.{Set}
-use Rattle.indices.specs.declared.reading.Next.the-variants.{Found, End}
+use Rattle.indices.specs.declared.reading.Fault.the-variants.{Fine}
 use Rattle.words.specs.Reading.{Reading, read, refused}
-use Rattle.indices.specs.Reading.{lengthAt, refusalNumber, reading, checkOf}
-use Rattle.indices.specs.Cursor.{entriesFrom, remaining, entryIn, nextOf, startOf}
-use Rattle.indices.proofs.IndexLaws.{code-part, steps-give, entries-in-order}
+use Rattle.indices.specs.Reading.{lengthAt, fieldAt, faultAt, refusalNumber, checkOf}
+use Rattle.indices.specs.Cursor.{entriesFrom, remaining}
+use Rattle.indices.proofs.IndexLaws.{code-part, fine-inside, entries-in-order}
+use Rattle.indices.proofs.Fine.{fine-some, code-ends, nul-place, code-place, Reads, reads-next}
 use Rattle.draugsten.specs.declared.reading.IndexReading.{IndexReading}
-use Rattle.draugsten.specs.Readings.{setWords, setsWords, indexReading, indicesOut, entriesTold, WordsTell}
+use Rattle.draugsten.specs.Readings.{setsWords, indexReading, indicesOut, entriesTold, WordsTell}
 
--- ---- the words of a step
+-- ---- the length of a code by the last bytes of its field
 
--- a set as the words that are stored of it
-abbrev words : Set → List ℕ
-words s = s .index ∷ s .start ∷ s .length ∷ []
+module _ (area : List ℕ) (at n : ℕ) (p : (n ≡ lengthAt area at) × (faultAt area at ≡ Fine)) where
+  pub field-stands : (4 ≤ n) × (at + 8 + n ≤ length area)
+  field-stands = (omega (arith, fine-some area at (p .1)), omega (arith, fine-inside area at (p .1)))
 
-found-both : (t : Bool) (x y : Set) (p q : Cursor) → cond t End (Found x p) ≡ Found y q → (y ≡ x) × (q ≡ p)
-found-both true x y p q h = (cc, cc)
-found-both false x y p q h = (cc, cc)
+  pub field-ends : (length (untilNul (fieldAt area at)) + 1 ≤ n) × (n ≤ length (untilNul (fieldAt area at)) + 4)
+  field-ends = rw (p .0) (code-ends area at (p .1))
 
--- a step finds the set at the cursor's place, and the cursor goes behind it
-module _ (area : List ℕ) (c : Cursor) (s : Set) (behind : Cursor) (e : nextOf area c ≡ Found s behind) where
-  found : (words s ≡ setWords area (c .at)) × (behind .at ≡ c .at + (8 + lengthAt area (c .at)))
-  unfolding nextOf
-  found =
-      let p = found-both (eqb (c .left) 0 || ltb (length area - c .at) 8) _ s _ behind e in
-      (ap words (p .0), ap (λ (k : Cursor). k .at) (p .1))
+  -- one of the last four bytes is a NUL, or one of the code's
+  module _ (k : ℕ) (some : 1 ≤ k) (last : k ≤ 4) where
+    pub nul-last : getD area (at + 8 + n - k) 0 ≡ 0 → length (untilNul (fieldAt area at)) + k ≤ n
+    nul-last e = omega (arith, field-stands, nul-place area at (p .1) (at + 8 + n - k) (omega (arith, field-stands)) (omega (arith, field-stands)) e)
 
-  first : remaining area c ≡ entryIn area s ∷ remaining area behind
-  first = rw e at (steps-give area c)
+    pub code-last : (getD area (at + 8 + n - k) 0 ≡ 0 → ⊥) → n < length (untilNul (fieldAt area at)) + k
+    code-last e = omega (arith, field-stands, code-place area at (p .1) (at + 8 + n - k) (omega (arith, field-stands)) (omega (arith, field-stands)) e)
 
 -- ---- sets stored one after the other
 
--- The words of the first i sets are stored, and those of the rest are to come.
-pub record Storing (area start : List ℕ) (count : ℕ) (l : List ℕ) (c : Cursor) (i : ℕ) : Type 0 where
+-- The words of the first i sets are stored, and those of the rest are to come, from a place on.
+pub record Storing (area start : List ℕ) (count : ℕ) (l : List ℕ) (at i : ℕ) : Type 0 where
   pub few : i ≤ count
-  pub ahead : count - i ≤ length (remaining area c)
+  pub ahead : Reads (count - i) area at
   pub same : length l ≡ length start
-  pub rest : sets l (3 * i) (setsWords (count - i) area (c .at)) ≡ sets start 0 (setsWords count area 4)
+  pub rest : sets l (3 * i) (setsWords (count - i) area at) ≡ sets start 0 (setsWords count area 4)
 
-pub storing-first : (area start : List ℕ) (count : ℕ) → count ≤ length (remaining area (startOf area)) → Storing area start count start (startOf area) 0
+pub storing-first : (area start : List ℕ) (count : ℕ) → Reads count area 4 → Storing area start count start 4 0
 storing-first area start count h =
     let all : count - 0 ≡ count = omega arith in
-    record { few = omega arith; ahead = omega arith; same = refl; rest = rw all }
+    record { few = omega arith; ahead = rw all h; same = refl; rest = rw all }
 
-module _ {area start l : List ℕ} {count : ℕ} {c : Cursor} {i : ℕ} (t : Storing area start count l c i) where
-  -- the cursor does not end before the last of them
-  pub storing-more : i < count → nextOf area c ≡ End → ⊥
-  storing-more h e = let none : remaining area c ≡ [] = rw e at (steps-give area c) in omega (arith, t .ahead, ap length none)
+module _ {area start l : List ℕ} {count at i : ℕ} (t : Storing area start count l at i) where
+  module _ (more : i < count) where
+    left : count - i ≡ suc (count - (i + 1))
+    left = omega arith
 
-  pub storing-next : {m : List ℕ} (s : Set) (behind : Cursor) → i < count → nextOf area c ≡ Found s behind → m ≡ sets l (3 * i) (words s) → Storing area start count m behind (i + 1)
-  unfolding setsWords
-  storing-next s behind h e f =
-      let more : count - i ≡ suc (count - (i + 1)) = omega arith in
-      let place : 3 * (i + 1) ≡ suc (suc (suc (3 * i))) = omega arith in
-      let set = found area c s behind e in
-      record {
-        few = omega arith;
-        ahead = omega (arith, t .ahead, ap length (first area c s behind e));
-        same = ap length f ∙ length-sets l (3 * i) (words s) ∙ t .same;
-        rest = rw (f ∙ ap (sets l (3 * i)) (set .0), place, set .1) (rw more at (t .rest));
-      }
+    next : (faultAt area at ≡ Fine) × Reads (count - (i + 1)) area (at + (8 + lengthAt area at))
+    next = reads-next (count - (i + 1)) area at (rw left at (t .ahead))
+
+    -- the set at the place has no fault, so it stands in the area
+    pub storing-fine : faultAt area at ≡ Fine
+    storing-fine = next .0
+
+    pub storing-room : 8 + lengthAt area at ≤ length area - at
+    storing-room = fine-inside area at storing-fine
+
+    pub storing-next : {m : List ℕ} (x n r : ℕ) → x ≡ be32 area at → n ≡ lengthAt area at → r ≡ length (untilNul (fieldAt area at)) → m ≡ sets l (3 * i) (x ∷ (at + 8) ∷ r ∷ []) → Storing area start count m (at + (8 + n)) (i + 1)
+    unfolding setsWords
+    storing-next x n r index size long f =
+        let place : 3 * (i + 1) ≡ suc (suc (suc (3 * i))) = omega arith in
+        record {
+          few = omega arith;
+          ahead = rw size (next .1);
+          same = ap length f ∙ length-sets l (3 * i) (x ∷ (at + 8) ∷ r ∷ []) ∙ t .same;
+          rest = rw (f, place, index, size, long) (rw left at (t .rest));
+        }
 
   pub storing-end : count ≤ i → l ≡ sets start 0 (setsWords count area 4)
   unfolding setsWords
@@ -108,11 +112,3 @@ module _ (area out : List ℕ) where
       let least : k ≡ min (length out / 3) n = omega arith in
       (rw all, (e ∙ rw (all, least), words-tell))
   entries-told n k after m e (refused g j) h = (cc, (cc, words-tell))
-
--- an area that is read has so many sets from its start on
-pub all-ahead : (area : List ℕ) (n : ℕ) → checkOf (reading area) ≡ Entries n → length (remaining area (startOf area)) ≡ n
-all-ahead area n = go (reading area) (entries-in-order area)
-  where
-    go : (r : Reading Entry Refusal) → ((es : List Entry) → r ≡ read es → remaining area (startOf area) ≡ es) → checkOf r ≡ Entries n → length (remaining area (startOf area)) ≡ n
-    go (read es) ahead h = rw (ahead es refl) (cc)
-    go (refused f k) ahead h = cc

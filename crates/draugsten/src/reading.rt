@@ -4,10 +4,12 @@ ghost use mathlib.Core.List.{[], _∷_};
 ghost use Prim.Native.Nat.{_+_, _*_, _≤_};
 ghost use lib.ListN.{length, take};
 ghost use lib.Seq.{sets};
+ghost use Rattle.words.specs.Nul.{untilNul};
 ghost use Rattle.nodes.specs.Reading as nodes_reading;
 ghost use Rattle.nodes.specs.Cursor as nodes_cursor;
 ghost use Rattle.indices.specs.Reading as indices_reading;
-ghost use Rattle.indices.specs.Cursor as indices_cursor;
+ghost use Rattle.indices.specs.declared.reading.Fault.the-variants as indices_fault;
+ghost use Rattle.indices.specs.declared.reading.Check.the-variants as indices_check;
 ghost use Rattle.draugsten.specs.Readings.{operationWords, operationsWords, nodeReading, nodesOut, setsWords, indexReading, indicesOut, WordsTell};
 use journal::Operation;
 
@@ -137,25 +139,41 @@ fn store_set(out: &mut [u64], to: usize, set: indices::Set)
     out[to + 2] = set.length as u64;
 }
 
-// The first sets of an area, so many of them.
+// The length of the code of a set that a check passed, whose field has n bytes. One to four NULs end the field, so its last four bytes tell.
+fn code_length(area: &[u8], at: usize, n: usize) -> usize
+    requires { ⌜ (n ≡ indices_reading.lengthAt (now area) at) × (indices_reading.faultAt (now area) at ≡ indices_fault.Fine) ⌝ }
+    ensures { λ r. ⌜ r ≡ length (untilNul (indices_reading.fieldAt (now (area .entry)) at)) ⌝ }
+{
+    let behind = at + 8 + n;
+    if area[behind - 4] == 0 {
+        return n - 4;
+    }
+    if area[behind - 3] == 0 {
+        return n - 3;
+    }
+    if area[behind - 2] == 0 {
+        return n - 2;
+    }
+    n - 1
+}
+
+// The first sets of an area, so many of them, which a check passed.
 fn store_sets(area: &[u8], out: &mut [u64], count: usize)
-    requires { ⌜ (3 * count ≤ length (now out)) × (count ≤ length (indices_cursor.remaining (now area) (indices_cursor.startOf (now area)))) ⌝ }
+    requires { ⌜ (3 * count ≤ length (now out)) × (indices_reading.checkOf (indices_reading.readFrom count (now area) 4) ≡ indices_check.Entries count) ⌝ }
     ensures { λ _. ⌜ now (out .exit) ≡ sets (now (out .entry)) 0 (setsWords count (now (area .entry)) 4) ⌝ }
 {
-    let mut cursor = indices::Cursor::start(area);
+    let mut at: usize = 4;
     let mut i: usize = 0;
     while i < count {
-        let step = cursor.next(area);
-        match step {
-            indices::Next::End => {
-                return;
-            }
-            indices::Next::Found(set, behind) => {
-                store_set(out, 3 * i, set);
-                cursor = behind;
-                i += 1;
-            }
-        }
+        let n = words::read_be32(area, at + 4) as usize;
+        let set = indices::Set {
+            index: words::read_be32(area, at),
+            start: at + 8,
+            length: code_length(area, at, n),
+        };
+        store_set(out, 3 * i, set);
+        at += 8 + n;
+        i += 1;
     }
 }
 

@@ -1,4 +1,5 @@
 pub mod IndexLaws
+pub mod Fine
 pub mod Written
 pub mod Longest
 pub mod Writes

@@ -4,7 +4,8 @@ use native.Mathlib.Omega.{arith}
 use borrow.Author.Needs.{needs}
 use denote.Ref.{now}
 use Rattle.indices.specs.Reading.{reading}
-use Rattle.draugsten.proofs.IndexWords.{all-ahead, refusal-told, entries-told}
+use Rattle.indices.proofs.Fine.{area-reads}
+use Rattle.draugsten.proofs.IndexWords.{refusal-told, entries-told}
 use Rattle.draugsten.proofs.reading.draugsten_read_indices.Statement.{statement}
 use Rattle.draugsten.proofs.reading.draugsten_read_indices.Tie as tie
 
@@ -24,7 +25,7 @@ least-requires : tie.Need-least-requires
 least-requires c κs = search needs
 
 store-sets-requires : tie.Need-store-sets-requires
-store-sets-requires c κs = (omega arith, omega (arith, all-ahead _ _ (sym (c .before .before .before .before .before .check-area .ensures .0) ∙ c .before .before .before .found2 .given .1)))
+store-sets-requires c κs = (omega arith, area-reads _ _ _ (sym (c .before .before .before .before .before .check-area .ensures .0) ∙ c .before .before .before .found2 .given .1) (omega arith))
 
 returns : tie.Need-returns
 returns c = refusal-told (now (c .before .before .before .before .before .before .before .args .area)) _ _ _ _ (c .index-refusal .ensures) (reading _) (sym (c .before .before .before .before .check-area .ensures .0) ∙ c .before .before .found .given .1)

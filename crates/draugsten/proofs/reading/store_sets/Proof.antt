@@ -1,43 +1,61 @@
 -- `reading::store_sets` meets its contract.
-use mathlib.Core.Path.{sym, _∙_}
-use Prim.Native.Nat.{_-_}
+use mathlib.Core.Path.{_≡_}
+use Prim.Native.Nat.{_+_, _-_, _≤_}
+use native.Mathlib.Omega.{arith}
+use lib.ListN.{length}
 use borrow.Author.Needs.{needs}
-use Rattle.draugsten.proofs.IndexWords.{Storing, storing-first, storing-more, storing-next, storing-end}
+use denote.Ref.{now}
+use Rattle.indices.specs.Reading.{lengthAt}
+use Rattle.draugsten.proofs.IndexWords.{Storing, storing-first, storing-fine, storing-room, storing-next, storing-end}
 use Rattle.draugsten.proofs.reading.store_sets.Statement.{statement}
 use Rattle.draugsten.proofs.reading.store_sets.Tie as tie
 
 abbrev Inv-loop : tie.InvT-loop
-Inv-loop area out₀ count cursor₀ i₀ out cursor i = Storing area out₀ count out cursor i
+Inv-loop area out₀ count at₀ i₀ out at i = Storing area out₀ count out at i
 
 abbrev μ-loop : tie.MeasureT-loop
-μ-loop area out₀ count cursor₀ i₀ out cursor i = count - i
+μ-loop area out₀ count at₀ i₀ out at i = count - i
 
-start-requires : tie.Need-start-requires Inv-loop μ-loop
-start-requires c κs = search needs
+-- the set stands in the area
+room : (c : tie.In-loop Inv-loop μ-loop) → 8 + lengthAt (now (c .before .before .before .before .args .area)) (c .before .loop .at) ≤ length (now (c .before .before .before .before .args .area)) - c .before .loop .at
+room c = storing-room (c .before .loop .inv) (c .loop-test .taken)
+
+length-read : (c : tie.After-read-be32 Inv-loop μ-loop) → c .read-be32 .result ≡ lengthAt (now (c .before .before .before .before .before .args .area)) (c .before .before .loop .at)
+unfolding lengthAt
+length-read c = c .read-be32 .ensures
 
 loop-holds : tie.Need-loop-holds Inv-loop μ-loop
-loop-holds c = rw (c .start .ensures .0) (storing-first _ _ _ (c .before .before .before .pre .1))
+loop-holds c = storing-first _ _ _ (c .before .before .pre .1)
 
-next-requires : tie.Need-next-requires Inv-loop μ-loop
-next-requires c κs = search needs
+add-read-be32 : tie.Need-add-read-be32 Inv-loop μ-loop
+add-read-be32 c = omega (arith, room c)
 
-enum-told : tie.Need-enum-told Inv-loop μ-loop
-enum-told c = search needs
+read-be32-requires : tie.Need-read-be32-requires Inv-loop μ-loop
+read-be32-requires c κs = omega (arith, room c)
 
-same-length : tie.Need-same-length Inv-loop μ-loop
-same-length c = search needs
+cast-n : tie.Need-cast-n Inv-loop μ-loop
+cast-n c = search needs
 
-returns : tie.Need-returns Inv-loop μ-loop
-returns c = absurd (storing-more (c .before .before .before .before .loop .inv) (c .before .before .before .loop-test .taken) (sym (c .before .before .next .ensures .0) ∙ c .enum-told .given .1))
+read-be32-requires-2 : tie.Need-read-be32-requires-2 Inv-loop μ-loop
+read-be32-requires-2 c κs = omega (arith, room (c .before))
 
-enum-known-step : tie.Need-enum-known-step Inv-loop μ-loop
-enum-known-step c = search needs
+add-store-set : tie.Need-add-store-set Inv-loop μ-loop
+add-store-set c = omega (arith, room (c .before .before))
+
+code-length-requires : tie.Need-code-length-requires Inv-loop μ-loop
+code-length-requires c κs = (length-read (c .before), storing-fine (c .before .before .before .loop .inv) (c .before .before .loop-test .taken))
 
 mul-store-set : tie.Need-mul-store-set Inv-loop μ-loop
 mul-store-set c = search needs
 
 store-set-requires : tie.Need-store-set-requires Inv-loop μ-loop
 store-set-requires c κs = search needs
+
+add-at : tie.Need-add-at Inv-loop μ-loop
+add-at c = omega (arith, room (c .before .before .before .before .before .before .before), length-read (c .before .before .before .before .before .before))
+
+add-at-2 : tie.Need-add-at-2 Inv-loop μ-loop
+add-at-2 c = omega (arith, room (c .before .before .before .before .before .before .before), length-read (c .before .before .before .before .before .before))
 
 add-i : tie.Need-add-i Inv-loop μ-loop
 add-i c = search needs
@@ -46,13 +64,13 @@ loop-less : tie.Need-loop-less Inv-loop μ-loop
 loop-less c = search needs
 
 loop-again : tie.Need-loop-again Inv-loop μ-loop
-loop-again c = storing-next (c .before .before .before .before .before .before .before .before .before .loop .inv) _ _ (c .before .before .before .before .before .before .before .before .loop-test .taken) (sym (c .before .before .before .before .before .before .before .next .ensures .0) ∙ c .before .before .before .before .before .step .given .1) (c .before .before .store-set .ensures)
+loop-again c = storing-next (c .before .before .before .before .before .before .before .before .loop .inv) (c .before .before .before .before .before .before .before .loop-test .taken) _ _ _ (c .before .before .before .before .before .read-be322 .ensures) (length-read (c .before .before .before .before .before .before)) (c .before .before .before .before .code-length .ensures) (c .before .before .store-set .ensures)
 
-same-length-2 : tie.Need-same-length-2 Inv-loop μ-loop
-same-length-2 c = search needs
+same-length : tie.Need-same-length Inv-loop μ-loop
+same-length c = search needs
 
-returns-2 : tie.Need-returns-2 Inv-loop μ-loop
-returns-2 c = storing-end (c .before .loop .inv) (c .loop-test .left)
+returns : tie.Need-returns Inv-loop μ-loop
+returns c = storing-end (c .before .loop .inv) (c .loop-test .left)
 
 pub store-sets-spec : {M : Type 1} → statement M
 store-sets-spec =
@@ -60,17 +78,19 @@ store-sets-spec =
     (tie.spec
     Inv-loop
     μ-loop
-    start-requires
     loop-holds
-    next-requires
-    enum-told
-    same-length
-    returns
-    enum-known-step
+    add-read-be32
+    read-be32-requires
+    cast-n
+    read-be32-requires-2
+    add-store-set
+    code-length-requires
     mul-store-set
     store-set-requires
+    add-at
+    add-at-2
     add-i
     loop-less
     loop-again
-    same-length-2
-    returns-2)
+    same-length
+    returns)

@@ -1,0 +1,175 @@
+-- Laws of sets that have no fault: where their codes end, and the sets behind them.
+use mathlib.Core.Path.{_≡_, refl, sym, ap, _∙_}
+use mathlib.Core.Bool.{Bool, true, false, cond, not}
+use mathlib.Core.List.{List, [], _∷_}
+use Prim.Native.Nat.{ℕ, zero, suc, _+_, _-_, _%_, _<_, _≤_}
+use native.Mathlib.Omega.{arith}
+use lib.Dec.{leb, ltb, eqb}
+use lib.ListN.{length, take, drop, getD, length-take, length-drop}
+use lib.Seq.{getD-take, getD-drop}
+use borrow.Author.Tests.{eq-eqb, eqb-true, leb-true, leb-false}
+use Rattle.words.specs.Numbers.{be32, zeros}
+use Rattle.words.specs.Nul.{untilNul}
+use Rattle.words.specs.Reading.{Reading, read, refused}
+use Rattle.words.proofs.Choice.{and-left, and-right}
+use Rattle.inventory.specs.Listing.{Entry}
+use Rattle.indices.specs.declared.reading.Refusal.{Refusal}
+use Rattle.indices.specs.declared.reading.Refusal.the-variants.{Short, Past, Length, Code}
+use Rattle.indices.specs.declared.reading.Fault.{Fault}
+use Rattle.indices.specs.declared.reading.Fault.the-variants.{Fine, Bad}
+use Rattle.indices.specs.declared.reading.Check.the-variants.{Entries}
+use Rattle.indices.specs.Area.{fieldLimit}
+use Rattle.indices.specs.Reading.{lengthAt, fieldAt, goodLength, goodField, faultAt, entryAt, withEntry, judgedBy, readFrom, reading, checkOf}
+use Rattle.indices.proofs.IndexLaws.{fine-inside}
+
+-- ---- the code and the NULs of a field
+
+-- no byte of a code is a NUL
+code-byte : (f : List ℕ) (i : ℕ) → i < length (untilNul f) → getD f i 0 ≡ 0 → ⊥
+unfolding untilNul
+code-byte [] i h e = omega arith
+code-byte (b ∷ bs) zero h e = let k = rw (eq-eqb b 0 e) at h in omega arith
+code-byte (b ∷ bs) (suc i) h e = go (eqb b 0) (λ k. code-byte bs i k e) h
+  where
+    go : (t : Bool) → (i < length (untilNul bs) → ⊥) → suc i < length (cond t [] (b ∷ untilNul bs)) → ⊥
+    go true none k = omega arith
+    go false none k = none (omega arith)
+
+zeros-byte : (l : List ℕ) (i : ℕ) → zeros l ≡ true → getD l i 0 ≡ 0
+unfolding zeros
+zeros-byte [] i h = refl
+zeros-byte (b ∷ bs) zero h = eqb-true b 0 (and-left (eqb b 0) (zeros bs) h)
+zeros-byte (b ∷ bs) (suc i) h = zeros-byte bs i (and-right (eqb b 0) (zeros bs) h)
+
+-- what a good field is
+record Good (f : List ℕ) : Type 0 where
+  ended : length (untilNul f) + 1 ≤ length f
+  near : length f ≤ length (untilNul f) + 4
+  nuls : zeros (drop (length (untilNul f)) f) ≡ true
+
+good : (f : List ℕ) → goodField f ≡ true → Good f
+unfolding goodField
+good f e =
+    let n = length (untilNul f) in
+    let e₁ = and-right (leb 1 n) _ e in
+    let e₂ = and-right (leb (n + 1) (length f)) _ e₁ in
+    record {
+      ended = leb-true (n + 1) (length f) (and-left _ _ e₁);
+      near = leb-true (length f) (n + 4) (and-left _ _ e₂);
+      nuls = and-right (leb (length f) (n + 4)) _ e₂;
+    }
+
+-- a byte of a good field is a NUL just behind the code
+module _ (f : List ℕ) (g : Good f) (i : ℕ) where
+  nul-behind : getD f i 0 ≡ 0 → length (untilNul f) ≤ i
+  nul-behind e = go (leb (length (untilNul f)) i) refl
+    where
+      go : (t : Bool) → leb (length (untilNul f)) i ≡ t → length (untilNul f) ≤ i
+      go true h = leb-true (length (untilNul f)) i h
+      go false h = absurd (code-byte f i (leb-false (length (untilNul f)) i h) e)
+
+  other-before : (getD f i 0 ≡ 0 → ⊥) → i < length (untilNul f)
+  other-before e = go (leb (length (untilNul f)) i) refl
+    where
+      go : (t : Bool) → leb (length (untilNul f)) i ≡ t → i < length (untilNul f)
+      go false h = leb-false (length (untilNul f)) i h
+      go true h =
+          let n = length (untilNul f) in
+          let le : n ≤ i = leb-true n i h in
+          let place : n + (i - n) ≡ i = omega arith in
+          absurd (e (rw (getD-drop n f (i - n) 0, place) at (zeros-byte (drop n f) (i - n) (g .nuls))))
+
+-- ---- a set with no fault
+
+fine-judged : (a b c d : Bool) → cond a (Bad Past) (cond (not b) (Bad Length) (cond c (Bad Past) (cond (not d) (Bad Code) Fine))) ≡ Fine → (b ≡ true) × (d ≡ true)
+fine-judged true b c d h = (cc, cc)
+fine-judged false false c d h = (cc, cc)
+fine-judged false true true d h = (refl, cc)
+fine-judged false true false false h = (refl, cc)
+fine-judged false true false true h = (refl, refl)
+
+good-length : (n : ℕ) → goodLength n ≡ true → 4 ≤ n
+unfolding goodLength
+good-length n e =
+    let some = leb-true 1 n (and-left _ _ e) in
+    let whole = eqb-true (n % 4) 0 (and-right (leb n fieldLimit) _ (and-right (leb 1 n) _ e)) in
+    omega arith
+
+module _ (area : List ℕ) (at : ℕ) (fine : faultAt area at ≡ Fine) where
+  judged : (goodLength (lengthAt area at) ≡ true) × (goodField (fieldAt area at) ≡ true)
+  unfolding faultAt
+  judged = fine-judged (ltb (length area - at) 8) (goodLength (lengthAt area at)) (ltb (length area - at) (8 + lengthAt area at)) (goodField (fieldAt area at)) fine
+
+  pub fine-some : 4 ≤ lengthAt area at
+  fine-some = good-length (lengthAt area at) (judged .0)
+
+  field-size : length (fieldAt area at) ≡ lengthAt area at
+  unfolding fieldAt
+  field-size = simp (length-take, length-drop) (omega (arith, fine-inside area at fine))
+
+  field-byte : (i : ℕ) → i < lengthAt area at → getD (fieldAt area at) i 0 ≡ getD area (at + 8 + i) 0
+  unfolding fieldAt
+  field-byte i h = rw (getD-take, getD-drop)
+
+  -- one to four NULs follow the code
+  pub code-ends : (length (untilNul (fieldAt area at)) + 1 ≤ lengthAt area at) × (lengthAt area at ≤ length (untilNul (fieldAt area at)) + 4)
+  code-ends = let g = good (fieldAt area at) (judged .1) in rw (← field-size) (g .ended, g .near)
+
+  -- a byte of the field by its place in the area
+  module _ (place : ℕ) (from : at + 8 ≤ place) (to : place < at + 8 + lengthAt area at) where
+    there : getD (fieldAt area at) (place - (at + 8)) 0 ≡ getD area place 0
+    there = let same : at + 8 + (place - (at + 8)) ≡ place = omega arith in rw same at (field-byte (place - (at + 8)) (omega arith))
+
+    pub nul-place : getD area place 0 ≡ 0 → at + 8 + length (untilNul (fieldAt area at)) ≤ place
+    nul-place e = omega (arith, nul-behind (fieldAt area at) (good _ (judged .1)) (place - (at + 8)) (there ∙ e))
+
+    pub code-place : (getD area place 0 ≡ 0 → ⊥) → place < at + 8 + length (untilNul (fieldAt area at))
+    code-place e = omega (arith, other-before (fieldAt area at) (good _ (judged .1)) (place - (at + 8)) (λ k. e (sym there ∙ k)))
+
+-- ---- sets with no fault, one after the other
+
+-- the next n sets from a place on have none
+abbrev pub Reads : ℕ → List ℕ → ℕ → Type 0
+Reads n area at = checkOf (readFrom n area at) ≡ Entries n
+
+counts-more : (e : Entry) (n : ℕ) (r : Reading Entry Refusal) → checkOf r ≡ Entries n → checkOf (withEntry e r) ≡ Entries (suc n)
+counts-more e n (read es) h = let k : length es ≡ n = cc in rw k
+counts-more e n (refused b k) h = cc
+
+judged-next : (e : Entry) (at n : ℕ) (f : Fault) (r : Reading Entry Refusal) → checkOf (judgedBy f at (withEntry e r)) ≡ Entries (suc n) → (f ≡ Fine) × (checkOf r ≡ Entries n)
+judged-next e at n (Bad b) r h = (cc, cc)
+judged-next e at n Fine (read es) h = let k : suc (length es) ≡ suc n = cc in let l : length es ≡ n = omega arith in (refl, ap Entries l)
+judged-next e at n Fine (refused b k) h = (refl, cc)
+
+pub reads-next : (n : ℕ) (area : List ℕ) (at : ℕ) → Reads (suc n) area at → (faultAt area at ≡ Fine) × Reads n area (at + (8 + lengthAt area at))
+unfolding readFrom
+reads-next n area at h = judged-next (entryAt area at) at n (faultAt area at) (readFrom n area (at + (8 + lengthAt area at))) h
+
+reads-fewer : (k n : ℕ) (area : List ℕ) (at : ℕ) → k ≤ n → Reads n area at → Reads k area at
+unfolding readFrom
+reads-fewer zero n area at h r = refl
+reads-fewer (suc k) zero area at h r = absurd (omega arith)
+reads-fewer (suc k) (suc n) area at h r =
+    let next = reads-next n area at r in
+    rw (next .0) (counts-more (entryAt area at) k (readFrom k area (at + (8 + lengthAt area at))) (reads-fewer k n area (at + (8 + lengthAt area at)) (omega arith) (next .1)))
+
+-- a check that passes n sets counts n
+reads-all : (n m : ℕ) (area : List ℕ) (at : ℕ) → checkOf (readFrom n area at) ≡ Entries m → n ≡ m
+unfolding readFrom
+reads-all zero m area at h = cc
+reads-all (suc n) zero area at h = go (faultAt area at) (readFrom n area (at + (8 + lengthAt area at))) h
+  where
+    go : (f : Fault) (r : Reading Entry Refusal) → checkOf (judgedBy f at (withEntry (entryAt area at) r)) ≡ Entries 0 → suc n ≡ 0
+    go (Bad b) r e = cc
+    go Fine (read es) e = let k : suc (length es) ≡ 0 = cc in absurd (omega arith)
+    go Fine (refused b k) e = cc
+reads-all (suc n) (suc m) area at h = ap suc (reads-all n m area (at + (8 + lengthAt area at)) (judged-next (entryAt area at) at m (faultAt area at) (readFrom n area (at + (8 + lengthAt area at))) h .1))
+
+-- the first sets of an area that a check passes
+pub area-reads : (area : List ℕ) (n k : ℕ) → checkOf (reading area) ≡ Entries n → k ≤ n → Reads k area 4
+unfolding reading
+area-reads area n k h l = go (ltb (length area) 4) h
+  where
+    go : (t : Bool) → checkOf (cond t (refused Short 0) (readFrom (be32 area 0) area 4)) ≡ Entries n → Reads k area 4
+    go true e = cc
+    go false e = let same : be32 area 0 ≡ n = reads-all (be32 area 0) n area 4 e in reads-fewer k n area 4 l (rw same at e)
