@@ -4,6 +4,7 @@ pub mod Cut
 pub mod Listed
 pub mod Writes
 pub mod Verdicts
+pub mod Walks
 pub mod Steps
 pub mod Decoding
 pub mod Claims
