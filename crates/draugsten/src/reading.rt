@@ -1,17 +1,18 @@
 // The readers over the C boundary: all entries of an area, into a buffer that the caller lends.
 ghost use mathlib.Core.Path.{_≡_};
 ghost use mathlib.Core.List.{[], _∷_};
-ghost use Prim.Native.Nat.{_+_, _*_, _≤_};
-ghost use lib.ListN.{length, take};
+ghost use Prim.Native.Nat.{_+_, _*_, _<_, _≤_, min};
+ghost use lib.ListN.{length, take, drop};
 ghost use lib.Seq.{sets};
 ghost use Rattle.words.specs.Nul.{untilNul};
+ghost use Rattle.words.specs.Numbers.{words};
+ghost use Rattle.words.specs.Reading.{read};
 ghost use Rattle.nodes.specs.Reading as nodes_reading;
 ghost use Rattle.nodes.specs.Cursor as nodes_cursor;
 ghost use Rattle.indices.specs.Reading as indices_reading;
 ghost use Rattle.indices.specs.declared.reading.Fault.the-variants as indices_fault;
 ghost use Rattle.indices.specs.declared.reading.Check.the-variants as indices_check;
 ghost use Rattle.draugsten.specs.Readings.{operationWords, operationsWords, nodeReading, nodesOut, setsWords, indexReading, indicesOut, WordsTell};
-use journal::Operation;
 
 // What a reading of a node area tells: a refusal and its byte offset, or the state and the number of operations.
 #[repr(C)]
@@ -57,36 +58,70 @@ fn store_words(out: &mut [u32], to: usize, first: u32, second: u32, third: u32)
     out[to + 2] = third;
 }
 
-fn store_operation(out: &mut [u32], to: usize, operation: Operation)
-    requires { ⌜ to + 3 ≤ length (now out) ⌝ }
-    ensures { λ _. ⌜ now (out .exit) ≡ sets (now (out .entry)) to (operationWords operation) ⌝ }
+// Operations of one operand word, `n` of them, from a place of the area on.
+fn store_singles(area: &[u8], at: usize, code: u32, n: usize, out: &mut [u32], to: usize)
+    requires { ⌜ (at + 4 * n ≤ length (now area)) × (to + 3 * n ≤ length (now out)) × (1 ≤ code) × (code < 3) ⌝ }
+    ensures { λ _. ⌜ now (out .exit) ≡ sets (now (out .entry)) to (operationsWords (take n (nodes_reading.operationsAt (words (drop at (now (area .entry)))) code n))) ⌝ }
 {
-    match operation {
-        Operation::Delete(phandle) => store_words(out, to, 1, phandle, 0),
-        Operation::Update(phandle) => store_words(out, to, 2, phandle, 0),
-        Operation::Add(parent, index) => store_words(out, to, 3, parent, index),
+    let mut i: usize = 0;
+    while i < n {
+        let operand = words::read_be32(area, at + 4 * i);
+        store_words(out, to + 3 * i, code, operand, 0);
+        i += 1;
     }
 }
 
-// The first operations of an area, so many of them.
+// Additions, `n` of them, from a place of the area on.
+fn store_pairs(area: &[u8], at: usize, n: usize, out: &mut [u32], to: usize)
+    requires { ⌜ (at + 8 * n ≤ length (now area)) × (to + 3 * n ≤ length (now out)) ⌝ }
+    ensures { λ _. ⌜ now (out .exit) ≡ sets (now (out .entry)) to (operationsWords (take n (nodes_reading.operationsAt (words (drop at (now (area .entry)))) 3 (n + n)))) ⌝ }
+{
+    let mut i: usize = 0;
+    while i < n {
+        let first = words::read_be32(area, at + 8 * i);
+        let second = words::read_be32(area, at + 8 * i + 4);
+        store_words(out, to + 3 * i, 3, first, second);
+        i += 1;
+    }
+}
+
+// The operations of an operator, whose operands begin at a place of the area, `most` of them at most; how many they are.
+fn store_operands(
+    area: &[u8],
+    at: usize,
+    word: u32,
+    out: &mut [u32],
+    to: usize,
+    most: usize,
+) -> usize
+    requires { ⌜ (at ≤ length (now area)) × (nodes_reading.countIn word ≤ length (words (drop at (now area)))) × (to + 3 * most ≤ length (now out)) × (1 ≤ nodes_reading.opcodeIn word) × (nodes_reading.opcodeIn word ≤ 3) ⌝ }
+    ensures { λ r. ⌜ r ≡ min (nodes_reading.operationsIn word) most ⌝ }
+    ensures { λ r. ⌜ now (out .exit) ≡ sets (now (out .entry)) to (operationsWords (take r (nodes_reading.operationsAt (words (drop at (now (area .entry)))) (nodes_reading.opcodeIn word) (nodes_reading.countIn word)))) ⌝ }
+{
+    let code = word / 16777216;
+    let operands = (word % 16777216) as usize;
+    if code == 3 {
+        let pairs = words::least(operands / 2, most);
+        store_pairs(area, at, pairs, out, to);
+        return pairs;
+    }
+    let singles = words::least(operands, most);
+    store_singles(area, at, code, singles, out, to);
+    singles
+}
+
+// The first operations of a good area, so many of them.
 fn store_operations(area: &[u8], out: &mut [u32], count: usize)
-    requires { ⌜ (3 * count ≤ length (now out)) × (count ≤ length (nodes_cursor.remaining (now area) nodes_cursor.startOf)) ⌝ }
+    requires { ⌜ (3 * count ≤ length (now out)) × (count ≤ length (nodes_cursor.remaining (now area) nodes_cursor.startOf)) × (nodes_reading.reading (now area) ≡ read (nodes_cursor.remaining (now area) nodes_cursor.startOf)) ⌝ }
     ensures { λ _. ⌜ now (out .exit) ≡ sets (now (out .entry)) 0 (operationsWords (take count (nodes_cursor.remaining (now (area .entry)) nodes_cursor.startOf))) ⌝ }
 {
-    let mut cursor = nodes::Cursor::start();
+    let mut at: usize = 16;
     let mut i: usize = 0;
     while i < count {
-        let step = cursor.next(area);
-        match step {
-            nodes::Next::End => {
-                return;
-            }
-            nodes::Next::Entry(operation, behind) => {
-                store_operation(out, 3 * i, operation);
-                cursor = behind;
-                i += 1;
-            }
-        }
+        let word = words::read_be32(area, at);
+        let stored = store_operands(area, at + 4, word, out, 3 * i, count - i);
+        i += stored;
+        at = at + 4 + 4 * ((word % 16777216) as usize);
     }
 }
 

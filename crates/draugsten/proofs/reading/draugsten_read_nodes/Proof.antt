@@ -27,7 +27,7 @@ found : (c : tie.After-found2) → Good (now (c .before .before .before .before 
 found c = good _ _ _ (c .before .before .check-area .ensures .0) (c .found2 .given .1)
 
 store-operations-requires : tie.Need-store-operations-requires
-store-operations-requires c κs = let g = found (c .before .before .before) in let least = c .least .ensures in (omega arith, omega arith)
+store-operations-requires c κs = let g = found (c .before .before .before) in let least = c .least .ensures in (omega arith, omega arith, g .is)
 
 read-requires : tie.Need-read-requires
 read-requires c κs = omega (arith, found (c .before .before .before .before .before .before) .size)

@@ -1,59 +1,67 @@
 -- `reading::store_operations` meets its contract.
-use mathlib.Core.Path.{sym, _∙_}
 use Prim.Native.Nat.{_-_}
 use native.Mathlib.Omega.{arith}
+use lib.ListN.{length}
+use Rattle.draugsten.proofs.NodeWords.{Walking, walking-first, walking-length, walking-all, walking-fits, walking-operator, walking-inside, walking-range, walking-next}
 use borrow.Author.Needs.{needs}
-use Rattle.draugsten.proofs.NodeWords.{Storing, storing-first, storing-length, storing-all, storing-end, storing-entry}
 use Rattle.draugsten.proofs.reading.store_operations.Statement.{statement}
 use Rattle.draugsten.proofs.reading.store_operations.Tie as tie
 
 abbrev Inv-loop : tie.InvT-loop
-Inv-loop area out₀ count cursor₀ i₀ out cursor i = Storing area out₀ count out cursor i
+Inv-loop area out₀ count at₀ i₀ out at i = Walking area out₀ count out at i
 
 abbrev μ-loop : tie.MeasureT-loop
-μ-loop area out₀ count cursor₀ i₀ out cursor i = count - i
-
-start-requires : tie.Need-start-requires Inv-loop μ-loop
-start-requires c κs = search needs
+μ-loop area out₀ count at₀ i₀ out at i = length area - at
 
 loop-holds : tie.Need-loop-holds Inv-loop μ-loop
-loop-holds c = rw (c .start .ensures .0) (storing-first _ _ _)
+loop-holds c = walking-first _ _ _ (c .before .before .pre .1) (c .before .before .pre .2)
 
-next-requires : tie.Need-next-requires Inv-loop μ-loop
-next-requires c κs = search needs
+read-be32-requires : tie.Need-read-be32-requires Inv-loop μ-loop
+read-be32-requires c κs = walking-fits (c .before .loop .inv) (c .loop-test .taken)
 
-enum-told : tie.Need-enum-told Inv-loop μ-loop
-enum-told c = search needs
+add-store-operands : tie.Need-add-store-operands Inv-loop μ-loop
+add-store-operands c = omega (arith, walking-fits (c .before .before .loop .inv) (c .before .loop-test .taken))
 
-same-length : tie.Need-same-length Inv-loop μ-loop
-same-length c = storing-length (c .before .before .before .before .loop .inv)
+mul-store-operands : tie.Need-mul-store-operands Inv-loop μ-loop
+mul-store-operands c = search needs
 
-returns : tie.Need-returns Inv-loop μ-loop
-returns c = storing-end (c .before .before .before .before .loop .inv) (sym (c .before .before .next .ensures .0) ∙ c .enum-told .given .1)
+sub-store-operands : tie.Need-sub-store-operands Inv-loop μ-loop
+sub-store-operands c = search needs
 
-enum-known-step : tie.Need-enum-known-step Inv-loop μ-loop
-enum-known-step c = search needs
-
-mul-store-operation : tie.Need-mul-store-operation Inv-loop μ-loop
-mul-store-operation c = search needs
-
-store-operation-requires : tie.Need-store-operation-requires Inv-loop μ-loop
-store-operation-requires c κs = omega (arith, storing-length (c .before .before .before .before .before .before .loop .inv))
+store-operands-requires : tie.Need-store-operands-requires Inv-loop μ-loop
+store-operands-requires c κs =
+    let s = c .before .before .before .loop .inv in
+    let more = c .before .before .loop-test .taken in
+    let word = c .before .read-be32 .ensures in
+    let range = walking-range s more _ word in
+    (walking-fits s more, walking-operator s more _ word .fits, omega (arith, walking-length s), range .0, range .1)
 
 add-i : tie.Need-add-i Inv-loop μ-loop
-add-i c = search needs
+add-i c = omega (arith, c .before .before .store-operands .ensures .0)
+
+add-at : tie.Need-add-at Inv-loop μ-loop
+add-at c = omega (arith, walking-inside (c .before .before .before .before .before .before .loop .inv) (c .before .before .before .before .before .loop-test .taken) _ (c .before .before .before .before .read-be32 .ensures))
+
+cast-at : tie.Need-cast-at Inv-loop μ-loop
+cast-at c = search needs
+
+mul-at : tie.Need-mul-at Inv-loop μ-loop
+mul-at c = omega (arith, walking-inside (c .before .before .before .before .before .before .loop .inv) (c .before .before .before .before .before .loop-test .taken) _ (c .before .before .before .before .read-be32 .ensures))
+
+add-at-2 : tie.Need-add-at-2 Inv-loop μ-loop
+add-at-2 c = omega (arith, walking-inside (c .before .before .before .before .before .before .loop .inv) (c .before .before .before .before .before .loop-test .taken) _ (c .before .before .before .before .read-be32 .ensures))
 
 loop-less : tie.Need-loop-less Inv-loop μ-loop
-loop-less c = search needs
+loop-less c = omega (arith, walking-inside (c .before .before .before .before .before .before .loop .inv) (c .before .before .before .before .before .loop-test .taken) _ (c .before .before .before .before .read-be32 .ensures))
 
 loop-again : tie.Need-loop-again Inv-loop μ-loop
-loop-again c = storing-entry (c .before .before .before .before .before .before .before .before .before .loop .inv) _ _ _ (sym (c .before .before .before .before .before .before .before .next .ensures .0) ∙ c .before .before .before .before .before .step .given .1) (c .before .before .before .before .before .before .before .before .loop-test .taken) (c .before .before .store-operation .ensures)
+loop-again c = walking-next (c .before .before .before .before .before .before .loop .inv) (c .before .before .before .before .before .loop-test .taken) _ (c .before .before .before .before .read-be32 .ensures) _ _ (c .before .before .store-operands .ensures .0) (c .before .before .store-operands .ensures .1)
 
-same-length-2 : tie.Need-same-length-2 Inv-loop μ-loop
-same-length-2 c = storing-length (c .before .loop .inv)
+same-length : tie.Need-same-length Inv-loop μ-loop
+same-length c = walking-length (c .before .loop .inv)
 
-returns-2 : tie.Need-returns-2 Inv-loop μ-loop
-returns-2 c = storing-all (c .before .loop .inv) (omega arith)
+returns : tie.Need-returns Inv-loop μ-loop
+returns c = walking-all (c .before .loop .inv) (c .loop-test .left)
 
 pub store-operations-spec : {M : Type 1} → statement M
 store-operations-spec =
@@ -61,17 +69,18 @@ store-operations-spec =
     (tie.spec
     Inv-loop
     μ-loop
-    start-requires
     loop-holds
-    next-requires
-    enum-told
-    same-length
-    returns
-    enum-known-step
-    mul-store-operation
-    store-operation-requires
+    read-be32-requires
+    add-store-operands
+    mul-store-operands
+    sub-store-operands
+    store-operands-requires
     add-i
+    add-at
+    cast-at
+    mul-at
+    add-at-2
     loop-less
     loop-again
-    same-length-2
-    returns-2)
+    same-length
+    returns)

@@ -1,0 +1,64 @@
+-- `reading::store_operands` meets its contract.
+use native.Mathlib.Omega.{arith}
+use lib.ListN.{drop, length-drop}
+use denote.Ref.{now}
+use Rattle.nodes.proofs.Walks.{words-inside}
+use Rattle.draugsten.proofs.NodeWords.{operands-pairs, operands-singles}
+use borrow.Author.Needs.{needs}
+use Rattle.draugsten.proofs.reading.store_operands.Statement.{statement}
+use Rattle.draugsten.proofs.reading.store_operands.Tie as tie
+
+cast-operands : tie.Need-cast-operands
+cast-operands c = search needs
+
+least-requires : tie.Need-least-requires
+least-requires c κs = search needs
+
+store-pairs-requires : tie.Need-store-pairs-requires
+store-pairs-requires c κs =
+    let args = c .before .before .before .before .before .args in
+    let least = c .before .least .ensures in
+    let inside = words-inside (drop (args .at) (now (args .area))) in
+    let behind = length-drop (args .at) (now (args .area)) in
+    (omega arith, omega arith)
+
+same-length : tie.Need-same-length
+same-length c = search needs
+
+returns : tie.Need-returns
+returns c =
+    let args = c .before .before .before .before .before .before .before .before .args in
+    operands-pairs (args .word) (args .most) _ (args .at) (args .to) (now (args .area)) _ _ (c .before .before .before .before .before .before .before .before .pre .1) (c .before .before .before .before .before .if1 .taken) (c .before .before .before .before .least .ensures) (c .before .before .store-pairs .ensures)
+
+least-requires-2 : tie.Need-least-requires-2
+least-requires-2 c κs = search needs
+
+store-singles-requires : tie.Need-store-singles-requires
+store-singles-requires c κs =
+    let args = c .before .before .before .before .before .args in
+    let least = c .before .least2 .ensures in
+    let inside = words-inside (drop (args .at) (now (args .area))) in
+    let behind = length-drop (args .at) (now (args .area)) in
+    (omega arith, omega arith, omega arith, omega arith)
+
+same-length-2 : tie.Need-same-length-2
+same-length-2 c = search needs
+
+returns-2 : tie.Need-returns-2
+returns-2 c =
+    let args = c .before .before .before .before .before .before .before .before .args in
+    operands-singles (args .word) (args .most) _ (args .at) (args .to) (now (args .area)) _ _ (c .before .before .before .before .before .before .before .before .pre .1) (c .before .before .before .before .before .if1 .left) (c .before .before .before .before .least2 .ensures) (c .before .before .store-singles .ensures)
+
+pub store-operands-spec : {M : Type 1} → statement M
+store-operands-spec =
+    tie.close
+    (tie.spec
+    cast-operands
+    least-requires
+    store-pairs-requires
+    same-length
+    returns
+    least-requires-2
+    store-singles-requires
+    same-length-2
+    returns-2)
