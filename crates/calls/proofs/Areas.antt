@@ -14,8 +14,9 @@ use Rattle.journal.specs.declared.scanning.Judgement.the-variants.{Malformed, C
 use Rattle.journal.specs.Journal.{wellFormed}
 use Rattle.journal.specs.Scope.{valid, Selection, selectionOf}
 use Rattle.journal.specs.Reportable.{reportable, countsOf, judgementOf}
-use Rattle.nodes.specs.Head.{isReserved}
-use Rattle.nodes.specs.Run.{remains, total}
+use Rattle.node_area.specs.Head.{isReserved}
+use Rattle.nodes.specs.Run.{remains}
+use Rattle.node_area.specs.State.{total}
 use Rattle.nodes.specs.Area.{written}
 use Rattle.nodes.proofs.Listed.{total-is}
 use Rattle.calls.specs.declared.status.Status.{Status}

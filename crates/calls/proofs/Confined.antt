@@ -12,7 +12,7 @@ use Rattle.words.proofs.Stores.{sets-before, sets-after, length-wordBytes}
 use Rattle.dump.specs.declared.registration.Registration.{Registration}
 use Rattle.journal.specs.Journal.{wellFormed}
 use Rattle.journal.specs.Reportable.{reportable}
-use Rattle.nodes.specs.Head.{isReserved}
+use Rattle.node_area.specs.Head.{isReserved}
 use Rattle.nodes.specs.Run.{remains}
 use Rattle.journal.specs.Scope.{valid, Selection, selectionOf}
 use Rattle.calls.specs.declared.status.Number.the-variants.{Given}

@@ -17,12 +17,12 @@ use Rattle.journal.specs.declared.operation.Operation.{Operation}
 use Rattle.journal.specs.Journal.{wellFormed}
 use Rattle.journal.specs.Scope.{negative, valid, Selection, selectionOf}
 use Rattle.journal.specs.Reportable.{reportable}
-use Rattle.nodes.specs.Head.{isReserved}
+use Rattle.node_area.specs.Head.{isReserved}
 use Rattle.nodes.specs.Run.{cost, run, remains, nextState}
 use Rattle.nodes.specs.Area.{body, answer, written}
 use Rattle.nodes.specs.Claims.{Listed}
 use Rattle.words.specs.Reading.{read}
-use Rattle.nodes.specs.Reading.{reading}
+use Rattle.node_area.specs.Reading.{reading}
 use Rattle.nodes.proofs.Claims.{area-claims}
 use Rattle.nodes.proofs.Runs.{length-body}
 use Rattle.nodes.proofs.Carried.{state-of, reserved-of, written-head}

@@ -18,10 +18,10 @@ use Rattle.journal.specs.Scope.{valid, selectionOf}
 use Rattle.journal.specs.Reportable.{operandWords}
 use Rattle.nodes.specs.Run.{run, remains, nextState}
 use Rattle.nodes.specs.Area.{written}
-use Rattle.nodes.specs.Reading.{reading}
+use Rattle.node_area.specs.Reading.{reading}
 use Rattle.nodes.specs.Claims.{Listed}
 use Rattle.nodes.proofs.Runs.{RunFacts, run-facts, operandWords-append, operandWords-le, length-le-operandWords}
-use Rattle.nodes.specs.Head.{headOf, carriedHead, stateIn}
+use Rattle.node_area.specs.Head.{headOf, carriedHead, stateIn}
 use Rattle.nodes.proofs.Carried.{state-of, reserved-of, written-head}
 use Rattle.nodes.proofs.Claims.{area-claims}
 use Rattle.calls.specs.Status.{isGiven}

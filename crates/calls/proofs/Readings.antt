@@ -5,10 +5,10 @@ use Rattle.records.specs.Choosing.{chosenBy}
 use Rattle.journal.specs.Journal.{goodFrame, nodeType, goodRecord, wellFormed, operationOf, entries}
 use Rattle.journal.specs.Scope.{negative, valid, rowOf}
 use Rattle.journal.specs.Reportable.{reports, reportable, operandWords, chosen}
-use Rattle.nodes.specs.Head.{isReserved}
+use Rattle.node_area.specs.Head.{isReserved}
 use Rattle.nodes.specs.Run.{present, cost, longest, run, remains, nextState}
 use Rattle.nodes.specs.Area.{operandsOf, body, answer, written}
-use Rattle.nodes.specs.Reading.{faultOf, verdict, operationsAt, reading}
+use Rattle.node_area.specs.Reading.{faultOf, verdict, operationsAt, reading}
 use Rattle.calls.specs.Lent.{partAt, withPart}
 use Rattle.calls.specs.UpdateNodes.{placed, goodState, areaStatus, areaAfter, nodesStatus, nodesMemory}
 use Rattle.inventory.specs.Inventory.{codeLimit, flagOf, typeOf, indexOf, codeOf, nonZero, goodHead, goodCode}

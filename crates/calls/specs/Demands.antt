@@ -11,7 +11,7 @@ use Rattle.journal.specs.Journal.{wellFormed}
 use Rattle.journal.specs.Scope.{valid, selectionOf}
 use Rattle.journal.specs.Reportable.{reportable, operandWords}
 use Rattle.words.specs.Reading.{read, readings}
-use Rattle.nodes.specs.Reading.{reading}
+use Rattle.node_area.specs.Reading.{reading}
 use Rattle.journal.specs.declared.operation.Operation.{Operation}
 use Rattle.calls.specs.Status.{numberOf}
 use Rattle.calls.specs.Buffer.{Found, Left, callOf}

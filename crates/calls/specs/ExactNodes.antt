@@ -16,7 +16,7 @@ use Rattle.nodes.specs.Run.{cost, run}
 use Rattle.nodes.specs.Longest.{LongestOf}
 use Rattle.nodes.specs.Area.{written}
 use Rattle.words.specs.Reading.{read}
-use Rattle.nodes.specs.Reading.{reading}
+use Rattle.node_area.specs.Reading.{reading}
 use Rattle.calls.specs.Lent.{partAt, withPart}
 use Rattle.calls.specs.Terms.{minus, Exactly}
 

@@ -5,7 +5,7 @@ use mathlib.Core.Bool.{true, false, cond}
 use mathlib.Core.List.{List, []}
 use lib.ListN.{length}
 use Rattle.journal.specs.declared.operation.Operation.{Operation}
-use Rattle.nodes.specs.Head.{headOf, carriedHead, stateIn}
+use Rattle.node_area.specs.Head.{headOf, carriedHead, stateIn}
 use Rattle.calls.specs.UpdateNodes.{areaAt}
 use Rattle.calls.specs.Buffer.{token, inputs, outputs, input, Found, callOf}
 use Rattle.calls.specs.Session.{isAnswered, Standing, afterCall, over, Each}

@@ -8,7 +8,7 @@ use lib.ListN.{length, take, drop, replicate}
 use Rattle.words.specs.Numbers.{be32, wordBytes, words}
 use Rattle.words.specs.Reading.{Reading, read, refused}
 use Rattle.journal.specs.Claims.{short, long}
-use Rattle.nodes.specs.Reading as node-area
+use Rattle.node_area.specs.Reading as node-area
 use Rattle.inventory.specs.Claims.{entry, bytes}
 use Rattle.indices.specs.Area.{entryBytes}
 use Rattle.indices.specs.Reading as index-area

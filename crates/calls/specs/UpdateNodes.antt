@@ -7,9 +7,9 @@ use lib.ListN.{length}
 use Rattle.journal.specs.Journal.{wellFormed}
 use Rattle.journal.specs.Scope.{valid, selectionOf, Selection}
 use Rattle.journal.specs.Reportable.{reportable}
-use Rattle.nodes.specs.Head.{areaSize, stateIn, isReserved}
+use Rattle.node_area.specs.Head.{areaSize, stateIn, isReserved}
 use Rattle.nodes.specs.Run.{remains}
-use Rattle.nodes.specs.State.{isWithin}
+use Rattle.node_area.specs.State.{isWithin}
 use Rattle.nodes.specs.Area.{written}
 use Rattle.calls.specs.declared.status.Status.{Status}
 use Rattle.calls.specs.declared.status.Status.the-variants.{Done, Again, Malformed, Parameter}

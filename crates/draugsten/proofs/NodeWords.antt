@@ -14,18 +14,18 @@ use Rattle.words.proofs.Stores.{sets-behind}
 use Rattle.words.proofs.Words.{words-step, words-drop}
 use Rattle.journal.specs.declared.operation.Operation.{Operation}
 use Rattle.journal.specs.declared.operation.Operation.the-variants.{Delete, Update, Add}
-use Rattle.nodes.specs.Head.{areaSize}
-use Rattle.nodes.specs.declared.reading.Fault.the-variants.{Fine}
-use Rattle.nodes.specs.declared.reading.Refusal.{Refusal}
-use Rattle.nodes.specs.declared.reading.Refusal.the-variants.{Size}
-use Rattle.nodes.specs.declared.reading.Check.{Check}
-use Rattle.nodes.specs.declared.reading.Check.the-variants.{Entries, Refused}
+use Rattle.node_area.specs.Head.{areaSize}
+use Rattle.node_area.specs.declared.reading.Fault.the-variants.{Fine}
+use Rattle.node_area.specs.declared.reading.Refusal.{Refusal}
+use Rattle.node_area.specs.declared.reading.Refusal.the-variants.{Size}
+use Rattle.node_area.specs.declared.reading.Check.{Check}
+use Rattle.node_area.specs.declared.reading.Check.the-variants.{Entries, Refused}
 use Rattle.words.specs.Reading.{Reading, read, refused}
-use Rattle.nodes.specs.Reading as nodes
-use Rattle.nodes.specs.Reading.{opcodeIn, countIn, faultOf, verdict, single, operationsAt, operationsIn, reading, checkOf}
-use Rattle.nodes.specs.Cursor.{remaining, startOf}
-use Rattle.nodes.proofs.Verdicts.{Operator, operator, operations-end, operations-more, operations-single, operations-pair, operations-passed, verdict-fine, entries-in-order}
-use Rattle.nodes.proofs.Walks.{good-words, opcode-range, good-fine, words-inside, operations-next, singles-cut, pairs-cut, operator-split}
+use Rattle.node_area.specs.Reading as nodes
+use Rattle.node_area.specs.Reading.{opcodeIn, countIn, faultOf, verdict, single, operationsAt, operationsIn, reading, checkOf}
+use Rattle.node_area.specs.Cursor.{remaining, startOf}
+use Rattle.node_area.proofs.Verdicts.{Operator, operator, operations-end, operations-more, operations-single, operations-pair, operations-passed, verdict-fine, entries-in-order}
+use Rattle.node_area.proofs.Walks.{good-words, opcode-range, good-fine, words-inside, operations-next, singles-cut, pairs-cut, operator-split}
 use Rattle.draugsten.specs.Readings.{operationWords, operationsWords, nodesOut}
 
 -- ---- operations stored one after the other

@@ -9,9 +9,9 @@ use Rattle.words.specs.Nul.{untilNul}
 use Rattle.words.specs.Reading.{Reading, read, refused}
 use Rattle.journal.specs.declared.operation.Operation.{Operation}
 use Rattle.journal.specs.declared.operation.Operation.the-variants.{Delete, Update, Add}
-use Rattle.nodes.specs.declared.reading.Refusal as nodes-refusal
-use Rattle.nodes.specs.Head.{stateIn}
-use Rattle.nodes.specs.Reading as nodes
+use Rattle.node_area.specs.declared.reading.Refusal as nodes-refusal
+use Rattle.node_area.specs.Head.{stateIn}
+use Rattle.node_area.specs.Reading as nodes
 use Rattle.inventory.specs.Listing.{Entry}
 use Rattle.indices.specs.declared.reading.Refusal as indices-refusal
 use Rattle.indices.specs.Reading as indices

@@ -7,8 +7,8 @@ ghost use lib.Seq.{sets};
 ghost use Rattle.words.specs.Nul.{untilNul};
 ghost use Rattle.words.specs.Numbers.{words};
 ghost use Rattle.words.specs.Reading.{read};
-ghost use Rattle.nodes.specs.Reading as nodes_reading;
-ghost use Rattle.nodes.specs.Cursor as nodes_cursor;
+ghost use Rattle.node_area.specs.Reading as nodes_reading;
+ghost use Rattle.node_area.specs.Cursor as nodes_cursor;
 ghost use Rattle.indices.specs.Reading as indices_reading;
 ghost use Rattle.indices.specs.declared.reading.Fault.the-variants as indices_fault;
 ghost use Rattle.indices.specs.declared.reading.Check.the-variants as indices_check;
@@ -33,18 +33,18 @@ pub struct IndexReading {
 
 // ---- node areas
 
-fn node_refusal(refusal: nodes::Refusal) -> u32
+fn node_refusal(refusal: node_area::Refusal) -> u32
     ensures { λ r. ⌜ r ≡ nodes_reading.refusalNumber refusal ⌝ }
 {
     match refusal {
-        nodes::Refusal::Size => 20,
-        nodes::Refusal::Reserved => 21,
-        nodes::Refusal::Opcode => 22,
-        nodes::Refusal::Count => 23,
-        nodes::Refusal::Past => 24,
-        nodes::Refusal::Odd => 25,
-        nodes::Refusal::Order => 26,
-        nodes::Refusal::Unterminated => 27,
+        node_area::Refusal::Size => 20,
+        node_area::Refusal::Reserved => 21,
+        node_area::Refusal::Opcode => 22,
+        node_area::Refusal::Count => 23,
+        node_area::Refusal::Past => 24,
+        node_area::Refusal::Odd => 25,
+        node_area::Refusal::Order => 26,
+        node_area::Refusal::Unterminated => 27,
     }
 }
 
@@ -131,19 +131,19 @@ pub extern "C" fn draugsten_read_nodes(area: &[u8], out: &mut [u32]) -> NodeRead
     ensures { λ r. ⌜ r ≡ nodeReading (now (area .entry)) (nodes_reading.reading (now (area .entry))) ⌝ }
     ensures { λ _. ⌜ now (out .exit) ≡ nodesOut (now (out .entry)) (nodes_reading.reading (now (area .entry))) ⌝ }
 {
-    let found = nodes::check_area(area);
+    let found = node_area::check_area(area);
     match found {
-        nodes::Check::Refused(refusal, offset) => NodeReading {
+        node_area::Check::Refused(refusal, offset) => NodeReading {
             refusal: node_refusal(refusal),
             state: 0,
             offset,
             entries: 0,
         },
-        nodes::Check::Entries(entries) => {
+        node_area::Check::Entries(entries) => {
             store_operations(area, out, words::least(entries, out.len() / 3));
             NodeReading {
                 refusal: 0,
-                state: nodes::StateVariable::read(area).0,
+                state: node_area::StateVariable::read(area).0,
                 offset: 0,
                 entries,
             }

@@ -15,9 +15,9 @@ use Rattle.journal.specs.Journal.{wellFormed, entries}
 use Rattle.journal.specs.Reportable.{chosen, reportable, countsOf}
 use Rattle.journal.proofs.Entries.{operations-few}
 use Rattle.journal.proofs.Walks.{within-limit}
-use Rattle.nodes.specs.Head.{areaSize, headSize, headWords, carriedHead}
-use Rattle.nodes.specs.Run.{cut, total, run, nextState}
-use Rattle.nodes.specs.State.{passedOf, remainingOf}
+use Rattle.node_area.specs.Head.{areaSize, headSize, headWords, carriedHead}
+use Rattle.nodes.specs.Run.{cut, run, nextState}
+use Rattle.node_area.specs.State.{total, passedOf, remainingOf}
 use Rattle.nodes.specs.Area.{body, answer, written}
 use Rattle.nodes.specs.Writing.{Handed, bodyFrom}
 use Rattle.nodes.proofs.Cut.{Parts}

@@ -9,7 +9,7 @@ use lib.ListN.{drop, replicate}
 use Rattle.words.specs.Numbers.{be, beBytes, wordBytes, zeros}
 use Rattle.words.proofs.Numbers.{be-take, be-bytes}
 use Rattle.journal.specs.declared.operation.Operation.{Operation}
-use Rattle.nodes.specs.Head.{headSize, headOf, carriedHead, stateIn, isReserved}
+use Rattle.node_area.specs.Head.{headSize, headOf, carriedHead, stateIn, isReserved}
 use Rattle.nodes.specs.Run.{nextState}
 use Rattle.nodes.specs.Area.{answer, written}
 

@@ -19,12 +19,12 @@ use Rattle.words.proofs.Choice.{choose}
 use Rattle.journal.proofs.Entries.{operations-few}
 use Rattle.journal.proofs.Operands.{SmallEntries, entries-small}
 use Rattle.journal.proofs.Walks.{within-limit}
-use Rattle.nodes.specs.Head.{areaSize, headSize, isReserved}
+use Rattle.node_area.specs.Head.{areaSize, headSize, isReserved}
 use Rattle.nodes.specs.Run.{areaWords, present, cost, longest, run, remains, nextState}
 use Rattle.nodes.specs.Longest.{AllOf}
 use Rattle.nodes.specs.Area.{operandsOf, part, body, answer, written}
 use Rattle.words.specs.Reading.{read}
-use Rattle.nodes.specs.Reading.{reading}
+use Rattle.node_area.specs.Reading.{reading}
 use Rattle.nodes.specs.Claims.{Sorted, SmallOperands, Listed, ReportableListed, NeverEmpty, WellFilled, RunCases, AreaClaims}
 use Rattle.nodes.proofs.Runs.{length-operandsOf, length-body, longest-run, run-facts, next-le}
 use Rattle.nodes.proofs.Listed.{chosen-code}

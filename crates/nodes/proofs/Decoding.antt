@@ -13,15 +13,15 @@ use Rattle.journal.specs.declared.operation.Operation.{Operation}
 use Rattle.journal.specs.declared.operation.Operation.the-variants.{Delete, Update, Add}
 use Rattle.journal.specs.Journal.{IsOpcode, opcode, operands}
 use Rattle.journal.proofs.Opcodes.{code-1, code-2, code-3}
-use Rattle.nodes.specs.declared.reading.Fault.the-variants.{Fine}
+use Rattle.node_area.specs.declared.reading.Fault.the-variants.{Fine}
 use Rattle.nodes.specs.Run.{areaWords, cost}
 use Rattle.nodes.specs.Longest.{AllOf}
 use Rattle.nodes.specs.Area.{wordsOf, part, body}
-use Rattle.nodes.specs.Reading.{opcodeIn, countIn, faultOf, good, verdict, operationsAt}
+use Rattle.node_area.specs.Reading.{opcodeIn, countIn, faultOf, good, verdict, operationsAt}
 use Rattle.nodes.specs.Claims.{Sorted}
 use Rattle.nodes.proofs.Runs.{length-part, length-body}
 use Rattle.nodes.proofs.Cut.{words-two, body-split}
-use Rattle.nodes.proofs.Verdicts.{operations-end, operations-more, operations-single, operations-pair, verdict-end, verdict-fine}
+use Rattle.node_area.proofs.Verdicts.{operations-end, operations-more, operations-single, operations-pair, verdict-end, verdict-fine}
 
 -- ---- a list sorted by opcode is its deletes, then its updates, then its additions
 

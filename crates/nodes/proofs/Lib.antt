@@ -3,10 +3,6 @@ pub mod Runs
 pub mod Cut
 pub mod Listed
 pub mod Writes
-pub mod Verdicts
-pub mod Walks
-pub mod Steps
 pub mod Decoding
 pub mod Claims
 pub mod Answers
-pub mod ReadingCases

@@ -16,9 +16,9 @@ use Rattle.journal.specs.declared.scanning.Counts.{Counts}
 use Rattle.journal.specs.Journal.{Entry, opcode, entries}
 use Rattle.journal.specs.Reportable.{reports, chosen, reportable, countsOf}
 use Rattle.words.proofs.Choice.{choose, and-left}
-use Rattle.nodes.specs.Run.{areaWords, run, remains, nextState, partWords, cut, total}
+use Rattle.nodes.specs.Run.{areaWords, run, remains, nextState, partWords, cut}
 use Rattle.nodes.specs.Longest.{AllOf}
-use Rattle.nodes.specs.State.{remainingOf}
+use Rattle.node_area.specs.State.{total, remainingOf}
 use Rattle.nodes.specs.Area.{wordsOf, part, body}
 use Rattle.nodes.proofs.Runs.{longest-one, longest-run, run-facts}
 use Rattle.nodes.proofs.Cut.{code-take, code-drop, body-split, Parts, parts-in, Cut, cut-is, cut-longest}

@@ -7,7 +7,7 @@ use lib.ListN.{length, drop}
 use Rattle.words.specs.Numbers.{wordBytes}
 use Rattle.journal.specs.declared.operation.Operation.{Operation}
 use Rattle.journal.specs.Journal.{opcode, operands}
-use Rattle.nodes.specs.Head.{headWords}
+use Rattle.node_area.specs.Head.{headWords}
 use Rattle.nodes.specs.Run.{run, nextState}
 
 -- the operand words of operations, in order

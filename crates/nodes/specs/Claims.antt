@@ -12,12 +12,12 @@ use Rattle.journal.specs.declared.operation.Operation.{Operation}
 use Rattle.journal.specs.declared.operation.Operation.the-variants.{Delete, Update, Add}
 use Rattle.journal.specs.Journal.{opcode, operands, wellFormed}
 use Rattle.journal.specs.Reportable.{reportable, operandWords}
-use Rattle.nodes.specs.Head.{areaSize}
+use Rattle.node_area.specs.Head.{areaSize}
 use Rattle.nodes.specs.Run.{filledWords, run, remains, nextState}
 use Rattle.nodes.specs.Longest.{LongestRun}
 use Rattle.nodes.specs.Area.{written}
 use Rattle.words.specs.Reading.{read}
-use Rattle.nodes.specs.Reading.{reading}
+use Rattle.node_area.specs.Reading.{reading}
 
 -- the opcodes do not fall, from `least` on
 abbrev pub Sorted : ℕ → List Operation → Type 0

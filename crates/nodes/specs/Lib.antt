@@ -1,11 +1,6 @@
-pub mod Head
 pub mod Run
 pub mod Longest
-pub mod State
 pub mod Area
-pub mod Reading
-pub mod Cursor
 pub mod Claims
 pub mod Source
 pub mod Writing
-pub mod ReadingCases

@@ -69,6 +69,3 @@ cut remaining =
     let updates = onesIn room₂ (remaining .updates) in
     let room₃ = room₂ - partWords updates in
     record { deletes = deletes; updates = updates; additions = twosIn room₃ (remaining .additions) }
-
-abbrev pub total : Counts → ℕ
-total c = c .deletes + c .updates + c .additions

@@ -1,17 +1,6 @@
-// The node work area: the run that a call hands out, writing it, reading it.
-mod head;
-mod reading;
+// What a call hands out of a reportable list: the longest run that fits, and writing it to a node work area.
 mod run;
-mod state;
 mod writing;
 
-pub use head::AREA_SIZE;
-pub use head::is_reserved;
-pub use reading::Check;
-pub use reading::Cursor;
-pub use reading::Next;
-pub use reading::Refusal;
-pub use reading::check_area;
 pub use run::longest_run;
-pub use state::StateVariable;
 pub use writing::write_answer;

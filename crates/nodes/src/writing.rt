@@ -9,19 +9,18 @@ ghost use Rattle.words.specs.Numbers.{wordBytes};
 ghost use Rattle.journal.specs.Journal.{IsOpcode, wellFormed, entries};
 ghost use Rattle.journal.specs.Reportable.{chosen, reportable};
 ghost use Rattle.journal.specs.Marks.{operandsAt, operandsEnd, Marked};
-ghost use Rattle.nodes.specs.Run.{partWords, cut, total, remains, areaWords};
-ghost use Rattle.nodes.specs.Head.{areaSize, headSize};
-ghost use Rattle.nodes.specs.State.{passedOf};
-ghost use Rattle.nodes.specs.Run.{areaWords, partWords, total, remains};
+ghost use Rattle.node_area.specs.Head.{areaSize, headSize};
+ghost use Rattle.node_area.specs.State.{total, passedOf};
+ghost use Rattle.nodes.specs.Run.{areaWords, partWords, cut, remains};
 ghost use Rattle.nodes.specs.Area.{written};
 ghost use Rattle.nodes.specs.Claims.{AreaClaims};
 ghost use Rattle.nodes.specs.Source.{Source};
 ghost use Rattle.nodes.specs.Writing.{width, Due, dueWords, partFrom, Handed, bodyFrom};
-use crate::head::HEAD_SIZE;
-use crate::head::write_head;
 use crate::run::longest_run;
-use crate::state::StateVariable;
 use journal::Counts;
+use node_area::HEAD_SIZE;
+use node_area::StateVariable;
+use node_area::write_head;
 
 // The operand words of one operation of an opcode.
 fn width_of(code: usize) -> usize

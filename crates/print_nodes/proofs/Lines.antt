@@ -5,10 +5,10 @@ use Prim.Native.Nat.{ℕ, _<_}
 use native.Mathlib.Omega.{arith}
 use lib.ListN.{length}
 use Rattle.journal.specs.declared.operation.Operation.{Operation}
-use Rattle.nodes.specs.declared.reading.Cursor.{Cursor}
-use Rattle.nodes.specs.declared.reading.Next.the-variants.{Entry, End}
-use Rattle.nodes.specs.Cursor.{remaining, nextOf}
-use Rattle.nodes.proofs.Steps.{steps-give}
+use Rattle.node_area.specs.declared.reading.Cursor.{Cursor}
+use Rattle.node_area.specs.declared.reading.Next.the-variants.{Entry, End}
+use Rattle.node_area.specs.Cursor.{remaining, nextOf}
+use Rattle.node_area.proofs.Steps.{steps-give}
 use Rattle.print_nodes.specs.Text.{line, lines}
 
 module _ (area : List ℕ) (at : Cursor) where

@@ -13,14 +13,14 @@ use Rattle.words.proofs.Words.{length-words}
 use Rattle.journal.specs.declared.operation.Operation.{Operation}
 use Rattle.journal.specs.declared.operation.Operation.the-variants.{Delete, Update, Add}
 use Rattle.words.proofs.Choice.{choose}
-use Rattle.nodes.specs.declared.reading.Refusal.{Refusal}
-use Rattle.nodes.specs.declared.reading.Refusal.the-variants.{Size, Reserved}
-use Rattle.nodes.specs.declared.reading.Check.the-variants.{Entries, Refused}
+use Rattle.node_area.specs.declared.reading.Refusal.{Refusal}
+use Rattle.node_area.specs.declared.reading.Refusal.the-variants.{Size, Reserved}
+use Rattle.node_area.specs.declared.reading.Check.the-variants.{Entries, Refused}
 use Rattle.words.specs.Reading.{Reading, read, refused}
-use Rattle.nodes.specs.Reading.{Verdict, good, bad, verdict, reading, readBy, refusalNumber, operationsAt, opcodeIn, countIn, checkOf}
-use Rattle.nodes.specs.Head.{areaSize, headSize, stateIn, isReserved}
-use Rattle.nodes.specs.Cursor.{remaining, startOf}
-use Rattle.nodes.proofs.Verdicts.{entries-in-order}
+use Rattle.node_area.specs.Reading.{Verdict, good, bad, verdict, reading, readBy, refusalNumber, operationsAt, opcodeIn, countIn, checkOf}
+use Rattle.node_area.specs.Head.{areaSize, headSize, stateIn, isReserved}
+use Rattle.node_area.specs.Cursor.{remaining, startOf}
+use Rattle.node_area.proofs.Verdicts.{entries-in-order}
 use Rattle.print_nodes.specs.Put.{Fits}
 use Rattle.print_nodes.specs.Text.{digits, decimal, hexDigits, hex, numbered, ended, operand, line, lines, text, textOf, LongInput, newline, space, state-, delete-, update-, add-, end-, refused-, -at-}
 

@@ -7,10 +7,10 @@ use lib.Dec.{ltb}
 use lib.ListN.{length, take}
 use Rattle.journal.specs.declared.operation.Operation.{Operation}
 use Rattle.journal.specs.declared.operation.Operation.the-variants.{Delete, Update, Add}
-use Rattle.nodes.specs.declared.reading.Refusal.{Refusal}
+use Rattle.node_area.specs.declared.reading.Refusal.{Refusal}
 use Rattle.words.specs.Reading.{Reading, read, refused}
-use Rattle.nodes.specs.Reading.{reading, refusalNumber}
-use Rattle.nodes.specs.Head.{stateIn}
+use Rattle.node_area.specs.Reading.{reading, refusalNumber}
+use Rattle.node_area.specs.Head.{stateIn}
 
 -- The decimal digits of a number, at most n of them, with no zero in front.
 unfoldable pub digits : ℕ → ℕ → List ℕ

@@ -3,17 +3,17 @@ ghost use mathlib.Core.Path.{_≡_};
 ghost use mathlib.Core.List.{_++_};
 ghost use lib.ListN.{length};
 ghost use lib.Seq.{sets};
-ghost use Rattle.nodes.specs.declared.reading.Check.the-variants.{Entries};
-ghost use Rattle.nodes.specs.Reading.{refusalNumber, reading, checkOf};
-ghost use Rattle.nodes.specs.Cursor.{remaining, startOf};
+ghost use Rattle.node_area.specs.declared.reading.Check.the-variants.{Entries};
+ghost use Rattle.node_area.specs.Reading.{refusalNumber, reading, checkOf};
+ghost use Rattle.node_area.specs.Cursor.{remaining, startOf};
 ghost use Rattle.print_nodes.specs.Text.{refused-, -at-, numbered, ended, operand, entry, line, lines, text, LongInput};
 ghost use Rattle.print_nodes.specs.Put.{Fits, Put};
 use journal::Operation;
-use nodes::Check;
-use nodes::Cursor;
-use nodes::Next;
-use nodes::Refusal;
-use nodes::StateVariable;
+use node_area::Check;
+use node_area::Cursor;
+use node_area::Next;
+use node_area::Refusal;
+use node_area::StateVariable;
 
 fn put_bytes(bytes: &[u8], out: &mut [u8; 32768], at: usize) -> usize
     requires { ⌜ Fits at (now bytes) ⌝ }
@@ -142,7 +142,7 @@ pub fn print_area(input: &[u8], out: &mut [u8; 32768]) -> usize
     ensures { λ _. ⌜ now (out .exit) ≡ sets (now (out .entry)) 0 (text (now (input .entry))) ⌝ }
     ensures longer { λ _. ⌜ LongInput ⌝ }
 {
-    let found = nodes::check_area(input);
+    let found = node_area::check_area(input);
     match found {
         Check::Refused(reason, offset) => put_refusal(refusal_number(reason), offset, out),
         Check::Entries(count) => put_area(input, count, out),

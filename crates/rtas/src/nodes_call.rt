@@ -3,20 +3,20 @@ ghost use mathlib.Core.Path.{_≡_};
 ghost use Prim.Native.Nat.{_<_};
 ghost use lib.ListN.{length};
 ghost use Rattle.journal.specs.Scope.{byRow};
-ghost use Rattle.nodes.specs.Head.{areaSize};
+ghost use Rattle.node_area.specs.Head.{areaSize};
 ghost use Rattle.nodes.specs.Source.{Source};
 ghost use Rattle.calls.specs.UpdateNodes.{placed, areaStatus, areaAfter, nodesStatus, nodesMemory};
 use calls::Status;
 use journal::Counts;
 use journal::Judgement;
-use nodes::StateVariable;
+use node_area::StateVariable;
 
 // Whether an address is a multiple of 4,096 with its area inside memory.
 fn is_placed(memory: &[u8], address: usize) -> bool
     requires { ⌜ address < 4294967296 ⌝ }
     ensures { λ r. ⌜ r ≡ placed (now (memory .entry)) address ⌝ }
 {
-    address % nodes::AREA_SIZE == 0 && address + nodes::AREA_SIZE <= memory.len()
+    address % node_area::AREA_SIZE == 0 && address + node_area::AREA_SIZE <= memory.len()
 }
 
 // The answer of a call over a well-formed journal, in its work area.
@@ -32,7 +32,7 @@ fn answer_counted(
     ensures { λ r. ⌜ r ≡ areaStatus (byRow (now (row .entry))) (now (j .entry)) (now (area .entry)) ⌝ }
     ensures { λ _. ⌜ now (area .exit) ≡ areaAfter (byRow (now (row .entry))) (now (j .entry)) (now (area .entry)) ⌝ }
 {
-    if !nodes::is_reserved(area) {
+    if !node_area::is_reserved(area) {
         return Status::Parameter;
     }
     let state = StateVariable::read(area);
@@ -76,5 +76,5 @@ pub fn update_nodes(memory: &mut [u8], j: &[u8], address: u32, scope: u32) -> St
         return Status::Parameter;
     }
     let sets = row.sets;
-    answer_area(&mut memory[at..at + nodes::AREA_SIZE], j, &sets)
+    answer_area(&mut memory[at..at + node_area::AREA_SIZE], j, &sets)
 }

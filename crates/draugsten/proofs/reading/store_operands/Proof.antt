@@ -2,7 +2,7 @@
 use native.Mathlib.Omega.{arith}
 use lib.ListN.{drop, length-drop}
 use denote.Ref.{now}
-use Rattle.nodes.proofs.Walks.{words-inside}
+use Rattle.node_area.proofs.Walks.{words-inside}
 use Rattle.draugsten.proofs.NodeWords.{operands-pairs, operands-singles}
 use borrow.Author.Needs.{needs}
 use Rattle.draugsten.proofs.reading.store_operands.Statement.{statement}

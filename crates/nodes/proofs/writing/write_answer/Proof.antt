@@ -9,9 +9,9 @@ use Rattle.journal.specs.Scope.{byRow}
 use Rattle.nodes.proofs.Answers.{counts-small, handed, answer-stored}
 use Rattle.nodes.proofs.Claims.{area-claims}
 use Rattle.nodes.proofs.Listed.{few, remains-is, next-is}
-use Rattle.nodes.specs.Head.{carriedHead}
-use Rattle.nodes.specs.Run.{cut, total}
-use Rattle.nodes.specs.State.{remainingOf}
+use Rattle.node_area.specs.Head.{carriedHead}
+use Rattle.nodes.specs.Run.{cut}
+use Rattle.node_area.specs.State.{total, remainingOf}
 use Rattle.nodes.proofs.writing.write_answer.Statement.{statement}
 use Rattle.nodes.proofs.writing.write_answer.Tie as tie
 

@@ -4,7 +4,7 @@ use mathlib.Core.List.{_++_}
 use native.Mathlib.Omega.{arith}
 use borrow.Author.Needs.{needs}
 use denote.Ref.{now}
-use Rattle.nodes.specs.Cursor.{remaining, startOf}
+use Rattle.node_area.specs.Cursor.{remaining, startOf}
 use Rattle.print_nodes.specs.Put.{Fits}
 use Rattle.print_nodes.specs.Text.{state-, end-, ended, lines}
 use Rattle.print_nodes.proofs.Puts.{fits-first, fits-then, put-then}

@@ -4,7 +4,7 @@ use mathlib.Core.List.{_++_}
 use lib.ListN.{length}
 use borrow.Author.Needs.{needs}
 use denote.Ref.{now}
-use Rattle.nodes.specs.Cursor.{remaining, startOf}
+use Rattle.node_area.specs.Cursor.{remaining, startOf}
 use Rattle.print_nodes.specs.Text.{line, lines}
 use Rattle.print_nodes.proofs.Lines.{lines-end, lines-entry, fewer}
 use Rattle.print_nodes.proofs.Puts.{fits-first, Ahead, ahead-first, ahead-then, ahead-none}

@@ -1,0 +1,4 @@
+pub mod Verdicts
+pub mod Walks
+pub mod Steps
+pub mod ReadingCases

@@ -1,0 +1,48 @@
+-- `head::write_head` meets its contract.
+use mathlib.Core.List.{[], _∷_}
+use mathlib.Core.Path.{refl}
+use borrow.Author.Needs.{needs}
+use denote.Ref.{now}
+use Rattle.words.proofs.Stores.{store-next}
+use Rattle.node_area.proofs.head.write_head.Statement.{statement}
+use Rattle.node_area.proofs.head.write_head.Tie as tie
+
+store-requires : tie.Need-store-requires
+store-requires c κs = search needs
+
+store-be32-requires : tie.Need-store-be32-requires
+store-be32-requires c κs = search needs
+
+store-be32-requires-2 : tie.Need-store-be32-requires-2
+store-be32-requires-2 c κs = search needs
+
+store-be32-requires-3 : tie.Need-store-be32-requires-3
+store-be32-requires-3 c κs = search needs
+
+same-length : tie.Need-same-length
+same-length c = search needs
+
+returns : tie.Need-returns
+returns c =
+    let a = c .before .before .before .before .before .before .before .before .before .before .before .before .before .before .before .before .before .args in
+    let l = now (a .area) in
+    let s = a .state .0 in
+    let state = c .before .before .before .before .before .before .before .before .before .before .before .before .before .before .store in
+    let first = c .before .before .before .before .before .before .before .before .before .before .store-be32 in
+    let second = c .before .before .before .before .before .before .store-be322 in
+    let third = c .before .before .store-be323 in
+    store-next l (second .last .0) 0 0 (third .last .0) 12 (s ∷ 0 ∷ 0 ∷ [])
+    (store-next l (first .last .0) 0 0 (second .last .0) 8 (s ∷ 0 ∷ [])
+    (store-next l (state .last .1 .0) 0 0 (first .last .0) 4 (s ∷ []) (state .ensures) (first .ensures) refl)
+    (second .ensures) refl) (third .ensures) refl
+
+pub write-head-spec : {M : Type 1} → statement M
+write-head-spec =
+    tie.close
+    (tie.spec
+    store-requires
+    store-be32-requires
+    store-be32-requires-2
+    store-be32-requires-3
+    same-length
+    returns)

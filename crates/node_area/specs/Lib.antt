@@ -1,0 +1,5 @@
+pub mod Head
+pub mod State
+pub mod Reading
+pub mod Cursor
+pub mod ReadingCases

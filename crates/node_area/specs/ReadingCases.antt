@@ -1,0 +1,80 @@
+-- Readings of node areas on both sides of each line, cited by the contract of `check_area` (document 01, "Readers").
+use Prim.Native.Nat.{ℕ, _-_}
+use mathlib.Core.Bool.{Bool, true, false, _&&_}
+use mathlib.Core.List.{List, [], _∷_, _++_}
+use lib.Dec.{T, eqb}
+use lib.ListN.{take, replicate}
+use Rattle.words.specs.Numbers.{wordBytes}
+use Rattle.node_area.specs.declared.reading.Check.{Check}
+use Rattle.node_area.specs.declared.reading.Check.the-variants.{Entries, Refused}
+use Rattle.node_area.specs.Reading.{refusalNumber, reading, checkOf}
+
+-- what a check is to find: a number of operations, or the number of a refusal and its byte offset
+pub data Found : Type 0 where
+  entries : ℕ → Found
+  refusal : ℕ → ℕ → Found
+
+pub record ReadingCase : Type 0 where
+  pub area : List ℕ
+  pub finds : Found
+
+-- an area with these words from byte 16 on, and sevens, which are no operator, behind them
+abbrev pub area : List ℕ → Found → ReadingCase
+area ws found = record { area = take 4096 (wordBytes (5 ∷ 0 ∷ 0 ∷ 0 ∷ ws) ++ replicate 4080 7); finds = found }
+
+-- zero bytes but for one, at an offset
+abbrev pub marked : ℕ → Found → ReadingCase
+marked at found = record { area = replicate at 0 ++ (1 ∷ replicate (4095 - at) 0); finds = found }
+
+abbrev pub readingCases : List ReadingCase
+readingCases =
+    -- "20 not 4,096 bytes (offset 0)", before 21
+    record { area = []; finds = refusal 20 0 }
+    ∷ record { area = replicate 4095 1; finds = refusal 20 0 }
+    ∷ record { area = replicate 4097 1; finds = refusal 20 0 }
+    -- "21 bytes 4 to 15 not zero (offset 4)"
+    ∷ marked 3 (entries 0)
+    ∷ marked 4 (refusal 21 4)
+    ∷ marked 9 (refusal 21 4)
+    ∷ marked 15 (refusal 21 4)
+    ∷ record { area = replicate 4096 1; finds = refusal 21 4 }
+    -- "word zero ends the list"
+    ∷ area (0 ∷ []) (entries 0)
+    ∷ area (16777217 ∷ 0 ∷ 33554433 ∷ 8 ∷ 50331650 ∷ 9 ∷ 9 ∷ 0 ∷ []) (entries 3)
+    -- "22 opcode not 1 to 3", in the high byte; before 23, 26 and 24
+    ∷ marked 16 (refusal 23 16)
+    ∷ marked 19 (refusal 22 16)
+    ∷ area (67108865 ∷ 8 ∷ 0 ∷ []) (refusal 22 16)
+    ∷ area (67108864 ∷ 0 ∷ []) (refusal 22 16)
+    ∷ area (33554433 ∷ 8 ∷ 16777215 ∷ 0 ∷ []) (refusal 22 24)
+    -- "23 operand count zero", before 26
+    ∷ area (33554432 ∷ 0 ∷ []) (refusal 23 16)
+    ∷ area (33554433 ∷ 8 ∷ 16777216 ∷ 0 ∷ []) (refusal 23 24)
+    -- "25 odd count for opcode 3", before 24
+    ∷ area (50331649 ∷ 8 ∷ 0 ∷ []) (refusal 25 16)
+    ∷ area (50331651 ∷ 8 ∷ 8 ∷ 8 ∷ 0 ∷ []) (refusal 25 16)
+    ∷ area (67108863 ∷ 0 ∷ []) (refusal 25 16)
+    ∷ area (33554435 ∷ 8 ∷ 8 ∷ 8 ∷ 0 ∷ []) (entries 3)
+    -- "26 opcode lower than an earlier one", before 24; an equal one is none
+    ∷ area (33554433 ∷ 8 ∷ 16777217 ∷ 8 ∷ 0 ∷ []) (refusal 26 24)
+    ∷ area (33554433 ∷ 8 ∷ 33554431 ∷ 0 ∷ []) (refusal 26 24)
+    ∷ area (33554433 ∷ 8 ∷ 33554433 ∷ 8 ∷ 0 ∷ []) (entries 2)
+    -- "24 operands past the end", "27 the area ends without a terminator (offset 4096)"
+    ∷ area (16778236 ∷ []) (refusal 24 16)
+    ∷ area (16778235 ∷ []) (refusal 27 4096)
+    ∷ area (16778234 ∷ []) (refusal 22 4092)
+    ∷ area ((16778234 ∷ []) ++ (replicate 1018 8 ++ (0 ∷ []))) (entries 1018)
+    ∷ []
+
+abbrev pub finds : Check → Found → Bool
+finds (Entries n) (entries m) = eqb n m
+finds (Entries n) (refusal r at) = false
+finds (Refused f k) (entries m) = false
+finds (Refused f k) (refusal r at) = eqb (refusalNumber f) r && eqb k at
+
+abbrev pub allFound : List ReadingCase → Bool
+allFound [] = true
+allFound (c ∷ cs) = finds (checkOf (reading (c .area))) (c .finds) && allFound cs
+
+abbrev pub ReadingCases : Type 0
+ReadingCases = T (allFound readingCases)
