@@ -106,10 +106,3 @@ module _ (l : List ℕ) (w v at : ℕ) where
       ap (λ (s : List ℕ). be w s at) whole
       ∙ be-same (p ++ q) q w at 0 (λ i h. ap (λ (k : ℕ). getD (p ++ q) k 0) (ap (λ (k : ℕ). k + i) (sym front)) ∙ getD-append-add p q i 0 ∙ ap (λ (k : ℕ). getD q k 0) (omega arith))
       ∙ be-bytes w v _
-
-  -- and leaves every other number as it was
-  pub be-beside : (x k : ℕ) → k + x ≤ at → be x (sets l at (beBytes w v)) k ≡ be x l k
-  be-beside x k h = be-same (sets l at (beBytes w v)) l x k k (λ i g. sets-before (beBytes w v) l at (k + i) (omega arith))
-
-  pub be-behind : (x k : ℕ) → at + w ≤ k → be x (sets l at (beBytes w v)) k ≡ be x l k
-  be-behind x k h = be-same (sets l at (beBytes w v)) l x k k (λ i g. sets-after (beBytes w v) l at (k + i) (omega (arith, length-beBytes w v)))

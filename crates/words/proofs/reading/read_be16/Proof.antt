@@ -1,7 +1,9 @@
 -- `reading::read_be16` meets its contract.
-use mathlib.Core.Path.{_∙_, sym}
+use mathlib.Core.Path.{_∙_}
+use native.Mathlib.Numerals.{towards-suc}
+use native.Mathlib.Omega.{arith}
 use borrow.Author.Needs.{needs}
-use Rattle.words.proofs.Numbers.{be-two}
+use Rattle.words.specs.Numbers.{be}
 use Rattle.words.proofs.reading.read_be16.Statement.{statement}
 use Rattle.words.proofs.reading.read_be16.Tie as tie
 
@@ -18,7 +20,8 @@ join2-requires : tie.Need-join2-requires
 join2-requires c κs = search needs
 
 returns : tie.Need-returns
-returns c = c .join2 .ensures ∙ sym (be-two _ _)
+unfolding be
+returns c = c .join2 .ensures ∙ simp towards-suc (omega arith)
 
 pub read-be16-spec : {M : Type 1} → statement M
 read-be16-spec =

@@ -1,7 +1,9 @@
 -- `reading::read_le32` meets its contract.
-use mathlib.Core.Path.{_∙_, sym}
+use mathlib.Core.Path.{_∙_}
+use native.Mathlib.Numerals.{towards-suc}
+use native.Mathlib.Omega.{arith}
 use borrow.Author.Needs.{needs}
-use Rattle.words.proofs.Numbers.{le-four}
+use Rattle.words.specs.Numbers.{le}
 use Rattle.words.proofs.reading.read_le32.Statement.{statement}
 use Rattle.words.proofs.reading.read_le32.Tie as tie
 
@@ -30,7 +32,8 @@ join4-requires : tie.Need-join4-requires
 join4-requires c κs = search needs
 
 returns : tie.Need-returns
-returns c = c .join4 .ensures ∙ sym (le-four _ _)
+unfolding le
+returns c = c .join4 .ensures ∙ simp towards-suc (omega arith)
 
 pub read-le32-spec : {M : Type 1} → statement M
 read-le32-spec =
