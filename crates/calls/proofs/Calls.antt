@@ -15,7 +15,7 @@ use Rattle.journal.specs.declared.operation.Operation.{Operation}
 use Rattle.journal.specs.Journal.{wellFormed}
 use Rattle.journal.specs.Scope.{valid, selectionOf}
 use Rattle.journal.specs.Reportable.{reportable}
-use Rattle.words.proofs.Choice.{choose, and-left, and-right}
+use Rattle.words.proofs.Choice.{choose, decide, and-left, and-right}
 use Rattle.node_area.specs.Head.{isReserved}
 use Rattle.nodes.specs.Run.{remains}
 use Rattle.nodes.specs.Area.{written}

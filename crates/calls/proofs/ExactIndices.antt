@@ -1,12 +1,12 @@
 -- Demand 2 of get-indices: the exact condition of each status, and what an answer leaves.
 use mathlib.Core.Path.{_≡_, refl, sym, ap, _∙_}
-use mathlib.Core.Bool.{Bool, true, false, cond, _&&_, _||_, not, false≢true}
+use mathlib.Core.Bool.{Bool, true, false, _&&_, not}
 use mathlib.Core.List.{List, [], _∷_, _++_, append-assoc}
 use mathlib.Core.Logic.{inl, inr, ⊎-elim}
 use Prim.Native.Nat.{ℕ, _+_, _*_, _-_, _/_, _≤_, _<_}
 use native.Mathlib.Omega.{arith}
 use native.Mathlib.Nat.{mod-eq-of-lt}
-use lib.Dec.{leb, ltb, eqb}
+use lib.Dec.{leb, eqb}
 use lib.ListN.{length, take, drop, getD, length-drop}
 use lib.Seq.{getD-append-add, getD-drop}
 use Rattle.words.specs.Numbers.{Bytes, be, be32, beBytes}
@@ -16,7 +16,6 @@ use Rattle.inventory.specs.Inventory.{wellFormed}
 use Rattle.inventory.specs.Listing.{Entry, listed}
 use Rattle.indices.specs.Area.{entriesBytes, run, answer, written}
 use Rattle.indices.specs.Longest.{taken}
-use Rattle.words.specs.Reading.{read}
 use Rattle.indices.specs.Reading.{reading}
 use Rattle.indices.proofs.Longest.{longest-run, answer-length}
 use Rattle.inventory.proofs.Listed.{listed-few}

@@ -1,6 +1,6 @@
 -- Demand 2 of update-nodes: the exact condition of each status, and what an answer leaves.
 use mathlib.Core.Path.{_≡_, refl, sym, ap, _∙_}
-use mathlib.Core.Bool.{Bool, true, false, cond, _&&_, not}
+use mathlib.Core.Bool.{true, false, _&&_, not}
 use mathlib.Core.List.{List, [], _∷_, _++_, append-assoc}
 use mathlib.Core.Logic.{_⊎_}
 use Prim.Native.Nat.{ℕ, _+_, _*_, _-_, _%_, _≤_, _<_}
@@ -21,12 +21,9 @@ use Rattle.node_area.specs.Head.{isReserved}
 use Rattle.nodes.specs.Run.{cost, run, remains, nextState}
 use Rattle.nodes.specs.Area.{body, answer, written}
 use Rattle.nodes.specs.Claims.{Listed}
-use Rattle.words.specs.Reading.{read}
-use Rattle.node_area.specs.Reading.{reading}
 use Rattle.nodes.proofs.Claims.{area-claims}
 use Rattle.nodes.proofs.Runs.{length-body}
 use Rattle.nodes.proofs.Carried.{state-of, reserved-of, written-head}
-use Rattle.calls.specs.declared.status.Status.{Status}
 use Rattle.calls.specs.Status.{statusWord}
 use Rattle.calls.specs.UpdateNodes.{areaAt, placed, goodState, areaStatus, nodesStatus, nodesMemory}
 use Rattle.calls.specs.Terms.{minus, Exactly}

@@ -1,6 +1,6 @@
 -- The answered get-indices calls of a session hand out the list of a flag and type, each entry once and in order.
 use mathlib.Core.Path.{_≡_, refl, ap, _∙_, sym}
-use mathlib.Core.Bool.{true, false, true≢false}
+use mathlib.Core.Bool.{true, true≢false}
 use mathlib.Core.List.{List}
 use mathlib.Core.Logic.{_⊎_, ⊎-elim}
 use Prim.Native.Nat.{ℕ, _+_, _-_, _≤_, _<_}
@@ -17,11 +17,10 @@ use Rattle.indices.specs.Area.{run}
 use Rattle.indices.specs.Reading.{reading}
 use Rattle.inventory.proofs.Listed.{listed-sound}
 use Rattle.indices.proofs.Written.{fitting-few, fitting-front, holds-due}
-use Rattle.calls.specs.declared.request.Request.{Request}
 use Rattle.calls.specs.Status.{isGiven}
 use Rattle.calls.specs.GetIndices.{askable, lendable, runFor, goodNumber, dueFits, moreEntries, nextNumber}
 use Rattle.calls.specs.Buffer.{input, numberFor, asks, isIndices, requestOf, Found}
-use Rattle.calls.specs.Session.{isAnswered, statusThen, Standing}
+use Rattle.calls.specs.Session.{isAnswered, Standing}
 use Rattle.calls.specs.IndexSession.{areaThen, numberThen, start, standing, Continues, Session, WellMade, handedOut}
 use Rattle.calls.specs.WholeList.{HandedOut, Ends, WholeList}
 use Rattle.calls.proofs.Requests.{Passed, run-some, some-due}

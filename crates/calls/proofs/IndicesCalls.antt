@@ -17,7 +17,7 @@ use Rattle.calls.specs.declared.request.Request.{Request}
 use Rattle.calls.specs.Lent.{partAt}
 use Rattle.calls.specs.Status.{isGiven, isAnswer, statusWord}
 use Rattle.calls.specs.GetIndices.{entriesFor, numberIn, runFor, moreEntries, indicesStatus, indicesMemory, nextNumber}
-use Rattle.calls.specs.Buffer.{token, statusAt, numberFor, isIndices, requestOf, Outcome, indicesOutcome, outcome, Found, Left, callOf, answered}
+use Rattle.calls.specs.Buffer.{token, statusAt, numberFor, isIndices, requestOf, Outcome, indicesOutcome, outcome, Found, callOf, answered}
 use Rattle.calls.proofs.Heads.{whole-buffer, asked, carried-out, outcome-ways, indices-outcome}
 use Rattle.calls.proofs.Calls.{status-word, answered-by, word-either, second-stored}
 use Rattle.calls.proofs.Requests.{Passed, passed-is, indices-status, indices-answers, reads-back}

@@ -1,6 +1,6 @@
 -- The checks of a call as a ladder of tests: two that give -3, one that gives -1, two more that give -3, and whether anything remains.
 use mathlib.Core.Path.{_≡_, refl}
-use mathlib.Core.Bool.{Bool, true, false, cond, _&&_, not, false≢true}
+use mathlib.Core.Bool.{Bool, true, false, cond, _&&_, not}
 use Prim.Native.Nat.{_≤_}
 use lib.Dec.{eqb}
 use native.Mathlib.Omega.{arith}

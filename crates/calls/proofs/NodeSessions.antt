@@ -1,6 +1,6 @@
 -- Demand 3: the answered calls of a session hand out the reportable list, each operation once and in order.
 use mathlib.Core.Path.{_≡_, refl, ap, _∙_, sym}
-use mathlib.Core.Bool.{Bool, true, false, cond, _||_, true≢false}
+use mathlib.Core.Bool.{Bool, true, false, _||_, true≢false}
 use mathlib.Core.List.{List}
 use mathlib.Core.Logic.{_⊎_, ⊎-elim}
 use Prim.Native.Nat.{ℕ, _+_, _*_, _≤_, _<_}
@@ -10,7 +10,7 @@ use lib.Dec.{ltb, eqb}
 use borrow.Author.Tests.{lt-ltb, le-ltb, eq-eqb}
 use lib.ListN.{length, take, drop, take-append-drop}
 use lib.Seq.{take-all}
-use Rattle.words.specs.Numbers.{be32, beBytes, wordBytes}
+use Rattle.words.specs.Numbers.{beBytes, wordBytes}
 use Rattle.words.specs.Reading.{read}
 use Rattle.journal.specs.declared.operation.Operation.{Operation}
 use Rattle.journal.specs.Journal.{wellFormed}
@@ -27,7 +27,7 @@ use Rattle.nodes.proofs.Claims.{area-claims}
 use Rattle.calls.specs.Status.{isGiven}
 use Rattle.calls.specs.UpdateNodes.{areaAt, goodState}
 use Rattle.calls.specs.Buffer.{input, numberFor, asks, isNodes, Found}
-use Rattle.calls.specs.Session.{isAnswered, statusThen, Standing}
+use Rattle.calls.specs.Session.{isAnswered, Standing}
 use Rattle.calls.specs.NodeSession.{address, areaBefore, areaThen, carriedThen, start, standing, Continues, Session, WellMade, reported}
 use Rattle.calls.specs.Demands.{Bounded, Accounted, Ends, Demand3}
 use Rattle.calls.proofs.Memory.{part-length, part-stored, written-length}

@@ -9,7 +9,7 @@ use lib.Dec.{ltb, eqb}
 use borrow.Author.Tests.{ltb-true, ltb-false}
 use lib.ListN.{length, take, drop, length-append}
 use lib.Seq.{take-all, take-add}
-use Rattle.words.specs.Reading.{Reading, read, joined, readings}
+use Rattle.words.specs.Reading.{Reading, read, readings}
 use Rattle.words.proofs.Choice.{choose}
 use Rattle.words.proofs.Readings.{readings-none, readings-more, joined-read}
 use Rattle.calls.specs.Buffer.{Found}

@@ -10,10 +10,8 @@ use borrow.Author.Tests.{le-leb, lt-leb}
 use Rattle.words.specs.Numbers.{beBytes}
 use Rattle.words.proofs.Numbers.{length-beBytes}
 use Rattle.words.proofs.Stores.{sets-behind, sets-swap}
-use Rattle.records.specs.Records.{sizeOf, firstRecord, sizeLimit}
-use Rattle.records.proofs.Steps.{field-at}
-use Rattle.inventory.specs.Inventory.{indexOf, codeOf}
-use Rattle.inventory.specs.Listing.{Entry, entryOf, listed}
+use Rattle.records.specs.Records.{sizeLimit}
+use Rattle.inventory.specs.Listing.{Entry, listed}
 use Rattle.inventory.specs.Scanning.{ahead}
 use Rattle.inventory.specs.declared.locating.Located.{Located}
 use Rattle.inventory.specs.Located.{locatedAt, entryIn}

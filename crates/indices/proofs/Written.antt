@@ -12,13 +12,9 @@ use borrow.Author.Tests.{le-leb, le-ltb, leb-true, eq-eqb}
 use Rattle.words.specs.Numbers.{be, be32, beBytes, zeros}
 use Rattle.words.specs.Nul.{untilNul}
 use Rattle.words.proofs.Choice.{choose, and-left, and-right}
-use Rattle.words.proofs.Numbers.{be-drop, be-bytes, length-beBytes, le-below}
-use Rattle.records.specs.Records.{kindOf, whole, recordsFrom, records, allGood, sizeLimit, wellFormedBy}
-use Rattle.records.specs.Choosing.{chosenBy}
-use Rattle.records.proofs.Choosing.{chosen-few}
-use Rattle.records.proofs.Steps.{formed-good, formed-within, EachBytes, records-bytes, records-few}
-use Rattle.inventory.specs.Inventory.{flagOf, indexOf, nonZero, goodCode, goodRecord, wellFormed, codeLimit, goodHead}
-use Rattle.inventory.specs.Listing.{Entry, entryOf, matches, chosen, listed}
+use Rattle.words.proofs.Numbers.{be-drop, be-bytes, length-beBytes}
+use Rattle.inventory.specs.Inventory.{nonZero, goodCode, codeLimit}
+use Rattle.inventory.specs.Listing.{Entry, listed}
 use Rattle.indices.specs.declared.reading.Fault.the-variants.{Fine}
 use Rattle.indices.specs.Area.{filled, entrySize, codeField, entryBytes, entriesBytes, fitting, run, answer, written, fieldLimit, entryLimit}
 use Rattle.words.specs.Reading.{read}

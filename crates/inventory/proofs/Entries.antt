@@ -10,7 +10,7 @@ use Rattle.records.specs.Choosing.{Before}
 use Rattle.records.proofs.Choosing.{one-if, one-if-le, each-record, before-step, before-all}
 use Rattle.records.proofs.Steps.{good-step, bad-step, none-good, formed, not-formed, oversized}
 use Rattle.inventory.specs.Inventory.{goodRecord, wellFormed}
-use Rattle.inventory.specs.Listing.{entryOf, matches, listed, Entry, chosen}
+use Rattle.inventory.specs.Listing.{entryOf, matches, listed}
 use Rattle.inventory.specs.Scanning.{ResumesAt, ScanFinds}
 use Rattle.inventory.specs.declared.scanning.Judgement.the-variants.{Counted}
 use Rattle.inventory.proofs.RecordLaws.{goodHere, Stands}

@@ -1,5 +1,5 @@
 -- What a call's own work leaves, way by way through the code, and what comes of it once the status is stored.
-use mathlib.Core.Path.{_≡_, refl, ap, _∙_}
+use mathlib.Core.Path.{_≡_, _∙_}
 use mathlib.Core.Bool.{true, false, cond}
 use mathlib.Core.List.{List, [], _∷_}
 use Prim.Native.Nat.{ℕ, _+_}
@@ -19,7 +19,7 @@ use Rattle.calls.specs.Status.{isGiven, isAnswer, statusWord}
 use Rattle.calls.specs.UpdateNodes.{nodesStatus, nodesMemory}
 use Rattle.calls.specs.ConfigureDump.{dumpStatus}
 use Rattle.calls.specs.GetIndices.{indicesStatus, indicesMemory, nextNumber}
-use Rattle.calls.specs.Buffer.{input, requestOf, isNodes, isIndices, isDump, statusAt, numberFor, Found, nodesOutcome, indicesOutcome, dumpOutcome, refusal, outcome, leaves, callOf}
+use Rattle.calls.specs.Buffer.{input, requestOf, isNodes, isIndices, isDump, statusAt, numberFor, Found, nodesOutcome, indicesOutcome, dumpOutcome, outcome, leaves, callOf}
 use Rattle.calls.proofs.Heads.{asked, carried-out, nodes-outcome, indices-outcome, dump-outcome}
 use Rattle.rtas.specs.Working.{Worked}
 

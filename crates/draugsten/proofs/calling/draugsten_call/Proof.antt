@@ -2,10 +2,7 @@
 use mathlib.Core.Path.{refl, sym, _∙_}
 use borrow.Author.Needs.{needs}
 use borrow.Author.Tests.{not-true, not-false}
-use Rattle.calls.specs.Status.{numberOf}
-use Rattle.calls.specs.Buffer.{Left}
-use Rattle.draugsten.specs.declared.calling.FlatRegistration.{FlatRegistration}
-use Rattle.draugsten.specs.Registration.{flatOf, flatLeaves, FlatLeft, flatCallOf}
+use Rattle.draugsten.specs.Registration.{flatCallOf}
 use Rattle.draugsten.proofs.Registrations.{faithful, handed-on}
 use Rattle.draugsten.proofs.calling.draugsten_call.Statement.{statement}
 use Rattle.draugsten.proofs.calling.draugsten_call.Tie as tie

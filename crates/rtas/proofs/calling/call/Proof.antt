@@ -9,7 +9,7 @@ use denote.Ref.{now}
 use Rattle.calls.proofs.Claims.{demands}
 use Rattle.calls.proofs.Heads.{Whole, whole-buffer, given-number, unchanged}
 use Rattle.rtas.proofs.Works.{call-leaves}
-use Rattle.calls.specs.Buffer.{numberFor, statusAt, Found, found, leaves}
+use Rattle.calls.specs.Buffer.{numberFor, statusAt, Found, found}
 use Rattle.calls.specs.declared.status.Number.the-variants.{Given}
 use Rattle.calls.specs.Status.{isGiven}
 use Rattle.rtas.proofs.calling.call.Statement.{statement}

@@ -11,9 +11,10 @@ use Rattle.journal.specs.Reportable.{reportable}
 use Rattle.nodes.proofs.Answers.{counts-small}
 use Rattle.nodes.proofs.Listed.{total-is}
 use Rattle.nodes.specs.Area.{written}
-use Rattle.node_area.specs.State.{total}
 use Rattle.node_area.specs.Head.{isReserved}
-use Rattle.calls.proofs.Areas.{left-reserved, left-state, left-again, left-done, state-is, state-within}
+use Rattle.node_area.specs.State.{total}
+use Rattle.calls.proofs.Areas.{left-reserved, left-state, left-answered, Left, state-is, state-within}
+use Rattle.calls.specs.declared.status.Status.the-variants.{Done, Again}
 use Rattle.calls.specs.UpdateNodes.{goodState}
 use Rattle.rtas.proofs.nodes_call.answer_counted.Statement.{statement}
 use Rattle.rtas.proofs.nodes_call.answer_counted.Tie as tie
