@@ -4,15 +4,6 @@ use Rattle.bench.proofs.Counting.{none-listed, some-listed}
 use Rattle.bench.proofs.draugsten_bench_inventory.Statement.{statement}
 use Rattle.bench.proofs.draugsten_bench_inventory.Tie as tie
 
-scan-requires : tie.Need-scan-requires
-scan-requires c κs = search needs
-
-enum-told : tie.Need-enum-told
-enum-told c = search needs
-
-enum-known-found : tie.Need-enum-known-found
-enum-known-found c = search needs
-
 returns : tie.Need-returns
 returns c = none-listed _ _ _ _ _ (c .before .before .scan .ensures .0) (c .enum-told .given .1)
 
@@ -20,4 +11,6 @@ returns-2 : tie.Need-returns-2
 returns-2 c = some-listed _ _ _ _ _ (c .before .before .before .scan .ensures .0) _ _ (c .before .found .given .1)
 
 pub draugsten-bench-inventory-spec : {M : Type 1} → statement M
-draugsten-bench-inventory-spec = tie.close (tie.spec scan-requires enum-told enum-known-found returns returns-2)
+draugsten-bench-inventory-spec =
+    tie.close
+    (tie.spec (λ c κs. search needs) (λ c. search needs) (λ c. search needs) returns returns-2)

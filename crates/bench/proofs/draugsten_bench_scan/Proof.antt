@@ -15,18 +15,6 @@ use Rattle.bench.proofs.draugsten_bench_scan.Tie as tie
 told : (c : tie.After-scan) → c .scan .result .judgement ≡ judgementOf (selectionOf (c .before .before .before .before .before .args .scope)) (now (c .before .before .before .before .before .args .journal))
 told c = c .scan .ensures .0 .0 ∙ ap (λ (r : Row). judgementOf (byRow (r .sets)) (now (c .before .before .before .before .before .args .journal))) (c .before .before .before .scope-row .ensures .0)
 
-scope-row-requires : tie.Need-scope-row-requires
-scope-row-requires c κs = search needs
-
-scan-requires : tie.Need-scan-requires
-scan-requires c κs = search needs
-
-enum-told : tie.Need-enum-told
-enum-told c = search needs
-
-enum-known-judgement : tie.Need-enum-known-judgement
-enum-known-judgement c = search needs
-
 add-result : tie.Need-add-result
 add-result c = omega (arith, light-of _ _ _ (sym (c .before .before .judgement .given .1) ∙ told (c .before .before .before .before)))
 
@@ -45,10 +33,10 @@ pub draugsten-bench-scan-spec : {M : Type 1} → statement M
 draugsten-bench-scan-spec =
     tie.close
     (tie.spec
-    scope-row-requires
-    scan-requires
-    enum-told
-    enum-known-judgement
+    (λ c κs. search needs)
+    (λ c κs. search needs)
+    (λ c. search needs)
+    (λ c. search needs)
     add-result
     add-result-2
     returns

@@ -7,30 +7,9 @@ use Rattle.draugsten.proofs.Registrations.{faithful, handed-on}
 use Rattle.draugsten.proofs.calling.draugsten_call.Statement.{statement}
 use Rattle.draugsten.proofs.calling.draugsten_call.Tie as tie
 
-is-registration-requires : tie.Need-is-registration-requires
-is-registration-requires c κs = search needs
-
 returns : tie.Need-returns
 unfolding flatCallOf
 returns c = rw (sym (c .before .is-registration .ensures) ∙ not-true _ (c .if1 .taken)) (refl, (faithful, handed-on))
-
-registration-of-requires : tie.Need-registration-of-requires
-registration-of-requires c κs = search needs
-
-call-requires : tie.Need-call-requires
-call-requires c κs = search needs
-
-number-of-requires : tie.Need-number-of-requires
-number-of-requires c κs = search needs
-
-flat-of-requires : tie.Need-flat-of-requires
-flat-of-requires c κs = search needs
-
-same-length : tie.Need-same-length
-same-length c = search needs
-
-same-length-2 : tie.Need-same-length-2
-same-length-2 c = search needs
 
 returns-2 : tie.Need-returns-2
 unfolding flatCallOf
@@ -43,12 +22,12 @@ pub draugsten-call-spec : {M : Type 1} → statement M
 draugsten-call-spec =
     tie.close
     (tie.spec
-    is-registration-requires
+    (λ c κs. search needs)
     returns
-    registration-of-requires
-    call-requires
-    number-of-requires
-    flat-of-requires
-    same-length
-    same-length-2
+    (λ c κs. search needs)
+    (λ c κs. search needs)
+    (λ c κs. search needs)
+    (λ c κs. search needs)
+    (λ c. search needs)
+    (λ c. search needs)
     returns-2)

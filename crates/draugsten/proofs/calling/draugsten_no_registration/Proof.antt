@@ -6,15 +6,9 @@ use Rattle.draugsten.proofs.Registrations.{start-taken}
 use Rattle.draugsten.proofs.calling.draugsten_no_registration.Statement.{statement}
 use Rattle.draugsten.proofs.calling.draugsten_no_registration.Tie as tie
 
-no-registration-requires : tie.Need-no-registration-requires
-no-registration-requires c κs = search needs
-
-flat-of-requires : tie.Need-flat-of-requires
-flat-of-requires c κs = search needs
-
 returns : tie.Need-returns
 returns c = (c .flat-of .ensures ∙ ap flatOf (c .before .no-registration .ensures), start-taken)
 
 pub draugsten-no-registration-spec : {M : Type 1} → statement M
 draugsten-no-registration-spec =
-    tie.close (tie.spec no-registration-requires flat-of-requires returns)
+    tie.close (tie.spec (λ c κs. search needs) (λ c κs. search needs) returns)

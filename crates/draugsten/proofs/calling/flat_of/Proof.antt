@@ -3,11 +3,8 @@ use borrow.Author.Needs.{needs}
 use Rattle.draugsten.proofs.calling.flat_of.Statement.{statement}
 use Rattle.draugsten.proofs.calling.flat_of.Tie as tie
 
-phase-number-requires : tie.Need-phase-number-requires
-phase-number-requires c κs = search needs
-
 returns : tie.Need-returns
 returns c = rw (c .phase-number .ensures)
 
 pub flat-of-spec : {M : Type 1} → statement M
-flat-of-spec = tie.close (tie.spec phase-number-requires returns)
+flat-of-spec = tie.close (tie.spec (λ c κs. search needs) returns)

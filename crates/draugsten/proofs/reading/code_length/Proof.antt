@@ -18,9 +18,6 @@ add-behind c = omega (arith, stands c)
 add-behind-2 : tie.Need-add-behind-2
 add-behind-2 c = omega (arith, stands c)
 
-sub-if1 : tie.Need-sub-if1
-sub-if1 c = search needs
-
 shared-slice-read-if1 : tie.Need-shared-slice-read-if1
 shared-slice-read-if1 c = omega (arith, stands (c .before))
 
@@ -30,9 +27,6 @@ sub-result c = omega (arith, stands (c .before .before))
 returns : tie.Need-returns
 returns c = omega (arith, field-ends (now (c .before .before .args .area)) (c .before .before .args .at) (c .before .before .args .n) (c .before .before .pre), nul-last (now (c .before .before .args .area)) (c .before .before .args .at) (c .before .before .args .n) (c .before .before .pre) 4 (omega arith) (omega arith) (c .if1 .taken))
 
-sub-if2 : tie.Need-sub-if2
-sub-if2 c = search needs
-
 shared-slice-read-if2 : tie.Need-shared-slice-read-if2
 shared-slice-read-if2 c = omega (arith, stands (c .before .before .before))
 
@@ -41,9 +35,6 @@ sub-result-2 c = omega (arith, stands (c .before .before .before .before))
 
 returns-2 : tie.Need-returns-2
 returns-2 c = omega (arith, code-last (now (c .before .before .before .before .args .area)) (c .before .before .before .before .args .at) (c .before .before .before .before .args .n) (c .before .before .before .before .pre) 4 (omega arith) (omega arith) (c .before .before .if1 .left), nul-last (now (c .before .before .before .before .args .area)) (c .before .before .before .before .args .at) (c .before .before .before .before .args .n) (c .before .before .before .before .pre) 3 (omega arith) (omega arith) (c .if2 .taken))
-
-sub-if3 : tie.Need-sub-if3
-sub-if3 c = search needs
 
 shared-slice-read-if3 : tie.Need-shared-slice-read-if3
 shared-slice-read-if3 c = omega (arith, stands (c .before .before .before .before .before))
@@ -66,15 +57,15 @@ code-length-spec =
     (tie.spec
     add-behind
     add-behind-2
-    sub-if1
+    (λ c. search needs)
     shared-slice-read-if1
     sub-result
     returns
-    sub-if2
+    (λ c. search needs)
     shared-slice-read-if2
     sub-result-2
     returns-2
-    sub-if3
+    (λ c. search needs)
     shared-slice-read-if3
     sub-result-3
     returns-3

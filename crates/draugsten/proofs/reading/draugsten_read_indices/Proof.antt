@@ -9,29 +9,11 @@ use Rattle.draugsten.proofs.IndexWords.{refusal-told, entries-told}
 use Rattle.draugsten.proofs.reading.draugsten_read_indices.Statement.{statement}
 use Rattle.draugsten.proofs.reading.draugsten_read_indices.Tie as tie
 
-check-area-requires : tie.Need-check-area-requires
-check-area-requires c κs = search needs
-
-enum-known-found : tie.Need-enum-known-found
-enum-known-found c = search needs
-
-index-refusal-requires : tie.Need-index-refusal-requires
-index-refusal-requires c κs = search needs
-
-enum-known-found-2 : tie.Need-enum-known-found-2
-enum-known-found-2 c = search needs
-
-least-requires : tie.Need-least-requires
-least-requires c κs = search needs
-
 store-sets-requires : tie.Need-store-sets-requires
 store-sets-requires c κs = (omega arith, area-reads _ _ _ (sym (c .before .before .before .before .before .check-area .ensures .0) ∙ c .before .before .before .found2 .given .1) (omega arith))
 
 returns : tie.Need-returns
 returns c = refusal-told (now (c .before .before .before .before .before .before .before .args .area)) _ _ _ _ (c .index-refusal .ensures) (reading _) (sym (c .before .before .before .before .check-area .ensures .0) ∙ c .before .before .found .given .1)
-
-same-length : tie.Need-same-length
-same-length c = search needs
 
 returns-2 : tie.Need-returns-2
 returns-2 c = entries-told _ _ _ _ _ (c .before .before .before .least .ensures) (c .before .before .store-sets .ensures) (reading _) (sym (c .before .before .before .before .before .before .before .before .check-area .ensures .0) ∙ c .before .before .before .before .before .before .found2 .given .1)
@@ -40,12 +22,12 @@ pub draugsten-read-indices-spec : {M : Type 1} → statement M
 draugsten-read-indices-spec =
     tie.close
     (tie.spec
-    check-area-requires
-    enum-known-found
-    index-refusal-requires
-    enum-known-found-2
-    least-requires
+    (λ c κs. search needs)
+    (λ c. search needs)
+    (λ c κs. search needs)
+    (λ c. search needs)
+    (λ c κs. search needs)
     store-sets-requires
     returns
-    same-length
+    (λ c. search needs)
     returns-2)

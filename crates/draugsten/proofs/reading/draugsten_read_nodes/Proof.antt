@@ -7,21 +7,6 @@ use Rattle.draugsten.proofs.NodeWords.{refused-reading, Good, good, goo
 use Rattle.draugsten.proofs.reading.draugsten_read_nodes.Statement.{statement}
 use Rattle.draugsten.proofs.reading.draugsten_read_nodes.Tie as tie
 
-check-area-requires : tie.Need-check-area-requires
-check-area-requires c κs = search needs
-
-enum-known-found : tie.Need-enum-known-found
-enum-known-found c = search needs
-
-node-refusal-requires : tie.Need-node-refusal-requires
-node-refusal-requires c κs = search needs
-
-enum-known-found-2 : tie.Need-enum-known-found-2
-enum-known-found-2 c = search needs
-
-least-requires : tie.Need-least-requires
-least-requires c κs = search needs
-
 -- the check found operations
 found : (c : tie.After-found2) → Good (now (c .before .before .before .before .before .args .area)) (c .found2 .given .0 .0)
 found c = good _ _ _ (c .before .before .check-area .ensures .0) (c .found2 .given .1)
@@ -35,9 +20,6 @@ read-requires c κs = omega (arith, found (c .before .before .before .before .be
 returns : tie.Need-returns
 returns c = rw (refused-reading _ _ _ _ (c .before .before .before .before .check-area .ensures .0) (c .before .before .found .given .1), c .node-refusal .ensures) (refl, refl)
 
-same-length : tie.Need-same-length
-same-length c = search needs
-
 returns-2 : tie.Need-returns-2
 returns-2 c =
     let g = found (c .before .before .before .before .before .before .before) in
@@ -47,13 +29,13 @@ pub draugsten-read-nodes-spec : {M : Type 1} → statement M
 draugsten-read-nodes-spec =
     tie.close
     (tie.spec
-    check-area-requires
-    enum-known-found
-    node-refusal-requires
-    enum-known-found-2
-    least-requires
+    (λ c κs. search needs)
+    (λ c. search needs)
+    (λ c κs. search needs)
+    (λ c. search needs)
+    (λ c κs. search needs)
     store-operations-requires
     read-requires
     returns
-    same-length
+    (λ c. search needs)
     returns-2)

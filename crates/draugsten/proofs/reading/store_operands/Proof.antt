@@ -8,12 +8,6 @@ use borrow.Author.Needs.{needs}
 use Rattle.draugsten.proofs.reading.store_operands.Statement.{statement}
 use Rattle.draugsten.proofs.reading.store_operands.Tie as tie
 
-cast-operands : tie.Need-cast-operands
-cast-operands c = search needs
-
-least-requires : tie.Need-least-requires
-least-requires c κs = search needs
-
 store-pairs-requires : tie.Need-store-pairs-requires
 store-pairs-requires c κs =
     let args = c .before .before .before .before .before .args in
@@ -22,16 +16,10 @@ store-pairs-requires c κs =
     let behind = length-drop (args .at) (now (args .area)) in
     (omega arith, omega arith)
 
-same-length : tie.Need-same-length
-same-length c = search needs
-
 returns : tie.Need-returns
 returns c =
     let args = c .before .before .before .before .before .before .before .before .args in
     operands-pairs (args .word) (args .most) _ (args .at) (args .to) (now (args .area)) _ _ (c .before .before .before .before .before .before .before .before .pre .1) (c .before .before .before .before .before .if1 .taken) (c .before .before .before .before .least .ensures) (c .before .before .store-pairs .ensures)
-
-least-requires-2 : tie.Need-least-requires-2
-least-requires-2 c κs = search needs
 
 store-singles-requires : tie.Need-store-singles-requires
 store-singles-requires c κs =
@@ -40,9 +28,6 @@ store-singles-requires c κs =
     let inside = words-inside (drop (args .at) (now (args .area))) in
     let behind = length-drop (args .at) (now (args .area)) in
     (omega arith, omega arith, omega arith, omega arith)
-
-same-length-2 : tie.Need-same-length-2
-same-length-2 c = search needs
 
 returns-2 : tie.Need-returns-2
 returns-2 c =
@@ -53,12 +38,12 @@ pub store-operands-spec : {M : Type 1} → statement M
 store-operands-spec =
     tie.close
     (tie.spec
-    cast-operands
-    least-requires
+    (λ c. search needs)
+    (λ c κs. search needs)
     store-pairs-requires
-    same-length
+    (λ c. search needs)
     returns
-    least-requires-2
+    (λ c κs. search needs)
     store-singles-requires
-    same-length-2
+    (λ c. search needs)
     returns-2)

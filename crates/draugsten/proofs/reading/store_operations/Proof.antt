@@ -22,12 +22,6 @@ read-be32-requires c κs = walking-fits (c .before .loop .inv) (c .loop-test .ta
 add-store-operands : tie.Need-add-store-operands Inv-loop μ-loop
 add-store-operands c = omega (arith, walking-fits (c .before .before .loop .inv) (c .before .loop-test .taken))
 
-mul-store-operands : tie.Need-mul-store-operands Inv-loop μ-loop
-mul-store-operands c = search needs
-
-sub-store-operands : tie.Need-sub-store-operands Inv-loop μ-loop
-sub-store-operands c = search needs
-
 store-operands-requires : tie.Need-store-operands-requires Inv-loop μ-loop
 store-operands-requires c κs =
     let s = c .before .before .before .loop .inv in
@@ -41,9 +35,6 @@ add-i c = omega (arith, c .before .before .store-operands .ensures .0)
 
 add-at : tie.Need-add-at Inv-loop μ-loop
 add-at c = omega (arith, walking-inside (c .before .before .before .before .before .before .loop .inv) (c .before .before .before .before .before .loop-test .taken) _ (c .before .before .before .before .read-be32 .ensures))
-
-cast-at : tie.Need-cast-at Inv-loop μ-loop
-cast-at c = search needs
 
 mul-at : tie.Need-mul-at Inv-loop μ-loop
 mul-at c = omega (arith, walking-inside (c .before .before .before .before .before .before .loop .inv) (c .before .before .before .before .before .loop-test .taken) _ (c .before .before .before .before .read-be32 .ensures))
@@ -72,12 +63,12 @@ store-operations-spec =
     loop-holds
     read-be32-requires
     add-store-operands
-    mul-store-operands
-    sub-store-operands
+    (λ c. search needs)
+    (λ c. search needs)
     store-operands-requires
     add-i
     add-at
-    cast-at
+    (λ c. search needs)
     mul-at
     add-at-2
     loop-less

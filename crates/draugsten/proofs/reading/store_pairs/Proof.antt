@@ -15,41 +15,8 @@ abbrev μ-loop : tie.MeasureT-loop
 loop-holds : tie.Need-loop-holds Inv-loop μ-loop
 loop-holds c = pairs-first _ _ _ _ _
 
-mul-read-be32 : tie.Need-mul-read-be32 Inv-loop μ-loop
-mul-read-be32 c = search needs
-
-add-read-be32 : tie.Need-add-read-be32 Inv-loop μ-loop
-add-read-be32 c = search needs
-
-read-be32-requires : tie.Need-read-be32-requires Inv-loop μ-loop
-read-be32-requires c κs = search needs
-
-mul-read-be32-2 : tie.Need-mul-read-be32-2 Inv-loop μ-loop
-mul-read-be32-2 c = search needs
-
-add-read-be32-2 : tie.Need-add-read-be32-2 Inv-loop μ-loop
-add-read-be32-2 c = search needs
-
-add-read-be32-3 : tie.Need-add-read-be32-3 Inv-loop μ-loop
-add-read-be32-3 c = search needs
-
-read-be32-requires-2 : tie.Need-read-be32-requires-2 Inv-loop μ-loop
-read-be32-requires-2 c κs = search needs
-
-mul-store-words : tie.Need-mul-store-words Inv-loop μ-loop
-mul-store-words c = search needs
-
-add-store-words : tie.Need-add-store-words Inv-loop μ-loop
-add-store-words c = search needs
-
 store-words-requires : tie.Need-store-words-requires Inv-loop μ-loop
 store-words-requires c κs = omega (arith, pairs-length (c .before .before .before .before .loop .inv))
-
-add-i : tie.Need-add-i Inv-loop μ-loop
-add-i c = search needs
-
-loop-less : tie.Need-loop-less Inv-loop μ-loop
-loop-less c = search needs
 
 loop-again : tie.Need-loop-again Inv-loop μ-loop
 loop-again c = pairs-next (c .before .before .before .before .before .before .before .loop .inv) _ _ _ (c .before .before .before .before .before .before .loop-test .taken) (c .before .before .before .before .before .before .before .before .before .before .pre .0) (c .before .before .before .before .before .read-be32 .ensures) (c .before .before .before .before .read-be322 .ensures) (c .before .before .store-words .ensures)
@@ -67,18 +34,18 @@ store-pairs-spec =
     Inv-loop
     μ-loop
     loop-holds
-    mul-read-be32
-    add-read-be32
-    read-be32-requires
-    mul-read-be32-2
-    add-read-be32-2
-    add-read-be32-3
-    read-be32-requires-2
-    mul-store-words
-    add-store-words
+    (λ c. search needs)
+    (λ c. search needs)
+    (λ c κs. search needs)
+    (λ c. search needs)
+    (λ c. search needs)
+    (λ c. search needs)
+    (λ c κs. search needs)
+    (λ c. search needs)
+    (λ c. search needs)
     store-words-requires
-    add-i
-    loop-less
+    (λ c. search needs)
+    (λ c. search needs)
     loop-again
     same-length
     returns)

@@ -33,9 +33,6 @@ add-read-be32 c = omega (arith, room c)
 read-be32-requires : tie.Need-read-be32-requires Inv-loop μ-loop
 read-be32-requires c κs = omega (arith, room c)
 
-cast-n : tie.Need-cast-n Inv-loop μ-loop
-cast-n c = search needs
-
 read-be32-requires-2 : tie.Need-read-be32-requires-2 Inv-loop μ-loop
 read-be32-requires-2 c κs = omega (arith, room (c .before))
 
@@ -45,29 +42,14 @@ add-store-set c = omega (arith, room (c .before .before))
 code-length-requires : tie.Need-code-length-requires Inv-loop μ-loop
 code-length-requires c κs = (length-read (c .before), storing-fine (c .before .before .before .loop .inv) (c .before .before .loop-test .taken))
 
-mul-store-set : tie.Need-mul-store-set Inv-loop μ-loop
-mul-store-set c = search needs
-
-store-set-requires : tie.Need-store-set-requires Inv-loop μ-loop
-store-set-requires c κs = search needs
-
 add-at : tie.Need-add-at Inv-loop μ-loop
 add-at c = omega (arith, room (c .before .before .before .before .before .before .before), length-read (c .before .before .before .before .before .before))
 
 add-at-2 : tie.Need-add-at-2 Inv-loop μ-loop
 add-at-2 c = omega (arith, room (c .before .before .before .before .before .before .before), length-read (c .before .before .before .before .before .before))
 
-add-i : tie.Need-add-i Inv-loop μ-loop
-add-i c = search needs
-
-loop-less : tie.Need-loop-less Inv-loop μ-loop
-loop-less c = search needs
-
 loop-again : tie.Need-loop-again Inv-loop μ-loop
 loop-again c = storing-next (c .before .before .before .before .before .before .before .before .loop .inv) (c .before .before .before .before .before .before .before .loop-test .taken) _ _ _ (c .before .before .before .before .before .read-be322 .ensures) (length-read (c .before .before .before .before .before .before)) (c .before .before .before .before .code-length .ensures) (c .before .before .store-set .ensures)
-
-same-length : tie.Need-same-length Inv-loop μ-loop
-same-length c = search needs
 
 returns : tie.Need-returns Inv-loop μ-loop
 returns c = storing-end (c .before .loop .inv) (c .loop-test .left)
@@ -81,16 +63,16 @@ store-sets-spec =
     loop-holds
     add-read-be32
     read-be32-requires
-    cast-n
+    (λ c. search needs)
     read-be32-requires-2
     add-store-set
     code-length-requires
-    mul-store-set
-    store-set-requires
+    (λ c. search needs)
+    (λ c κs. search needs)
     add-at
     add-at-2
-    add-i
-    loop-less
+    (λ c. search needs)
+    (λ c. search needs)
     loop-again
-    same-length
+    (λ c. search needs)
     returns)

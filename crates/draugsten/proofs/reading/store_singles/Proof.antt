@@ -15,29 +15,8 @@ abbrev μ-loop : tie.MeasureT-loop
 loop-holds : tie.Need-loop-holds Inv-loop μ-loop
 loop-holds c = singles-first _ _ _ _ _ _
 
-mul-read-be32 : tie.Need-mul-read-be32 Inv-loop μ-loop
-mul-read-be32 c = search needs
-
-add-read-be32 : tie.Need-add-read-be32 Inv-loop μ-loop
-add-read-be32 c = search needs
-
-read-be32-requires : tie.Need-read-be32-requires Inv-loop μ-loop
-read-be32-requires c κs = search needs
-
-mul-store-words : tie.Need-mul-store-words Inv-loop μ-loop
-mul-store-words c = search needs
-
-add-store-words : tie.Need-add-store-words Inv-loop μ-loop
-add-store-words c = search needs
-
 store-words-requires : tie.Need-store-words-requires Inv-loop μ-loop
 store-words-requires c κs = omega (arith, singles-length (c .before .before .before .loop .inv))
-
-add-i : tie.Need-add-i Inv-loop μ-loop
-add-i c = search needs
-
-loop-less : tie.Need-loop-less Inv-loop μ-loop
-loop-less c = search needs
 
 loop-again : tie.Need-loop-again Inv-loop μ-loop
 loop-again c =
@@ -57,14 +36,14 @@ store-singles-spec =
     Inv-loop
     μ-loop
     loop-holds
-    mul-read-be32
-    add-read-be32
-    read-be32-requires
-    mul-store-words
-    add-store-words
+    (λ c. search needs)
+    (λ c. search needs)
+    (λ c κs. search needs)
+    (λ c. search needs)
+    (λ c. search needs)
     store-words-requires
-    add-i
-    loop-less
+    (λ c. search needs)
+    (λ c. search needs)
     loop-again
     same-length
     returns)

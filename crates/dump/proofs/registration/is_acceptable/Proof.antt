@@ -15,24 +15,9 @@ returns-2 : tie.Need-returns-2
 unfolding acceptable
 returns-2 c = rw (le-leb _ _ (c .before .if1 .left), lt-leb _ _ (c .if2 .taken))
 
-add-end : tie.Need-add-end
-add-end c = search needs
-
 returns-3 : tie.Need-returns-3
 unfolding acceptable
 returns-3 c = rw (le-leb _ _ (c .before .before .if1 .left), le-leb _ _ (c .before .if2 .left), lt-leb _ _ (c .if3 .taken))
-
-sub-is-structure : tie.Need-sub-is-structure
-sub-is-structure c = search needs
-
-part-is-structure-start : tie.Need-part-is-structure-start
-part-is-structure-start c = search needs
-
-part-is-structure-end : tie.Need-part-is-structure-end
-part-is-structure-end c = search needs
-
-is-structure-requires : tie.Need-is-structure-requires
-is-structure-requires c κs = search needs
 
 returns-4 : tie.Need-returns-4
 unfolding acceptable
@@ -46,10 +31,10 @@ is-acceptable-spec =
     (tie.spec
     returns
     returns-2
-    add-end
+    (λ c. search needs)
     returns-3
-    sub-is-structure
-    part-is-structure-start
-    part-is-structure-end
-    is-structure-requires
+    (λ c. search needs)
+    (λ c. search needs)
+    (λ c. search needs)
+    (λ c κs. search needs)
     returns-4)

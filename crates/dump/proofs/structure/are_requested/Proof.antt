@@ -19,21 +19,9 @@ abbrev μ-loop : tie.MeasureT-loop
 loop-holds : tie.Need-loop-holds Inv-loop μ-loop
 loop-holds c = (search needs, refl)
 
-read-be32-requires : tie.Need-read-be32-requires Inv-loop μ-loop
-read-be32-requires c κs = search needs
-
 returns : tie.Need-returns Inv-loop μ-loop
 unfolding requested
 returns c = sym (c .before .before .before .loop .inv .1 ∙ each-bad (requested (now (c .before .before .before .before .before .args .s))) (c .before .before .before .loop .left) (c .before .before .before .loop .at) (c .before .before .loop-test .taken) (rw (← c .before .read-be32 .ensures) (ne-eqb _ 1 (c .if1 .taken))))
-
-add-at : tie.Need-add-at Inv-loop μ-loop
-add-at c = search needs
-
-sub-left : tie.Need-sub-left Inv-loop μ-loop
-sub-left c = search needs
-
-loop-less : tie.Need-loop-less Inv-loop μ-loop
-loop-less c = search needs
 
 loop-again : tie.Need-loop-again Inv-loop μ-loop
 unfolding requested
@@ -49,10 +37,10 @@ are-requested-spec =
     Inv-loop
     μ-loop
     loop-holds
-    read-be32-requires
+    (λ c κs. search needs)
     returns
-    add-at
-    sub-left
-    loop-less
+    (λ c. search needs)
+    (λ c. search needs)
+    (λ c. search needs)
     loop-again
     returns-2)

@@ -19,20 +19,8 @@ abbrev μ-loop : tie.MeasureT-loop
 loop-holds : tie.Need-loop-holds Inv-loop μ-loop
 loop-holds c = (search needs, refl)
 
-is-section-requires : tie.Need-is-section-requires Inv-loop μ-loop
-is-section-requires c κs = search needs
-
 returns : tie.Need-returns Inv-loop μ-loop
 returns c = sym (c .before .before .before .loop .inv .1 ∙ each-bad (goodSection (now (c .before .before .before .before .before .args .s))) (c .before .before .before .loop .left) (c .before .before .before .loop .at) (c .before .before .loop-test .taken) (sym (c .before .is-section .ensures) ∙ not-true _ (c .if1 .taken)))
-
-add-at : tie.Need-add-at Inv-loop μ-loop
-add-at c = search needs
-
-sub-left : tie.Need-sub-left Inv-loop μ-loop
-sub-left c = search needs
-
-loop-less : tie.Need-loop-less Inv-loop μ-loop
-loop-less c = search needs
 
 loop-again : tie.Need-loop-again Inv-loop μ-loop
 loop-again c = (search needs, c .before .before .before .loop .inv .1 ∙ each-good (goodSection (now (c .before .before .before .before .before .args .s))) (c .before .before .before .loop .left) (c .before .before .before .loop .at) (c .before .before .loop-test .taken) (sym (c .before .is-section .ensures) ∙ not-false _ (c .if1 .left)))
@@ -47,10 +35,10 @@ are-sections-spec =
     Inv-loop
     μ-loop
     loop-holds
-    is-section-requires
+    (λ c κs. search needs)
     returns
-    add-at
-    sub-left
-    loop-less
+    (λ c. search needs)
+    (λ c. search needs)
+    (λ c. search needs)
     loop-again
     returns-2)

@@ -6,18 +6,9 @@ use Rattle.dump.specs.Structure.{headerSize, sectionLimit, goodHeader}
 use Rattle.dump.proofs.structure.is_header.Statement.{statement}
 use Rattle.dump.proofs.structure.is_header.Tie as tie
 
-read-be32-requires : tie.Need-read-be32-requires
-read-be32-requires c κs = search needs
-
 returns : tie.Need-returns
 unfolding goodHeader
 returns c = rw (← c .before .read-be32 .ensures, ne-eqb _ 1 (c .if1 .taken))
-
-read-be16-requires : tie.Need-read-be16-requires
-read-be16-requires c κs = search needs
-
-cast-sections : tie.Need-cast-sections
-cast-sections c = search needs
 
 returns-2 : tie.Need-returns-2
 unfolding goodHeader
@@ -27,28 +18,13 @@ returns-3 : tie.Need-returns-3
 unfolding goodHeader
 returns-3 c = simp (← c .before .before .read-be16 .ensures, lt-leb _ sectionLimit (c .if3 .taken), and-false)
 
-read-be16-requires-2 : tie.Need-read-be16-requires-2
-read-be16-requires-2 c κs = search needs
-
 returns-4 : tie.Need-returns-4
 unfolding goodHeader
 returns-4 c = simp (← c .before .read-be162 .ensures, ne-eqb _ 0 (c .if4 .taken), and-false)
 
-read-be32-requires-2 : tie.Need-read-be32-requires-2
-read-be32-requires-2 c κs = search needs
-
-cast-first : tie.Need-cast-first
-cast-first c = search needs
-
 returns-5 : tie.Need-returns-5
 unfolding goodHeader
 returns-5 c = simp (← c .before .read-be322 .ensures, lt-leb headerSize _ (c .if5 .taken), and-false)
-
-mul-result : tie.Need-mul-result
-mul-result c = search needs
-
-add-result : tie.Need-add-result
-add-result c = search needs
 
 returns-6 : tie.Need-returns-6
 unfolding goodHeader
@@ -69,17 +45,17 @@ pub is-header-spec : {M : Type 1} → statement M
 is-header-spec =
     tie.close
     (tie.spec
-    read-be32-requires
+    (λ c κs. search needs)
     returns
-    read-be16-requires
-    cast-sections
+    (λ c κs. search needs)
+    (λ c. search needs)
     returns-2
     returns-3
-    read-be16-requires-2
+    (λ c κs. search needs)
     returns-4
-    read-be32-requires-2
-    cast-first
+    (λ c κs. search needs)
+    (λ c. search needs)
     returns-5
-    mul-result
-    add-result
+    (λ c. search needs)
+    (λ c. search needs)
     returns-6)

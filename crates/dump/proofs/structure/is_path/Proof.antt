@@ -10,21 +10,12 @@ use Rattle.dump.proofs.StructureLaws.{judgedPath, path-outside, path-re
 use Rattle.dump.proofs.structure.is_path.Statement.{statement}
 use Rattle.dump.proofs.structure.is_path.Tie as tie
 
-read-be32-requires : tie.Need-read-be32-requires
-read-be32-requires c κs = search needs
-
-cast-path : tie.Need-cast-path
-cast-path c = search needs
-
 returns : tie.Need-returns
 unfolding goodPath
 returns c = rw (← c .before .read-be32 .ensures, lt-leb headerSize _ (c .if1 .taken))
 
 returns-2 : tie.Need-returns-2
 returns-2 c = rw (path-outside (now (c .before .before .before .before .args .s)) (rw (← c .before .before .read-be32 .ensures) (c .if2 .taken)))
-
-find-nul-requires : tie.Need-find-nul-requires
-find-nul-requires c κs = search needs
 
 -- the path judged by what the calls found
 found : (c : tie.After-find-nul) → goodPath (now (c .before .before .before .before .before .args .s)) ≡ judgedPath (c .before .before .before .read-be32 .result) (c .find-nul .result) (length (now (c .before .before .before .before .before .args .s))) (c .before .before .before .before .before .args .first) (c .before .before .before .before .before .args .end)
@@ -46,11 +37,11 @@ pub is-path-spec : {M : Type 1} → statement M
 is-path-spec =
     tie.close
     (tie.spec
-    read-be32-requires
-    cast-path
+    (λ c κs. search needs)
+    (λ c. search needs)
     returns
     returns-2
-    find-nul-requires
+    (λ c κs. search needs)
     returns-3
     returns-4
     returns-5

@@ -16,24 +16,9 @@ use Rattle.dump.proofs.structure.is_structure.Tie as tie
 returns : tie.Need-returns
 returns c = (sym (short-structure (now (c .before .before .args .s)) (c .if1 .taken)), structure-cases)
 
-is-header-requires : tie.Need-is-header-requires
-is-header-requires c κs = search needs
-
 returns-2 : tie.Need-returns-2
 unfolding goodStructure
 returns-2 c = (rw (← c .before .is-header .ensures, not-true (c .before .is-header .result) (c .if2 .taken)), structure-cases)
-
-read-be32-requires : tie.Need-read-be32-requires
-read-be32-requires c κs = search needs
-
-cast-first : tie.Need-cast-first
-cast-first c = search needs
-
-read-be16-requires : tie.Need-read-be16-requires
-read-be16-requires c κs = search needs
-
-cast-sections : tie.Need-cast-sections
-cast-sections c = search needs
 
 -- the header is good, so the sections end within the length
 header : (c : tie.Else2) → goodHeader (now (c .before .before .before .before .args .s)) ≡ true
@@ -53,9 +38,6 @@ returns-3 : tie.Need-returns-3
 unfolding goodStructure
 returns-3 c = (simp (← told (c .before), not-true (c .before .are-sections .result) (c .if3 .taken), and-false), structure-cases)
 
-read-be32-requires-2 : tie.Need-read-be32-requires-2
-read-be32-requires-2 c κs = search needs
-
 is-without-disk-requires : tie.Need-is-without-disk-requires
 is-without-disk-requires c κs = (search needs, search needs, search needs, inside (c .before .before .before .before .before .before))
 
@@ -67,15 +49,6 @@ returns-4 : tie.Need-returns-4
 unfolding goodStructure
 returns-4 c = (rw (header (c .before .before .before .before .before .before .before), ← told (c .before .before .before .before), good (c .before .before .before), ← c .before .before .read-be322 .ensures, eq-eqb _ 0 (c .before .if4 .taken)) (c .is-without-disk .ensures), structure-cases)
 
-mul-is-path : tie.Need-mul-is-path
-mul-is-path c = search needs
-
-add-is-path : tie.Need-add-is-path
-add-is-path c = search needs
-
-is-path-requires : tie.Need-is-path-requires
-is-path-requires c κs = search needs
-
 returns-5 : tie.Need-returns-5
 unfolding goodStructure
 returns-5 c = (rw (header (c .before .before .before .before .before .before .before), ← told (c .before .before .before .before), good (c .before .before .before), ← c .before .before .read-be322 .ensures, ne-eqb _ 0 (c .before .if4 .left)) (c .is-path .ensures), structure-cases)
@@ -85,18 +58,18 @@ is-structure-spec =
     tie.close
     (tie.spec
     returns
-    is-header-requires
+    (λ c κs. search needs)
     returns-2
-    read-be32-requires
-    cast-first
-    read-be16-requires
-    cast-sections
+    (λ c κs. search needs)
+    (λ c. search needs)
+    (λ c κs. search needs)
+    (λ c. search needs)
     are-sections-requires
     returns-3
-    read-be32-requires-2
+    (λ c κs. search needs)
     is-without-disk-requires
     returns-4
-    mul-is-path
-    add-is-path
-    is-path-requires
+    (λ c. search needs)
+    (λ c. search needs)
+    (λ c κs. search needs)
     returns-5)

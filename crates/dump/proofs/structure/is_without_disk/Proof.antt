@@ -6,29 +6,17 @@ use Rattle.dump.specs.Structure.{withoutDisk}
 use Rattle.dump.proofs.structure.is_without_disk.Statement.{statement}
 use Rattle.dump.proofs.structure.is_without_disk.Tie as tie
 
-read-be64-requires : tie.Need-read-be64-requires
-read-be64-requires c κs = search needs
-
 returns : tie.Need-returns
 unfolding withoutDisk
 returns c = rw (← c .before .read-be64 .ensures, ne-eqb _ 0 (c .if1 .taken))
-
-read-be64-requires-2 : tie.Need-read-be64-requires-2
-read-be64-requires-2 c κs = search needs
 
 returns-2 : tie.Need-returns-2
 unfolding withoutDisk
 returns-2 c = simp (← c .before .read-be642 .ensures, ne-eqb _ 0 (c .if2 .taken), and-false)
 
-read-be32-requires : tie.Need-read-be32-requires
-read-be32-requires c κs = search needs
-
 returns-3 : tie.Need-returns-3
 unfolding withoutDisk
 returns-3 c = simp (← c .before .read-be32 .ensures, ne-eqb _ 0 (c .if3 .taken), and-false)
-
-are-requested-requires : tie.Need-are-requested-requires
-are-requested-requires c κs = search needs
 
 returns-4 : tie.Need-returns-4
 unfolding withoutDisk
@@ -49,11 +37,11 @@ pub is-without-disk-spec : {M : Type 1} → statement M
 is-without-disk-spec =
     tie.close
     (tie.spec
-    read-be64-requires
+    (λ c κs. search needs)
     returns
-    read-be64-requires-2
+    (λ c κs. search needs)
     returns-2
-    read-be32-requires
+    (λ c κs. search needs)
     returns-3
-    are-requested-requires
+    (λ c κs. search needs)
     returns-4)

@@ -20,32 +20,11 @@ abbrev μ-loop : tie.MeasureT-loop
 returns : tie.Need-returns Inv-loop μ-loop
 returns c = (short-area _ (c .if1 .taken), area-claims)
 
-read-be32-requires : tie.Need-read-be32-requires Inv-loop μ-loop
-read-be32-requires c κs = search needs
-
-cast-count : tie.Need-cast-count Inv-loop μ-loop
-cast-count c = search needs
-
 loop-holds : tie.Need-loop-holds Inv-loop μ-loop
 loop-holds c = stands-first (now (c .before .before .before .args .area)) (c .read-be32 .result) (c .before .if1 .left) (c .read-be32 .ensures)
 
-fault-at-requires : tie.Need-fault-at-requires Inv-loop μ-loop
-fault-at-requires c κs = search needs
-
-enum-known-found : tie.Need-enum-known-found Inv-loop μ-loop
-enum-known-found c = search needs
-
 returns-2 : tie.Need-returns-2 Inv-loop μ-loop
 returns-2 c = (stands-bad (now (c .before .before .before .before .before .before .before .before .before .args .area)) (c .before .before .before .before .before .before .read-be32 .result) (c .before .before .before .before .before .loop .at) (c .before .before .before .before .before .loop .passed) (c .before .before .before .before .before .loop .inv) (c .before .before .before .before .loop-test .taken) _ (sym (c .before .before .before .fault-at .ensures) ∙ c .before .found .given .1), area-claims)
-
-enum-told : tie.Need-enum-told Inv-loop μ-loop
-enum-told c = search needs
-
-add-at : tie.Need-add-at Inv-loop μ-loop
-add-at c = search needs
-
-add-read-be32 : tie.Need-add-read-be32 Inv-loop μ-loop
-add-read-be32 c = search needs
 
 -- the set is fine
 fine : (c : tie.After-enum-told Inv-loop μ-loop) → faultAt (now (c .before .before .before .before .before .before .before .before .args .area)) (c .before .before .before .before .loop .at) ≡ Fine
@@ -53,18 +32,6 @@ fine c = sym (c .before .before .fault-at .ensures) ∙ c .enum-told .given .1
 
 read-be32-requires-2 : tie.Need-read-be32-requires-2 Inv-loop μ-loop
 read-be32-requires-2 c κs = omega (arith, fine-inside (now (c .before .before .before .before .before .before .before .before .args .area)) (c .before .before .before .before .loop .at) (fine c))
-
-cast-at : tie.Need-cast-at Inv-loop μ-loop
-cast-at c = search needs
-
-add-at-2 : tie.Need-add-at-2 Inv-loop μ-loop
-add-at-2 c = search needs
-
-add-passed : tie.Need-add-passed Inv-loop μ-loop
-add-passed c = search needs
-
-loop-less : tie.Need-loop-less Inv-loop μ-loop
-loop-less c = search needs
 
 loop-again : tie.Need-loop-again Inv-loop μ-loop
 loop-again c = stands-fine (now (c .before .before .before .before .before .before .before .before .before .args .area)) (c .before .before .before .before .before .before .read-be32 .result) (c .before .before .before .before .before .loop .at) (c .before .before .before .before .before .loop .passed) (c .before .before .before .before .before .loop .inv) (c .before .before .before .before .loop-test .taken) _ (c .read-be322 .ensures) (fine (c .before))
@@ -79,19 +46,19 @@ check-area-spec =
     Inv-loop
     μ-loop
     returns
-    read-be32-requires
-    cast-count
+    (λ c κs. search needs)
+    (λ c. search needs)
     loop-holds
-    fault-at-requires
-    enum-known-found
+    (λ c κs. search needs)
+    (λ c. search needs)
     returns-2
-    enum-told
-    add-at
-    add-read-be32
+    (λ c. search needs)
+    (λ c. search needs)
+    (λ c. search needs)
     read-be32-requires-2
-    cast-at
-    add-at-2
-    add-passed
-    loop-less
+    (λ c. search needs)
+    (λ c. search needs)
+    (λ c. search needs)
+    (λ c. search needs)
     loop-again
     returns-3)

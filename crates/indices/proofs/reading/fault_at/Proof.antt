@@ -31,50 +31,17 @@ known c = (le-ltb _ 8 (c .before .before .before .if1 .left), sym (length-told (
 inside : (c : tie.Else3) → ltb (length (now (c .before .before .before .before .before .before .args .area)) - c .before .before .before .before .before .before .args .at) (8 + lengthAt (now (c .before .before .before .before .before .before .args .area)) (c .before .before .before .before .before .before .args .at)) ≡ false
 inside c = rw (← length-read (c .before .before .before)) (le-ltb _ _ (c .if3 .left))
 
-sub-left : tie.Need-sub-left
-sub-left c = search needs
-
 returns : tie.Need-returns
 unfolding faultAt
 returns c = rw (lt-ltb _ 8 (c .if1 .taken))
-
-add-read-be32 : tie.Need-add-read-be32
-add-read-be32 c = search needs
-
-read-be32-requires : tie.Need-read-be32-requires
-read-be32-requires c κs = search needs
-
-is-length-requires : tie.Need-is-length-requires
-is-length-requires c κs = search needs
 
 returns-2 : tie.Need-returns-2
 unfolding faultAt
 returns-2 c = rw (le-ltb _ 8 (c .before .before .before .if1 .left), ← length-told (c .before), c .if2 .taken)
 
-cast-if3 : tie.Need-cast-if3
-cast-if3 c = search needs
-
-add-if3 : tie.Need-add-if3
-add-if3 c = search needs
-
 returns-3 : tie.Need-returns-3
 unfolding faultAt
 returns-3 c = rw (known (c .before) .0, known (c .before) .1, ← length-read (c .before .before .before), lt-ltb _ _ (c .if3 .taken))
-
-add-is-field : tie.Need-add-is-field
-add-is-field c = search needs
-
-add-is-field-2 : tie.Need-add-is-field-2
-add-is-field-2 c = search needs
-
-cast-is-field : tie.Need-cast-is-field
-cast-is-field c = search needs
-
-add-is-field-3 : tie.Need-add-is-field-3
-add-is-field-3 c = search needs
-
-is-field-requires : tie.Need-is-field-requires
-is-field-requires c κs = search needs
 
 returns-4 : tie.Need-returns-4
 unfolding faultAt
@@ -88,19 +55,19 @@ pub fault-at-spec : {M : Type 1} → statement M
 fault-at-spec =
     tie.close
     (tie.spec
-    sub-left
+    (λ c. search needs)
     returns
-    add-read-be32
-    read-be32-requires
-    is-length-requires
+    (λ c. search needs)
+    (λ c κs. search needs)
+    (λ c κs. search needs)
     returns-2
-    cast-if3
-    add-if3
+    (λ c. search needs)
+    (λ c. search needs)
     returns-3
-    add-is-field
-    add-is-field-2
-    cast-is-field
-    add-is-field-3
-    is-field-requires
+    (λ c. search needs)
+    (λ c. search needs)
+    (λ c. search needs)
+    (λ c. search needs)
+    (λ c κs. search needs)
     returns-4
     returns-5)

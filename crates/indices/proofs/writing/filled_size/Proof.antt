@@ -5,14 +5,8 @@ use Rattle.inventory.proofs.Codes.{code-in-word}
 use Rattle.indices.proofs.writing.filled_size.Statement.{statement}
 use Rattle.indices.proofs.writing.filled_size.Tie as tie
 
-add-result : tie.Need-add-result
-add-result c = search needs
-
 mul-result : tie.Need-mul-result
 mul-result c = omega (arith, code-in-word)
 
-returns : tie.Need-returns
-returns c = search needs
-
 pub filled-size-spec : {M : Type 1} → statement M
-filled-size-spec = tie.close (tie.spec add-result mul-result returns)
+filled-size-spec = tie.close (tie.spec (λ c. search needs) mul-result (λ c. search needs))

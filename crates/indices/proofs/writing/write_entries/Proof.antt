@@ -23,9 +23,6 @@ abbrev μ-loop : tie.MeasureT-loop
 loop-holds : tie.Need-loop-holds Inv-loop μ-loop
 loop-holds c = writing-start _ _ _ (now (c .before .before .args .inventory)) (now (c .before .before .args .area)) _ (c .before .before .pre .0) (c .before .before .pre .1) (c .before .before .pre .2)
 
-next-entry-requires : tie.Need-next-entry-requires Inv-loop μ-loop
-next-entry-requires c κs = search needs
-
 locate-requires : tie.Need-locate-requires Inv-loop μ-loop
 locate-requires c κs = c .next-entry .ensures .readable
 
@@ -39,12 +36,6 @@ filled-size-requires c κs = bounds c .0
 add-taken : tie.Need-add-taken Inv-loop μ-loop
 add-taken c = omega (arith, bounds (c .before), code-in-word)
 
-sub-if1 : tie.Need-sub-if1 Inv-loop μ-loop
-sub-if1 c = search needs
-
-same-length : tie.Need-same-length Inv-loop μ-loop
-same-length c = search needs
-
 returns : tie.Need-returns Inv-loop μ-loop
 returns c = writing-full (c .before .before .before .before .before .loop .inv) _ _ _ (c .before .before .before .next-entry .ensures) (c .before .before .locate .ensures) (ap (λ (n : ℕ). 8 + n) (c .before .filled-size .ensures)) (c .if1 .taken)
 
@@ -54,20 +45,8 @@ store-entry-requires c κs = omega (arith, bounds (c .before .before .before))
 add-at : tie.Need-add-at Inv-loop μ-loop
 add-at c = omega (arith, bounds (c .before .before .before .before .before .before .before))
 
-add-to : tie.Need-add-to Inv-loop μ-loop
-add-to c = search needs
-
-add-handed : tie.Need-add-handed Inv-loop μ-loop
-add-handed c = search needs
-
-loop-less : tie.Need-loop-less Inv-loop μ-loop
-loop-less c = search needs
-
 loop-again : tie.Need-loop-again Inv-loop μ-loop
 loop-again c = rw (c .before .before .before .store-entry .ensures) (writing-next (c .before .before .before .before .before .before .before .before .before .before .loop .inv) _ _ _ (c .before .before .before .before .before .before .before .before .next-entry .ensures) (c .before .before .before .before .before .before .before .locate .ensures) (ap (λ (n : ℕ). 8 + n) (c .before .before .before .before .before .before .filled-size .ensures)) (c .before .before .before .before .before .if1 .left))
-
-same-length-2 : tie.Need-same-length-2 Inv-loop μ-loop
-same-length-2 c = search needs
 
 returns-2 : tie.Need-returns-2 Inv-loop μ-loop
 returns-2 c = writing-end (c .before .loop .inv) (c .loop-test .left)
@@ -79,18 +58,18 @@ write-entries-spec =
     Inv-loop
     μ-loop
     loop-holds
-    next-entry-requires
+    (λ c κs. search needs)
     locate-requires
     filled-size-requires
     add-taken
-    sub-if1
-    same-length
+    (λ c. search needs)
+    (λ c. search needs)
     returns
     store-entry-requires
     add-at
-    add-to
-    add-handed
-    loop-less
+    (λ c. search needs)
+    (λ c. search needs)
+    (λ c. search needs)
     loop-again
-    same-length-2
+    (λ c. search needs)
     returns-2)

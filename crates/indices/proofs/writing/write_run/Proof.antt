@@ -7,25 +7,13 @@ use Rattle.indices.proofs.Writes.{run-few, run-none, run-counted}
 use Rattle.indices.proofs.writing.write_run.Statement.{statement}
 use Rattle.indices.proofs.writing.write_run.Tie as tie
 
-write-entries-requires : tie.Need-write-entries-requires
-write-entries-requires c κs = search needs
-
 cast-store-be32 : tie.Need-cast-store-be32
 cast-store-be32 c = omega (arith, c .before .before .before .before .write-entries .ensures .0, run-few (now (c .before .before .before .before .before .before .before .before .args .area)) (c .before .before .before .before .before .before .before .before .pre .1))
-
-store-be32-requires : tie.Need-store-be32-requires
-store-be32-requires c κs = search needs
-
-same-length : tie.Need-same-length
-same-length c = search needs
 
 returns : tie.Need-returns
 returns c =
     let done = run-counted (now (c .before .before .before .before .before .before .before .before .before .before .before .args .area)) (c .before .before .before .before .before .before .before .before .before .before .before .pre .1) (c .before .before .before .before .before .before .before .write-entries .ensures .0) (c .before .before .before .before .before .before .before .write-entries .ensures .1) (c .before .before .before .before .before .before .before .before .before .before .before .pre .0) (c .before .before .before .before .if1 .taken) (c .before .before .store-be32 .ensures) in
     (done .0, (done .1, longest-run))
-
-same-length-2 : tie.Need-same-length-2
-same-length-2 c = search needs
 
 returns-2 : tie.Need-returns-2
 returns-2 c =
@@ -36,10 +24,10 @@ pub write-run-spec : {M : Type 1} → statement M
 write-run-spec =
     tie.close
     (tie.spec
-    write-entries-requires
+    (λ c κs. search needs)
     cast-store-be32
-    store-be32-requires
-    same-length
+    (λ c κs. search needs)
+    (λ c. search needs)
     returns
-    same-length-2
+    (λ c. search needs)
     returns-2)

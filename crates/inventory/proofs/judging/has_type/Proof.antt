@@ -7,21 +7,6 @@ use Rattle.inventory.proofs.RecordLaws.{matches-at}
 use Rattle.inventory.proofs.judging.has_type.Statement.{statement}
 use Rattle.inventory.proofs.judging.has_type.Tie as tie
 
-add-read-le16 : tie.Need-add-read-le16
-add-read-le16 c = search needs
-
-read-le16-requires : tie.Need-read-le16-requires
-read-le16-requires c κs = search needs
-
-cast-if1 : tie.Need-cast-if1
-cast-if1 c = search needs
-
-add-read-le32 : tie.Need-add-read-le32
-add-read-le32 c = search needs
-
-read-le32-requires : tie.Need-read-le32-requires
-read-le32-requires c κs = search needs
-
 returns : tie.Need-returns
 returns c = rw (matches-at (now (c .before .before .before .before .args .s)) (c .before .before .before .before .args .at) (c .before .before .before .before .args .flag) (c .before .before .before .before .args .item-type) (omega (arith, c .before .before .before .before .pre .large)), ← c .before .before .read-le16 .ensures, ← c .read-le32 .ensures, eq-eqb _ _ (c .before .if1 .taken))
 
@@ -32,10 +17,10 @@ pub has-type-spec : {M : Type 1} → statement M
 has-type-spec =
     tie.close
     (tie.spec
-    add-read-le16
-    read-le16-requires
-    cast-if1
-    add-read-le32
-    read-le32-requires
+    (λ c. search needs)
+    (λ c κs. search needs)
+    (λ c. search needs)
+    (λ c. search needs)
+    (λ c κs. search needs)
     returns
     returns-2)

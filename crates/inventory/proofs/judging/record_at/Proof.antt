@@ -18,26 +18,8 @@ use Rattle.inventory.proofs.RecordLaws.{goodHere, framed-bounds, good-r
 use Rattle.inventory.proofs.judging.record_at.Statement.{statement}
 use Rattle.inventory.proofs.judging.record_at.Tie as tie
 
-sub-left : tie.Need-sub-left
-sub-left c = search needs
-
 returns : tie.Need-returns
 returns c = none-given (now (c .before .before .args .s)) (c .before .before .args .at) (short-bad (now (c .before .before .args .s)) (c .before .before .args .at) (c .if1 .taken))
-
-read-frame-requires : tie.Need-read-frame-requires
-read-frame-requires c κs = search needs
-
-record-size-requires : tie.Need-record-size-requires
-record-size-requires c κs = search needs
-
-add-read-le16 : tie.Need-add-read-le16
-add-read-le16 c = search needs
-
-read-le16-requires : tie.Need-read-le16-requires
-read-le16-requires c κs = search needs
-
-is-framed-requires : tie.Need-is-framed-requires
-is-framed-requires c κs = search needs
 
 -- the size that was read, and the record judged by what was read
 size-is : (c : tie.After-is-framed) → c .before .before .record-size .result ≡ sizeOf (drop (c .before .before .before .before .before .before .args .at) (now (c .before .before .before .before .before .before .args .s)))
@@ -72,13 +54,13 @@ pub record-at-spec : {M : Type 1} → statement M
 record-at-spec =
     tie.close
     (tie.spec
-    sub-left
+    (λ c. search needs)
     returns
-    read-frame-requires
-    record-size-requires
-    add-read-le16
-    read-le16-requires
-    is-framed-requires
+    (λ c κs. search needs)
+    (λ c κs. search needs)
+    (λ c. search needs)
+    (λ c κs. search needs)
+    (λ c κs. search needs)
     returns-2
     add-zero-bytes
     add-zero-bytes-2

@@ -23,23 +23,11 @@ abbrev μ-loop : tie.MeasureT-loop
 loop-holds : tie.Need-loop-holds Inv-loop μ-loop
 loop-holds c = (search needs, search needs, search needs, sym (zero-add _))
 
-shared-slice-read-one-if : tie.Need-shared-slice-read-one-if Inv-loop μ-loop
-shared-slice-read-one-if c = search needs
-
-one-if-requires : tie.Need-one-if-requires Inv-loop μ-loop
-one-if-requires c κs = search needs
-
 one : (c : tie.After-one-if Inv-loop μ-loop) → c .one-if .result ≤ 1
 one c = rw (c .one-if .ensures) (one-if-le (eqb (getD (now (c .before .before .before .before .before .args .s)) (c .before .before .before .loop .i) 0) 0))
 
 add-zeros : tie.Need-add-zeros Inv-loop μ-loop
 add-zeros c = omega (arith, one c)
-
-add-i : tie.Need-add-i Inv-loop μ-loop
-add-i c = search needs
-
-loop-less : tie.Need-loop-less Inv-loop μ-loop
-loop-less c = search needs
 
 loop-again : tie.Need-loop-again Inv-loop μ-loop
 loop-again c = (search needs, search needs, omega (arith, one c), omega (arith, c .before .before .before .loop .inv .2, c .one-if .ensures, zero-count-next (now (c .before .before .before .before .before .args .s)) (c .before .before .before .loop .i) (c .before .before .before .before .before .args .to) (omega arith) (omega arith)))
@@ -54,10 +42,10 @@ zero-bytes-spec =
     Inv-loop
     μ-loop
     loop-holds
-    shared-slice-read-one-if
-    one-if-requires
+    (λ c. search needs)
+    (λ c κs. search needs)
     add-zeros
-    add-i
-    loop-less
+    (λ c. search needs)
+    (λ c. search needs)
     loop-again
     returns)

@@ -11,24 +11,9 @@ use Rattle.inventory.proofs.Located.{located-read}
 use Rattle.inventory.proofs.locating.locate.Statement.{statement}
 use Rattle.inventory.proofs.locating.locate.Tie as tie
 
-read-frame-requires : tie.Need-read-frame-requires
-read-frame-requires c κs = search needs
-
-record-size-requires : tie.Need-record-size-requires
-record-size-requires c κs = search needs
-
 -- the size that was read
 size-is : (c : tie.After-record-size) → c .record-size .result ≡ sizeOf (drop (c .before .before .before .args .at) (now (c .before .before .before .args .inventory)))
 size-is c = c .record-size .ensures ∙ ap (λ (f : Frame). f .length + 2) (c .before .read-frame .ensures)
-
-add-read-le32 : tie.Need-add-read-le32
-add-read-le32 c = search needs
-
-read-le32-requires : tie.Need-read-le32-requires
-read-le32-requires c κs = search needs
-
-add-start : tie.Need-add-start
-add-start c = search needs
 
 sub-length : tie.Need-sub-length
 sub-length c = omega (arith, size-is (c .before))
@@ -40,10 +25,10 @@ pub locate-spec : {M : Type 1} → statement M
 locate-spec =
     tie.close
     (tie.spec
-    read-frame-requires
-    record-size-requires
-    add-read-le32
-    read-le32-requires
-    add-start
+    (λ c κs. search needs)
+    (λ c κs. search needs)
+    (λ c. search needs)
+    (λ c κs. search needs)
+    (λ c. search needs)
     sub-length
     returns)

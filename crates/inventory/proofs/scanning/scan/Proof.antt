@@ -30,9 +30,6 @@ returns c = (too-large (now (c .before .before .args .inventory)) (c .if1 .taken
 loop-holds : tie.Need-loop-holds Inv-loop μ-loop
 loop-holds c = scanned-start _ _ _ _
 
-record-at-requires : tie.Need-record-at-requires Inv-loop μ-loop
-record-at-requires c κs = search needs
-
 returns-2 : tie.Need-returns-2 Inv-loop μ-loop
 returns-2 c = (from-bad (c .before .before .before .loop .inv .passed) (c .before .before .loop-test .taken) (none-stands (now (c .before .before .before .before .before .before .args .inventory)) (c .before .before .before .loop .at) _ (c .before .record-at .ensures) (c .if2 .taken)), rules)
 
@@ -40,20 +37,11 @@ returns-2 c = (from-bad (c .before .before .before .loop .inv .passed) (c .befor
 standing : (c : tie.Else2 Inv-loop μ-loop) → Stands (now (c .before .before .before .before .before .before .args .inventory)) (c .before .before .before .loop .at) (c .before .record-at .result)
 standing c = stands (c .before .record-at .ensures) (c .if2 .left)
 
-is-next-requires : tie.Need-is-next-requires Inv-loop μ-loop
-is-next-requires c κs = search needs
-
 has-type-requires : tie.Need-has-type-requires Inv-loop μ-loop
 has-type-requires c κs = readable (standing (c .before .before))
 
-one-if-requires : tie.Need-one-if-requires Inv-loop μ-loop
-one-if-requires c κs = search needs
-
 one : (c : tie.After-one-if Inv-loop μ-loop) → c .one-if .result ≤ 1
 one c = rw (c .one-if .ensures) (one-if-le (c .before .has-type .result))
-
-cast-count : tie.Need-cast-count Inv-loop μ-loop
-cast-count c = search needs
 
 add-count : tie.Need-add-count Inv-loop μ-loop
 add-count c = omega (arith, one c, c .before .before .before .before .before .before .before .loop .inv .few)
@@ -82,12 +70,12 @@ scan-spec =
     μ-loop
     returns
     loop-holds
-    record-at-requires
+    (λ c κs. search needs)
     returns-2
-    is-next-requires
+    (λ c κs. search needs)
     has-type-requires
-    one-if-requires
-    cast-count
+    (λ c κs. search needs)
+    (λ c. search needs)
     add-count
     add-at
     loop-less

@@ -28,9 +28,6 @@ has-type-requires c κs = readable (record-sought (c .loop .inv))
 read-frame-requires : tie.Need-read-frame-requires Inv-loop μ-loop
 read-frame-requires c κs = omega (arith, record-sought (c .before .before .loop .inv))
 
-record-size-requires : tie.Need-record-size-requires Inv-loop μ-loop
-record-size-requires c κs = search needs
-
 -- the size that was read
 size-is : (c : tie.After-record-size Inv-loop μ-loop) → c .record-size .result ≡ sizeOf (drop (c .before .before .before .before .loop .at) (now (c .before .before .before .before .before .before .args .inventory)))
 size-is c = c .record-size .ensures ∙ ap (λ (f : Frame). f .length + 2) (c .before .read-frame .ensures)
@@ -56,7 +53,7 @@ next-entry-spec =
     loop-holds
     has-type-requires
     read-frame-requires
-    record-size-requires
+    (λ c κs. search needs)
     add-at
     loop-less
     loop-again

@@ -15,12 +15,6 @@ use Rattle.print_nodes.proofs.text.put_area.Tie as tie
 read-requires : tie.Need-read-requires
 read-requires c κs = omega (arith, area-text _ _ _ (c .before .pre) refl .0)
 
-slice-aggregate-put-ended : tie.Need-slice-aggregate-put-ended
-slice-aggregate-put-ended c = search needs
-
-cast-put-ended : tie.Need-cast-put-ended
-cast-put-ended c = search needs
-
 whole : (c : tie.After-read) → Fits 0 (ended state- (c .read .result .0) ++ (lines (remaining (now (c .before .before .args .input)) startOf) ++ ended end- (c .before .before .args .count)))
 whole c = rw (area-text _ _ _ (c .before .before .pre) (c .read .ensures) .1) at (text-fits (now (c .before .before .args .input)))
 
@@ -33,9 +27,6 @@ behind c = fits-then _ (whole (c .before .before .before)) (c .put-ended .ensure
 put-lines-requires : tie.Need-put-lines-requires
 put-lines-requires c κs = fits-first _ (lines _) _ (behind (c .before))
 
-slice-aggregate-put-ended-2 : tie.Need-slice-aggregate-put-ended-2
-slice-aggregate-put-ended-2 c = search needs
-
 put-ended-requires-2 : tie.Need-put-ended-requires-2
 put-ended-requires-2 c κs = fits-then (ended end- _) (behind (c .before .before .before .before)) (c .before .before .put-lines .ensures)
 
@@ -47,10 +38,10 @@ put-area-spec =
     tie.close
     (tie.spec
     read-requires
-    slice-aggregate-put-ended
-    cast-put-ended
+    (λ c. search needs)
+    (λ c. search needs)
     put-ended-requires
     put-lines-requires
-    slice-aggregate-put-ended-2
+    (λ c. search needs)
     put-ended-requires-2
     returns)

@@ -10,9 +10,6 @@ put-number-requires : tie.Need-put-number-requires
 unfolding ended
 put-number-requires c κs = fits-first _ (numbered (now (c .before .before .args .word)) (c .before .before .args .v)) newline (c .before .before .pre)
 
-slice-aggregate-put-bytes : tie.Need-slice-aggregate-put-bytes
-slice-aggregate-put-bytes c = search needs
-
 put-bytes-requires : tie.Need-put-bytes-requires
 unfolding ended
 put-bytes-requires c κs = fits-then newline (c .before .before .before .before .before .pre) (c .before .before .put-number .ensures)
@@ -23,4 +20,4 @@ returns c = put-then (c .before .before .before .put-number .ensures) (c .put-by
 
 pub put-ended-spec : {M : Type 1} → statement M
 put-ended-spec =
-    tie.close (tie.spec put-number-requires slice-aggregate-put-bytes put-bytes-requires returns)
+    tie.close (tie.spec put-number-requires (λ c. search needs) put-bytes-requires returns)

@@ -5,35 +5,14 @@ use Rattle.print_nodes.proofs.Puts.{fits-first, fits-then, put-then}
 use Rattle.print_nodes.proofs.text.put_entry.Statement.{statement}
 use Rattle.print_nodes.proofs.text.put_entry.Tie as tie
 
-enum-known-o : tie.Need-enum-known-o
-enum-known-o c = search needs
-
-slice-aggregate-put-operand : tie.Need-slice-aggregate-put-operand
-slice-aggregate-put-operand c = search needs
-
 put-operand-requires : tie.Need-put-operand-requires
 put-operand-requires c κs = rw (c .before .before .before .o .given .1) at (c .before .before .before .before .before .pre)
-
-enum-known-o-2 : tie.Need-enum-known-o-2
-enum-known-o-2 c = search needs
-
-slice-aggregate-put-operand-2 : tie.Need-slice-aggregate-put-operand-2
-slice-aggregate-put-operand-2 c = search needs
 
 put-operand-requires-2 : tie.Need-put-operand-requires-2
 put-operand-requires-2 c κs = rw (c .before .before .before .o2 .given .1) at (c .before .before .before .before .before .pre)
 
-enum-known-o-3 : tie.Need-enum-known-o-3
-enum-known-o-3 c = search needs
-
-slice-aggregate-put-operand-3 : tie.Need-slice-aggregate-put-operand-3
-slice-aggregate-put-operand-3 c = search needs
-
 put-operand-requires-3 : tie.Need-put-operand-requires-3
 put-operand-requires-3 c κs = fits-first _ (operand add- _) (operand space _) (rw (c .before .before .before .o3 .given .1) at (c .before .before .before .before .before .pre))
-
-slice-aggregate-put-operand-4 : tie.Need-slice-aggregate-put-operand-4
-slice-aggregate-put-operand-4 c = search needs
 
 put-operand-requires-4 : tie.Need-put-operand-requires-4
 put-operand-requires-4 c κs = fits-then (operand space _) (rw (c .before .before .before .before .before .before .o3 .given .1) at (c .before .before .before .before .before .before .before .before .pre)) (c .before .before .put-operand3 .ensures)
@@ -51,16 +30,16 @@ pub put-entry-spec : {M : Type 1} → statement M
 put-entry-spec =
     tie.close
     (tie.spec
-    enum-known-o
-    slice-aggregate-put-operand
+    (λ c. search needs)
+    (λ c. search needs)
     put-operand-requires
-    enum-known-o-2
-    slice-aggregate-put-operand-2
+    (λ c. search needs)
+    (λ c. search needs)
     put-operand-requires-2
-    enum-known-o-3
-    slice-aggregate-put-operand-3
+    (λ c. search needs)
+    (λ c. search needs)
     put-operand-requires-3
-    slice-aggregate-put-operand-4
+    (λ c. search needs)
     put-operand-requires-4
     returns
     returns-2

@@ -9,9 +9,6 @@ put-entry-requires : tie.Need-put-entry-requires
 unfolding line
 put-entry-requires c κs = fits-first _ (entry (c .before .args .o)) newline (c .before .pre)
 
-slice-aggregate-put-bytes : tie.Need-slice-aggregate-put-bytes
-slice-aggregate-put-bytes c = search needs
-
 put-bytes-requires : tie.Need-put-bytes-requires
 unfolding line
 put-bytes-requires c κs = fits-then newline (c .before .before .before .before .pre) (c .before .before .put-entry .ensures)
@@ -22,4 +19,4 @@ returns c = put-then (c .before .before .before .put-entry .ensures) (c .put-byt
 
 pub put-line-spec : {M : Type 1} → statement M
 put-line-spec =
-    tie.close (tie.spec put-entry-requires slice-aggregate-put-bytes put-bytes-requires returns)
+    tie.close (tie.spec put-entry-requires (λ c. search needs) put-bytes-requires returns)

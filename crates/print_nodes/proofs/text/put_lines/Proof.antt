@@ -17,23 +17,11 @@ Inv-loop input out₀ at cursor₀ to₀ out cursor to = Ahead (lines (remaining
 abbrev μ-loop : tie.MeasureT-loop
 μ-loop input out₀ at cursor₀ to₀ out cursor to = length (remaining input cursor)
 
-start-requires : tie.Need-start-requires Inv-loop μ-loop
-start-requires c κs = search needs
-
 loop-holds : tie.Need-loop-holds Inv-loop μ-loop
 loop-holds c = rw (c .start .ensures .0) (ahead-first _ _ _ (c .before .before .pre))
 
-next-requires : tie.Need-next-requires Inv-loop μ-loop
-next-requires c κs = search needs
-
-enum-told : tie.Need-enum-told Inv-loop μ-loop
-enum-told c = search needs
-
 returns : tie.Need-returns Inv-loop μ-loop
 returns c = ahead-none (rw (lines-end _ _ (sym (c .before .before .next .ensures .0) ∙ c .enum-told .given .1)) at (c .before .before .before .loop .inv))
-
-enum-known-step : tie.Need-enum-known-step Inv-loop μ-loop
-enum-known-step c = search needs
 
 -- the line of an operation comes next
 entry : (c : tie.After-step Inv-loop μ-loop) → Ahead (lines (remaining (now (c .before .before .before .before .before .before .args .input)) startOf)) (now (c .before .before .before .before .before .before .args .out)) (c .before .before .before .before .before .before .args .at) (c .before .before .before .loop .out) (c .before .before .before .loop .to) (line (c .step .given .0 .0) ++ lines (remaining (now (c .before .before .before .before .before .before .args .input)) (c .step .given .0 .1 .0)))
@@ -54,12 +42,12 @@ put-lines-spec =
     (tie.spec
     Inv-loop
     μ-loop
-    start-requires
+    (λ c κs. search needs)
     loop-holds
-    next-requires
-    enum-told
+    (λ c κs. search needs)
+    (λ c. search needs)
     returns
-    enum-known-step
+    (λ c. search needs)
     put-line-requires
     loop-less
     loop-again)

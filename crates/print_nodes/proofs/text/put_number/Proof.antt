@@ -10,21 +10,12 @@ use Rattle.print_nodes.proofs.Digits.{decimal-digits}
 use Rattle.print_nodes.proofs.text.put_number.Statement.{statement}
 use Rattle.print_nodes.proofs.text.put_number.Tie as tie
 
-decimal-requires : tie.Need-decimal-requires
-decimal-requires c κs = search needs
-
 made : (c : tie.After-decimal) → take (c .decimal .result) (c .decimal .last .1 .0) ≡ decimal (c .before .before .before .args .v)
 made c = c .decimal .ensures .1 .1 ∙ decimal-digits _ _ (omega arith) (c .decimal .ensures .1 .0)
 
 put-bytes-requires : tie.Need-put-bytes-requires
 unfolding numbered
 put-bytes-requires c κs = fits-first _ (now (c .before .before .before .before .args .word)) (decimal (c .before .before .before .before .args .v)) (c .before .before .before .before .pre)
-
-array-share-prefix-digits : tie.Need-array-share-prefix-digits
-array-share-prefix-digits c = search needs
-
-slice-aggregate-put-bytes : tie.Need-slice-aggregate-put-bytes
-slice-aggregate-put-bytes c = search needs
 
 put-bytes-requires-2 : tie.Need-put-bytes-requires-2
 unfolding numbered
@@ -38,9 +29,9 @@ pub put-number-spec : {M : Type 1} → statement M
 put-number-spec =
     tie.close
     (tie.spec
-    decimal-requires
+    (λ c κs. search needs)
     put-bytes-requires
-    array-share-prefix-digits
-    slice-aggregate-put-bytes
+    (λ c. search needs)
+    (λ c. search needs)
     put-bytes-requires-2
     returns)

@@ -10,21 +10,12 @@ use Rattle.print_nodes.proofs.Digits.{hex-digits}
 use Rattle.print_nodes.proofs.text.put_operand.Statement.{statement}
 use Rattle.print_nodes.proofs.text.put_operand.Tie as tie
 
-hex-requires : tie.Need-hex-requires
-hex-requires c κs = search needs
-
 made : (c : tie.After-hex) → take (c .hex .result) (c .hex .last .1 .1 .0) ≡ hex (c .before .before .before .args .v)
 made c = c .hex .ensures .1 .1 ∙ hex-digits _ _ (omega arith) (c .hex .ensures .1 .0)
 
 put-bytes-requires : tie.Need-put-bytes-requires
 unfolding operand
 put-bytes-requires c κs = fits-first _ (now (c .before .before .before .before .args .word)) (hex (c .before .before .before .before .args .v)) (c .before .before .before .before .pre)
-
-array-share-prefix-digits : tie.Need-array-share-prefix-digits
-array-share-prefix-digits c = search needs
-
-slice-aggregate-put-bytes : tie.Need-slice-aggregate-put-bytes
-slice-aggregate-put-bytes c = search needs
 
 put-bytes-requires-2 : tie.Need-put-bytes-requires-2
 unfolding operand
@@ -38,9 +29,9 @@ pub put-operand-spec : {M : Type 1} → statement M
 put-operand-spec =
     tie.close
     (tie.spec
-    hex-requires
+    (λ c κs. search needs)
     put-bytes-requires
-    array-share-prefix-digits
-    slice-aggregate-put-bytes
+    (λ c. search needs)
+    (λ c. search needs)
     put-bytes-requires-2
     returns)

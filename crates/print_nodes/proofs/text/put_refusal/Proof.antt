@@ -6,14 +6,8 @@ use Rattle.print_nodes.proofs.Sizes.{refusal-fits}
 use Rattle.print_nodes.proofs.text.put_refusal.Statement.{statement}
 use Rattle.print_nodes.proofs.text.put_refusal.Tie as tie
 
-slice-aggregate-put-number : tie.Need-slice-aggregate-put-number
-slice-aggregate-put-number c = search needs
-
 put-number-requires : tie.Need-put-number-requires
 put-number-requires c κs = fits-first 0 (numbered refused- _) (ended -at- (c .before .before .args .offset)) (refusal-fits _ _)
-
-slice-aggregate-put-ended : tie.Need-slice-aggregate-put-ended
-slice-aggregate-put-ended c = search needs
 
 put-ended-requires : tie.Need-put-ended-requires
 put-ended-requires c κs = fits-then (ended -at- _) (refusal-fits _ _) (c .before .before .put-number .ensures)
@@ -25,8 +19,8 @@ pub put-refusal-spec : {M : Type 1} → statement M
 put-refusal-spec =
     tie.close
     (tie.spec
-    slice-aggregate-put-number
+    (λ c. search needs)
     put-number-requires
-    slice-aggregate-put-ended
+    (λ c. search needs)
     put-ended-requires
     returns)

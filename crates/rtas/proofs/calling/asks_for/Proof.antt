@@ -5,15 +5,6 @@ use Rattle.calls.specs.Buffer.{asks}
 use Rattle.rtas.proofs.calling.asks_for.Statement.{statement}
 use Rattle.rtas.proofs.calling.asks_for.Tie as tie
 
-read-be32-requires : tie.Need-read-be32-requires
-read-be32-requires c κs = search needs
-
-read-be32-requires-2 : tie.Need-read-be32-requires-2
-read-be32-requires-2 c κs = search needs
-
-read-be32-requires-3 : tie.Need-read-be32-requires-3
-read-be32-requires-3 c κs = search needs
-
 returns : tie.Need-returns
 unfolding asks
 returns c = rw (← c .before .before .before .before .read-be32 .ensures, ← c .before .before .before .read-be322 .ensures, ← c .before .before .read-be323 .ensures, eq-eqb _ _ (c .before .if1 .taken), eq-eqb _ _ (c .if2 .taken))
@@ -30,9 +21,9 @@ pub asks-for-spec : {M : Type 1} → statement M
 asks-for-spec =
     tie.close
     (tie.spec
-    read-be32-requires
-    read-be32-requires-2
-    read-be32-requires-3
+    (λ c κs. search needs)
+    (λ c κs. search needs)
+    (λ c κs. search needs)
     returns
     returns-2
     returns-3)

@@ -15,12 +15,6 @@ use Rattle.calls.specs.Status.{isGiven}
 use Rattle.rtas.proofs.calling.call.Statement.{statement}
 use Rattle.rtas.proofs.calling.call.Tie as tie
 
-number-for-requires : tie.Need-number-for-requires
-number-for-requires c κs = search needs
-
-is-given-requires : tie.Need-is-given-requires
-is-given-requires c κs = search needs
-
 -- what the call finds
 abbrev entry : tie.Start → Found
 entry c = found (now (c .args .args)) (now (c .args .memory)) (now (c .args .journal)) (now (c .args .inventory)) (c .args .registration)
@@ -28,9 +22,6 @@ entry c = found (now (c .args .args)) (now (c .args .memory)) (now (c .args .jou
 -- the code's test is that of the definition
 given : (c : tie.After-is-given) → c .is-given .result ≡ isGiven (numberFor (now (c .before .before .before .before .before .before .before .args .args)))
 given c = c .is-given .ensures ∙ ap isGiven (c .before .number-for .ensures)
-
-same-length : tie.Need-same-length
-same-length c = search needs
 
 returns : tie.Need-returns
 returns c = (rw (c .before .before .number-for .ensures) (sym (unchanged (entry (c .before .before .before .before .before .before .before .before)) (sym (given (c .before)) ∙ not-true _ (c .if1 .taken)))), demands)
@@ -44,32 +35,14 @@ whole c = whole-buffer _ (yes c)
 read-be32-requires : tie.Need-read-be32-requires
 read-be32-requires c κs = omega (arith, whole (c .before) .size)
 
-cast-inputs : tie.Need-cast-inputs
-cast-inputs c = search needs
-
 number-is : (c : tie.Else1) → c .before .before .number-for .result ≡ Given
 number-is c = given-number _ (sym (c .before .is-given .ensures) ∙ not-false _ (c .if1 .left))
 
 dispatch-requires : tie.Need-dispatch-requires
 dispatch-requires c κs = sym (c .before .before .before .before .before .before .number-for .ensures) ∙ number-is (c .before .before .before .before)
 
-mul-store-be32 : tie.Need-mul-store-be32
-mul-store-be32 c = search needs
-
-add-store-be32 : tie.Need-add-store-be32
-add-store-be32 c = search needs
-
-status-word-requires : tie.Need-status-word-requires
-status-word-requires c κs = search needs
-
 store-be32-requires : tie.Need-store-be32-requires
 store-be32-requires c κs = omega (arith, whole (c .before .before .before .before .before .before .before .before .before .before .before .before), c .before .before .before .before .before .before .before .before .before .before .read-be32 .ensures, c .before .before .before .before .before .before .before .dispatch .kept .0)
-
-same-length-2 : tie.Need-same-length-2
-same-length-2 c = search needs
-
-same-length-3 : tie.Need-same-length-3
-same-length-3 c = search needs
 
 returns-2 : tie.Need-returns-2
 returns-2 c =
@@ -82,17 +55,17 @@ pub call-spec : {M : Type 1} → statement M
 call-spec =
     tie.close
     (tie.spec
-    number-for-requires
-    is-given-requires
-    same-length
+    (λ c κs. search needs)
+    (λ c κs. search needs)
+    (λ c. search needs)
     returns
     read-be32-requires
-    cast-inputs
+    (λ c. search needs)
     dispatch-requires
-    mul-store-be32
-    add-store-be32
-    status-word-requires
+    (λ c. search needs)
+    (λ c. search needs)
+    (λ c κs. search needs)
     store-be32-requires
-    same-length-2
-    same-length-3
+    (λ c. search needs)
+    (λ c. search needs)
     returns-2)

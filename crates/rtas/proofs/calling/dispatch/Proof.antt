@@ -38,15 +38,6 @@ read-be32-requires c κs = omega (arith, two-inside c)
 read-be32-requires-2 : tie.Need-read-be32-requires-2
 read-be32-requires-2 c κs = omega (arith, two-inside (c .before .before))
 
-update-nodes-requires : tie.Need-update-nodes-requires
-update-nodes-requires c κs = search needs
-
-same-length : tie.Need-same-length
-same-length c = search needs
-
-same-length-2 : tie.Need-same-length-2
-same-length-2 c = search needs
-
 returns : tie.Need-returns
 returns c =
     let told = rw (c .before .before .before .before .before .before .read-be32 .ensures, c .before .before .before .before .read-be322 .ensures) at (c .before .before .update-nodes .ensures) in
@@ -62,12 +53,6 @@ indices-yes c = sym (c .before .before .before .asks-for2 .ensures) ∙ c .befor
 
 list-indices-requires : tie.Need-list-indices-requires
 list-indices-requires c κs = omega (arith, whole (c .before .before .before .before .before .before .before .before .before .before .before .before) .size, asked 2 5 2 (now (c .before .before .before .before .before .before .before .before .before .before .before .before .args .args)) (indices-yes c))
-
-same-length-3 : tie.Need-same-length-3
-same-length-3 c = search needs
-
-same-length-4 : tie.Need-same-length-4
-same-length-4 c = search needs
 
 returns-2 : tie.Need-returns-2
 returns-2 c =
@@ -95,24 +80,12 @@ read-be32-requires-4 c κs = omega (arith, three-inside (c .before .before))
 read-be32-requires-5 : tie.Need-read-be32-requires-5
 read-be32-requires-5 c κs = omega (arith, three-inside (c .before .before .before .before))
 
-configure-kernel-dump-requires : tie.Need-configure-kernel-dump-requires
-configure-kernel-dump-requires c κs = search needs
-
-same-length-5 : tie.Need-same-length-5
-same-length-5 c = search needs
-
-same-length-6 : tie.Need-same-length-6
-same-length-6 c = search needs
-
 returns-3 : tie.Need-returns-3
 returns-3 c =
     let told = rw (c .before .before .before .before .before .before .read-be323 .ensures, c .before .before .before .before .read-be324 .ensures, c .before .before .read-be325 .ensures) at (c .configure-kernel-dump .ensures) in
     worked-dump (entry (c .before .before .before .before .before .before .before .before .before .before .before .before .before .before .before .before .before .before .before .before .before)) _ _ (dump-yes (c .before .before .before .before .before .before .before)) (told .0) (told .1)
 
 -- ---- any other
-
-same-length-7 : tie.Need-same-length-7
-same-length-7 c = search needs
 
 returns-4 : tie.Need-returns-4
 returns-4 c =
@@ -126,22 +99,22 @@ dispatch-spec =
     asks-for-requires
     read-be32-requires
     read-be32-requires-2
-    update-nodes-requires
-    same-length
-    same-length-2
+    (λ c κs. search needs)
+    (λ c. search needs)
+    (λ c. search needs)
     returns
     asks-for-requires-2
     list-indices-requires
-    same-length-3
-    same-length-4
+    (λ c. search needs)
+    (λ c. search needs)
     returns-2
     asks-for-requires-3
     read-be32-requires-3
     read-be32-requires-4
     read-be32-requires-5
-    configure-kernel-dump-requires
-    same-length-5
-    same-length-6
+    (λ c κs. search needs)
+    (λ c. search needs)
+    (λ c. search needs)
     returns-3
-    same-length-7
+    (λ c. search needs)
     returns-4)

@@ -13,24 +13,6 @@ use Rattle.calls.proofs.Requests.{number-stored, number-kept}
 use Rattle.rtas.proofs.calling.list_indices.Statement.{statement}
 use Rattle.rtas.proofs.calling.list_indices.Tie as tie
 
-request-of-requires : tie.Need-request-of-requires
-request-of-requires c κs = search needs
-
-get-indices-requires : tie.Need-get-indices-requires
-get-indices-requires c κs = search needs
-
-status-word-requires : tie.Need-status-word-requires
-status-word-requires c κs = search needs
-
-store-requires : tie.Need-store-requires
-store-requires c κs = search needs
-
-same-length : tie.Need-same-length
-same-length c = search needs
-
-same-length-2 : tie.Need-same-length-2
-same-length-2 c = search needs
-
 returns : tie.Need-returns
 returns c =
     let asked = c .before .before .before .before .before .before .before .before .before .before .request-of .ensures in
@@ -38,12 +20,6 @@ returns c =
     let word = c .before .before .before .before .before .status-word .ensures in
     let answered : isAnswer (indicesStatus (now (c .before .before .before .before .before .before .before .before .before .before .before .before .before .before .before .before .args .memory)) (now (c .before .before .before .before .before .before .before .before .before .before .before .before .before .before .before .before .args .inventory)) (requestOf (now (c .before .before .before .before .before .before .before .before .before .before .before .before .before .before .before .before .args .args)))) ≡ true = ap isAnswer (sym (told .0 .0)) ∙ ap (λ (n : ℕ). leb n 1) (sym word) ∙ le-leb _ 1 (c .before .before .before .before .if1 .taken) in
     (told .0 .0, (c .before .before .store .ensures ∙ number-stored (now (c .before .before .before .before .before .before .before .before .before .before .before .before .before .before .before .before .args .inventory)) (requestOf (now (c .before .before .before .before .before .before .before .before .before .before .before .before .before .before .before .before .args .args))) (indicesStatus (now (c .before .before .before .before .before .before .before .before .before .before .before .before .before .before .before .before .args .memory)) (now (c .before .before .before .before .before .before .before .before .before .before .before .before .before .before .before .before .args .inventory)) (requestOf (now (c .before .before .before .before .before .before .before .before .before .before .before .before .before .before .before .before .args .args)))) _ 36 _ (told .0 .1) answered, told .1))
-
-same-length-3 : tie.Need-same-length-3
-same-length-3 c = search needs
-
-same-length-4 : tie.Need-same-length-4
-same-length-4 c = search needs
 
 returns-2 : tie.Need-returns-2
 returns-2 c =
@@ -57,13 +33,13 @@ pub list-indices-spec : {M : Type 1} → statement M
 list-indices-spec =
     tie.close
     (tie.spec
-    request-of-requires
-    get-indices-requires
-    status-word-requires
-    store-requires
-    same-length
-    same-length-2
+    (λ c κs. search needs)
+    (λ c κs. search needs)
+    (λ c κs. search needs)
+    (λ c κs. search needs)
+    (λ c. search needs)
+    (λ c. search needs)
     returns
-    same-length-3
-    same-length-4
+    (λ c. search needs)
+    (λ c. search needs)
     returns-2)

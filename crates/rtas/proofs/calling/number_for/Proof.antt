@@ -9,12 +9,6 @@ returns : tie.Need-returns
 unfolding numberFor
 returns c = rw (lt-ltb _ _ (c .if1 .taken))
 
-read-be32-requires : tie.Need-read-be32-requires
-read-be32-requires c κs = search needs
-
-read-be32-requires-2 : tie.Need-read-be32-requires-2
-read-be32-requires-2 c κs = search needs
-
 returns-2 : tie.Need-returns-2
 unfolding numberFor
 returns-2 c = rw (le-ltb _ _ (c .before .before .before .if1 .left), ← c .before .before .read-be32 .ensures, ← c .before .read-be322 .ensures, lt-ltb _ _ (c .if2 .taken))
@@ -22,21 +16,6 @@ returns-2 c = rw (le-ltb _ _ (c .before .before .before .if1 .left), ← c .befo
 returns-3 : tie.Need-returns-3
 unfolding numberFor
 returns-3 c = rw (le-ltb _ _ (c .before .before .before .before .if1 .left), ← c .before .before .before .read-be32 .ensures, ← c .before .before .read-be322 .ensures, le-ltb _ _ (c .before .if2 .left), lt-ltb _ _ (c .if3 .taken))
-
-cast-if4 : tie.Need-cast-if4
-cast-if4 c = search needs
-
-cast-if4-2 : tie.Need-cast-if4-2
-cast-if4-2 c = search needs
-
-add-if4 : tie.Need-add-if4
-add-if4 c = search needs
-
-mul-if4 : tie.Need-mul-if4
-mul-if4 c = search needs
-
-add-if4-2 : tie.Need-add-if4-2
-add-if4-2 c = search needs
 
 returns-4 : tie.Need-returns-4
 unfolding numberFor
@@ -55,15 +34,15 @@ number-for-spec =
     tie.close
     (tie.spec
     returns
-    read-be32-requires
-    read-be32-requires-2
+    (λ c κs. search needs)
+    (λ c κs. search needs)
     returns-2
     returns-3
-    cast-if4
-    cast-if4-2
-    add-if4
-    mul-if4
-    add-if4-2
+    (λ c. search needs)
+    (λ c. search needs)
+    (λ c. search needs)
+    (λ c. search needs)
+    (λ c. search needs)
     returns-4
     returns-5
     returns-6)

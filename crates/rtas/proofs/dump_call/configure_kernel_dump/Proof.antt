@@ -6,12 +6,6 @@ use Rattle.calls.specs.ConfigureDump.{verdictStatus, dumpStatus}
 use Rattle.rtas.proofs.dump_call.configure_kernel_dump.Statement.{statement}
 use Rattle.rtas.proofs.dump_call.configure_kernel_dump.Tie as tie
 
-configure-requires : tie.Need-configure-requires
-configure-requires c κs = search needs
-
-verdict-status-requires : tie.Need-verdict-status-requires
-verdict-status-requires c κs = search needs
-
 returns : tie.Need-returns
 unfolding dumpStatus
 returns c =
@@ -20,4 +14,4 @@ returns c =
 
 pub configure-kernel-dump-spec : {M : Type 1} → statement M
 configure-kernel-dump-spec =
-    tie.close (tie.spec configure-requires verdict-status-requires returns)
+    tie.close (tie.spec (λ c κs. search needs) (λ c κs. search needs) returns)

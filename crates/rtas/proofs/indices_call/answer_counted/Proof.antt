@@ -10,12 +10,6 @@ use Rattle.rtas.proofs.Lists.{due-is, among-is, left-misnumbered, Ran, 
 use Rattle.rtas.proofs.indices_call.answer_counted.Statement.{statement}
 use Rattle.rtas.proofs.indices_call.answer_counted.Tie as tie
 
-is-among-requires : tie.Need-is-among-requires
-is-among-requires c κs = search needs
-
-refused-requires : tie.Need-refused-requires
-refused-requires c κs = search needs
-
 returns : tie.Need-returns
 returns c = left-misnumbered (now (c .before .before .before .before .before .before .args .inventory)) (c .before .before .before .before .before .before .args .request) (now (c .before .before .before .before .before .before .args .area)) (c .refused .result) (c .before .before .before .before .before .before .pre .2) (rw (c .before .before .before .before .before .before .pre .3) at (sym (c .before .before .is-among .ensures) ∙ not-true _ (c .before .if1 .taken))) (c .refused .ensures)
 
@@ -30,12 +24,6 @@ write-run-requires : tie.Need-write-run-requires
 write-run-requires c κs =
     let range = among (c .before .before) in
     (c .before .before .before .before .before .before .before .pre .0, rw (c .before .entries-from .ensures) (due-is _ (c .before .before .before .before .before .before .before .pre .2) (c .before .before .before .before .before .before .before .pre .3) (c .before .before .before .before .before .before .before .pre .4 (range .0) (range .1))))
-
-refused-requires-2 : tie.Need-refused-requires-2
-refused-requires-2 c κs = search needs
-
-same-length : tie.Need-same-length
-same-length c = search needs
 
 -- what the call of the writer tells
 ran : (c : tie.After-write-run) → Ran (now (c .before .before .before .before .before .before .before .before .args .inventory)) (c .before .before .before .before .before .before .before .before .args .request) (now (c .before .before .before .before .before .before .before .before .args .area)) (c .write-run .result) (c .write-run .last .0)
@@ -55,17 +43,8 @@ returns-2 c = left-unfit (ran (c .before .before .before .before)) (c .refused2 
 after-requires : tie.Need-after-requires
 after-requires c κs = let few = ran-few (ran (c .before .before .before .before)) in omega arith
 
-same-length-2 : tie.Need-same-length-2
-same-length-2 c = search needs
-
 returns-3 : tie.Need-returns-3
 returns-3 c = let t = ran (c .before .before .before .before .before) in rw (c .after .ensures) (left-again t (omega arith) (omega arith))
-
-first-requires : tie.Need-first-requires
-first-requires c κs = search needs
-
-same-length-3 : tie.Need-same-length-3
-same-length-3 c = search needs
 
 returns-4 : tie.Need-returns-4
 returns-4 c = let t = ran (c .before .before .before .before .before) in rw (c .first .ensures) (left-done t (omega arith) (omega arith))
@@ -74,17 +53,17 @@ pub answer-counted-spec : {M : Type 1} → statement M
 answer-counted-spec =
     tie.close
     (tie.spec
-    is-among-requires
-    refused-requires
+    (λ c κs. search needs)
+    (λ c κs. search needs)
     returns
     entries-from-requires
     write-run-requires
-    refused-requires-2
-    same-length
+    (λ c κs. search needs)
+    (λ c. search needs)
     returns-2
     after-requires
-    same-length-2
+    (λ c. search needs)
     returns-3
-    first-requires
-    same-length-3
+    (λ c κs. search needs)
+    (λ c. search needs)
     returns-4)

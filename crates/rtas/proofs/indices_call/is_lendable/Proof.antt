@@ -9,9 +9,6 @@ returns : tie.Need-returns
 unfolding lendable
 returns c = rw (lt-leb 4 _ (c .if1 .taken))
 
-add-end : tie.Need-add-end
-add-end c = search needs
-
 returns-2 : tie.Need-returns-2
 unfolding lendable
 returns-2 c = rw (le-leb 4 _ (c .before .if1 .left), lt-leb _ 4294967296 (c .if2 .taken))
@@ -21,4 +18,4 @@ unfolding lendable
 returns-3 c = rw (le-leb 4 _ (c .before .if1 .left), le-leb _ 4294967296 (c .if2 .left))
 
 pub is-lendable-spec : {M : Type 1} → statement M
-is-lendable-spec = tie.close (tie.spec returns add-end returns-2 returns-3)
+is-lendable-spec = tie.close (tie.spec returns (λ c. search needs) returns-2 returns-3)

@@ -6,15 +6,6 @@ use Rattle.calls.proofs.Areas.{left-malformed, scanned-malformed, scanned-count
 use Rattle.rtas.proofs.nodes_call.answer_area.Statement.{statement}
 use Rattle.rtas.proofs.nodes_call.answer_area.Tie as tie
 
-scan-requires : tie.Need-scan-requires
-scan-requires c κs = search needs
-
-enum-told : tie.Need-enum-told
-enum-told c = search needs
-
-enum-known-judgement : tie.Need-enum-known-judgement
-enum-known-judgement c = search needs
-
 answer-counted-requires : tie.Need-answer-counted-requires
 answer-counted-requires c κs = let s = scanned-counted (byRow (now (c .before .before .before .before .before .before .before .before .before .args .row))) (now (c .before .before .before .before .before .before .before .before .before .args .j)) _ _ (c .before .before .before .judgement .given .1) (c .before .before .before .before .before .before .scan .ensures .0 .0) in
     (c .before .before .before .before .before .before .before .before .before .pre, record { good = s .0; counted = s .1; marked = c .before .before .before .before .before .before .scan .ensures .0 .1 })
@@ -22,20 +13,14 @@ answer-counted-requires c κs = let s = scanned-counted (byRow (now (c .before .
 returns : tie.Need-returns
 returns c = left-malformed (byRow (now (c .before .before .before .before .before .before .args .row))) (now (c .before .before .before .before .before .before .args .j)) (now (c .before .before .before .before .before .before .args .area)) (scanned-malformed (byRow (now (c .before .before .before .before .before .before .args .row))) (now (c .before .before .before .before .before .before .args .j)) _ (c .enum-told .given .1) (c .before .before .before .scan .ensures .0 .0))
 
-same-length : tie.Need-same-length
-same-length c = search needs
-
-returns-2 : tie.Need-returns-2
-returns-2 c = search needs
-
 pub answer-area-spec : {M : Type 1} → statement M
 answer-area-spec =
     tie.close
     (tie.spec
-    scan-requires
-    enum-told
-    enum-known-judgement
+    (λ c κs. search needs)
+    (λ c. search needs)
+    (λ c. search needs)
     answer-counted-requires
     returns
-    same-length
-    returns-2)
+    (λ c. search needs)
+    (λ c. search needs))

@@ -19,12 +19,6 @@ use Rattle.calls.specs.UpdateNodes.{goodState}
 use Rattle.rtas.proofs.nodes_call.answer_counted.Statement.{statement}
 use Rattle.rtas.proofs.nodes_call.answer_counted.Tie as tie
 
-is-reserved-requires : tie.Need-is-reserved-requires
-is-reserved-requires c κs = search needs
-
-same-length : tie.Need-same-length
-same-length c = search needs
-
 -- the tests of the code are those of the definition
 reserved-is : (c : tie.After-is-reserved) → c .is-reserved .result ≡ isReserved (now (c .before .before .before .before .args .area))
 reserved-is c = c .is-reserved .ensures
@@ -33,9 +27,6 @@ returns : tie.Need-returns
 returns c =
     let s = c .before .before .before .before .before in
     left-reserved (byRow (now (s .args .row))) (now (s .args .j)) (now (s .args .area)) (s .pre .1 .good) (sym (reserved-is (c .before)) ∙ not-true _ (c .if1 .taken))
-
-read-requires : tie.Need-read-requires
-read-requires c κs = search needs
 
 is-within-requires : tie.Need-is-within-requires
 is-within-requires c κs = let s = c .before .before .before .before .before .before .before in omega (arith, counts-small (byRow (now (s .args .row))) (now (s .args .j)) (s .args .counts) (s .pre .1 .good) (s .pre .1 .counted))
@@ -54,9 +45,6 @@ within c =
     let s = c .before .before .before .before .before .before .before .before .before in
     rw (c .before .before .read .ensures, s .pre .1 .counted) (rw (← total-is (byRow (now (s .args .row))) (now (s .args .j))) at (state-within (byRow (now (s .args .row))) (now (s .args .j)) (now (s .args .area)) (good-yes c)))
 
-same-length-2 : tie.Need-same-length-2
-same-length-2 c = search needs
-
 returns-2 : tie.Need-returns-2
 returns-2 c =
     let s = c .before .before .before .before .before .before .before .before .before in
@@ -64,9 +52,6 @@ returns-2 c =
 
 write-answer-requires : tie.Need-write-answer-requires
 write-answer-requires c κs = let p = c .before .before .before .before .before .before .before .before .before .before .pre in (p .0, p .1, within (c .before))
-
-same-length-3 : tie.Need-same-length-3
-same-length-3 c = search needs
 
 returns-3 : tie.Need-returns-3
 returns-3 c =
@@ -78,9 +63,6 @@ returns-3 c =
     let e = c .before .before .before .before .before .before .before .read .ensures in
     let l = left-again selection j area (s .pre .1 .good) (reserved-yes (c .before .before .before .before .before)) (good-yes (c .before .before .before .before .before)) (rw e at (sym (w .ensures .0) ∙ c .if3 .taken)) in
     (l .0, w .ensures .1 .0 ∙ ap (written area (reportable selection j)) e ∙ l .1)
-
-same-length-4 : tie.Need-same-length-4
-same-length-4 c = search needs
 
 returns-4 : tie.Need-returns-4
 returns-4 c =
@@ -97,15 +79,15 @@ pub answer-counted-spec : {M : Type 1} → statement M
 answer-counted-spec =
     tie.close
     (tie.spec
-    is-reserved-requires
-    same-length
+    (λ c κs. search needs)
+    (λ c. search needs)
     returns
-    read-requires
+    (λ c κs. search needs)
     is-within-requires
-    same-length-2
+    (λ c. search needs)
     returns-2
     write-answer-requires
-    same-length-3
+    (λ c. search needs)
     returns-3
-    same-length-4
+    (λ c. search needs)
     returns-4)

@@ -5,9 +5,6 @@ use Rattle.calls.specs.UpdateNodes.{placed}
 use Rattle.rtas.proofs.nodes_call.is_placed.Statement.{statement}
 use Rattle.rtas.proofs.nodes_call.is_placed.Tie as tie
 
-add-result : tie.Need-add-result
-add-result c = search needs
-
 returns : tie.Need-returns
 unfolding placed
 returns c = rw (eq-eqb _ _ (c .if1 .taken))
@@ -17,4 +14,4 @@ unfolding placed
 returns-2 c = rw (ne-eqb _ _ (c .if1 .left))
 
 pub is-placed-spec : {M : Type 1} → statement M
-is-placed-spec = tie.close (tie.spec add-result returns returns-2)
+is-placed-spec = tie.close (tie.spec (λ c. search needs) returns returns-2)

@@ -14,44 +14,17 @@ use Rattle.calls.specs.UpdateNodes.{placed}
 use Rattle.rtas.proofs.nodes_call.update_nodes.Statement.{statement}
 use Rattle.rtas.proofs.nodes_call.update_nodes.Tie as tie
 
-is-placed-requires : tie.Need-is-placed-requires
-is-placed-requires c κs = search needs
-
-same-length : tie.Need-same-length
-same-length c = search needs
-
 returns : tie.Need-returns
 returns c = left-unplaced (now (c .before .before .before .before .before .args .memory)) (c .before .before .before .before .before .args .address) (c .before .before .before .before .before .args .scope) (now (c .before .before .before .before .before .args .j)) (sym (c .before .is-placed .ensures) ∙ not-true _ (c .if1 .taken))
 
 placed-yes : (c : tie.Else1) → placed (now (c .before .before .before .before .before .args .memory)) (c .before .before .before .before .before .args .address) ≡ true
 placed-yes c = sym (c .before .is-placed .ensures) ∙ not-false _ (c .if1 .left)
 
-scope-row-requires : tie.Need-scope-row-requires
-scope-row-requires c κs = search needs
-
-same-length-2 : tie.Need-same-length-2
-same-length-2 c = search needs
-
 returns-2 : tie.Need-returns-2
 returns-2 c = left-invalid (now (c .before .before .before .before .before .before .before .before .args .memory)) (c .before .before .before .before .before .before .before .before .args .address) (c .before .before .before .before .before .before .before .before .args .scope) (now (c .before .before .before .before .before .before .before .before .args .j)) (placed-yes (c .before .before .before)) (ap (λ (r : Row). r .valid) (sym (c .before .before .scope-row .ensures .0)) ∙ not-true _ (c .if2 .taken))
 
-add-answer-area : tie.Need-add-answer-area
-add-answer-area c = search needs
-
-sub-answer-area : tie.Need-sub-answer-area
-sub-answer-area c = search needs
-
-part-answer-area-start : tie.Need-part-answer-area-start
-part-answer-area-start c = search needs
-
 part-answer-area-end : tie.Need-part-answer-area-end
 part-answer-area-end c = let h = placed-inside (now (c .before .before .before .before .before .before .before .before .before .args .memory)) (c .before .before .before .before .before .before .before .before .before .args .address) (placed-yes (c .before .before .before .before)) in search needs
-
-answer-area-requires : tie.Need-answer-area-requires
-answer-area-requires c κs = search needs
-
-same-length-3 : tie.Need-same-length-3
-same-length-3 c = search needs
 
 returns-3 : tie.Need-returns-3
 returns-3 c = let sets-are = ap (λ (r : Row). r .sets) (c .before .before .before .before .before .before .before .before .scope-row .ensures .0) in
@@ -62,16 +35,16 @@ pub update-nodes-spec : {M : Type 1} → statement M
 update-nodes-spec =
     tie.close
     (tie.spec
-    is-placed-requires
-    same-length
+    (λ c κs. search needs)
+    (λ c. search needs)
     returns
-    scope-row-requires
-    same-length-2
+    (λ c κs. search needs)
+    (λ c. search needs)
     returns-2
-    add-answer-area
-    sub-answer-area
-    part-answer-area-start
+    (λ c. search needs)
+    (λ c. search needs)
+    (λ c. search needs)
     part-answer-area-end
-    answer-area-requires
-    same-length-3
+    (λ c κs. search needs)
+    (λ c. search needs)
     returns-3)

@@ -7,22 +7,15 @@ use Rattle.words.proofs.Numbers.{le-split}
 use Rattle.words.proofs.reading.read_le64.Statement.{statement}
 use Rattle.words.proofs.reading.read_le64.Tie as tie
 
-add-read-le32 : tie.Need-add-read-le32
-add-read-le32 c = search needs
-
-read-le32-requires : tie.Need-read-le32-requires
-read-le32-requires c κs = search needs
-
-read-le32-requires-2 : tie.Need-read-le32-requires-2
-read-le32-requires-2 c κs = search needs
-
-join8-requires : tie.Need-join8-requires
-join8-requires c κs = search needs
-
 returns : tie.Need-returns
 returns c = c .join8 .ensures ∙ rw (c .before .before .read-le32 .ensures, c .before .read-le322 .ensures) (omega (arith, le-split 4 4 (now (c .before .before .before .before .args .s)) (c .before .before .before .before .args .at)))
 
 pub read-le64-spec : {M : Type 1} → statement M
 read-le64-spec =
     tie.close
-    (tie.spec add-read-le32 read-le32-requires read-le32-requires-2 join8-requires returns)
+    (tie.spec
+    (λ c. search needs)
+    (λ c κs. search needs)
+    (λ c κs. search needs)
+    (λ c κs. search needs)
+    returns)

@@ -6,24 +6,6 @@ use Rattle.dump.proofs.Verdicts.{kept-is, complete-done, complete-regis
 use Rattle.dump.proofs.registration.Registration.complete.Statement.{statement}
 use Rattle.dump.proofs.registration.Registration.complete.Tie as tie
 
-enum-told : tie.Need-enum-told
-enum-told c = search needs
-
-no-registration-requires : tie.Need-no-registration-requires
-no-registration-requires c κs = search needs
-
-enum-told-2 : tie.Need-enum-told-2
-enum-told-2 c = search needs
-
-kept-requires : tie.Need-kept-requires
-kept-requires c κs = search needs
-
-enum-told-3 : tie.Need-enum-told-3
-enum-told-3 c = search needs
-
-kept-requires-2 : tie.Need-kept-requires-2
-kept-requires-2 c κs = search needs
-
 returns : tie.Need-returns
 returns c = rw (c .no-registration .ensures) (sym (complete-done [] 0 0 _ (c .before .enum-told .given .1)))
 
@@ -37,12 +19,12 @@ pub complete-spec : {M : Type 1} → statement M
 complete-spec =
     tie.close
     (tie.spec
-    enum-told
-    no-registration-requires
-    enum-told-2
-    kept-requires
-    enum-told-3
-    kept-requires-2
+    (λ c. search needs)
+    (λ c κs. search needs)
+    (λ c. search needs)
+    (λ c κs. search needs)
+    (λ c. search needs)
+    (λ c κs. search needs)
     returns
     returns-2
     returns-3)

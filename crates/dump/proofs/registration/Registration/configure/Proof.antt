@@ -5,26 +5,14 @@ use Rattle.dump.proofs.Verdicts.{kept-is, unregister-ignores, complete-
 use Rattle.dump.proofs.registration.Registration.configure.Statement.{statement}
 use Rattle.dump.proofs.registration.Registration.configure.Tie as tie
 
-register-requires : tie.Need-register-requires
-register-requires c κs = search needs
-
 returns : tie.Need-returns
 returns c = rw (c .before .if1 .taken) (c .register .ensures)
-
-unregister-requires : tie.Need-unregister-requires
-unregister-requires c κs = search needs
 
 returns-2 : tie.Need-returns-2
 returns-2 c = rw (c .before .if2 .taken) (c .unregister .ensures ∙ sym (unregister-ignores _ _ _ _))
 
-complete-requires : tie.Need-complete-requires
-complete-requires c κs = search needs
-
 returns-3 : tie.Need-returns-3
 returns-3 c = rw (c .before .if3 .taken) (c .complete .ensures ∙ sym (complete-ignores _ _ _ _))
-
-kept-requires : tie.Need-kept-requires
-kept-requires c κs = search needs
 
 returns-4 : tie.Need-returns-4
 returns-4 c = kept-is _ _ _ (c .kept .ensures) ∙ sym (other-refused _ _ _ _ _ (c .before .before .before .if1 .left) (c .before .before .if2 .left) (c .before .if3 .left))
@@ -33,11 +21,11 @@ pub configure-spec : {M : Type 1} → statement M
 configure-spec =
     tie.close
     (tie.spec
-    register-requires
+    (λ c κs. search needs)
     returns
-    unregister-requires
+    (λ c κs. search needs)
     returns-2
-    complete-requires
+    (λ c κs. search needs)
     returns-3
-    kept-requires
+    (λ c κs. search needs)
     returns-4)

@@ -9,41 +9,11 @@ use Rattle.dump.proofs.Verdicts.{acceptable-short, acceptable-inside, r
 use Rattle.dump.proofs.registration.Registration.register.Statement.{statement}
 use Rattle.dump.proofs.registration.Registration.register.Tie as tie
 
-enum-told : tie.Need-enum-told
-enum-told c = search needs
-
-kept-requires : tie.Need-kept-requires
-kept-requires c κs = search needs
-
-enum-told-2 : tie.Need-enum-told-2
-enum-told-2 c = search needs
-
-kept-requires-2 : tie.Need-kept-requires-2
-kept-requires-2 c κs = search needs
-
-enum-told-3 : tie.Need-enum-told-3
-enum-told-3 c = search needs
-
-is-acceptable-requires : tie.Need-is-acceptable-requires
-is-acceptable-requires c κs = search needs
-
-kept-requires-3 : tie.Need-kept-requires-3
-kept-requires-3 c κs = search needs
-
 returns : tie.Need-returns
 returns c = kept-is _ _ _ (c .kept3 .ensures) ∙ sym (register-refused _ _ _ _ (c .before .before .before .enum-told3 .given .1) (sym (c .before .before .is-acceptable .ensures) ∙ not-true _ (c .before .if1 .taken)))
 
 good : (c : tie.Else1) → acceptable (now (c .before .before .before .before .before .args .memory)) (c .before .before .before .before .before .args .address) (c .before .before .before .before .before .args .len) ≡ true
 good c = sym (c .before .is-acceptable .ensures) ∙ not-false _ (c .if1 .left)
-
-add-copied : tie.Need-add-copied
-add-copied c = search needs
-
-sub-copied : tie.Need-sub-copied
-sub-copied c = search needs
-
-part-copied-start : tie.Need-part-copied-start
-part-copied-start c = search needs
 
 part-copied-end : tie.Need-part-copied-end
 part-copied-end c = let h = acceptable-inside _ _ _ (good c) in search needs
@@ -64,17 +34,17 @@ pub register-spec : {M : Type 1} → statement M
 register-spec =
     tie.close
     (tie.spec
-    enum-told
-    kept-requires
-    enum-told-2
-    kept-requires-2
-    enum-told-3
-    is-acceptable-requires
-    kept-requires-3
+    (λ c. search needs)
+    (λ c κs. search needs)
+    (λ c. search needs)
+    (λ c κs. search needs)
+    (λ c. search needs)
+    (λ c κs. search needs)
+    (λ c κs. search needs)
     returns
-    add-copied
-    sub-copied
-    part-copied-start
+    (λ c. search needs)
+    (λ c. search needs)
+    (λ c. search needs)
     part-copied-end
     copied-requires
     returns-2
