@@ -1,6 +1,6 @@
 -- What the judgement of a journal tells of its reportable list, and that of an inventory of its entries, as a number.
-use mathlib.Core.Path.{_≡_, refl, ap, _∙_}
-use mathlib.Core.Bool.{Bool, true, false, cond}
+use mathlib.Core.Path.{_≡_, ap, _∙_}
+use mathlib.Core.Bool.{false, cond}
 use mathlib.Core.List.{List, _++_}
 use Prim.Native.Nat.{ℕ, _+_, _≤_}
 use native.Mathlib.Omega.{arith}
@@ -9,13 +9,13 @@ use Rattle.journal.specs.Scope.{Selection}
 use Rattle.journal.specs.declared.scanning.Judgement.{Judgement}
 use Rattle.journal.specs.declared.scanning.Judgement.the-variants.{Malformed, Counted}
 use Rattle.journal.specs.Journal.{entries, wellFormed}
-use Rattle.journal.specs.Reportable.{chosen, reportable, countsOf, judgementOf}
+use Rattle.journal.specs.Reportable.{chosen, reportable, judgementOf}
 use Rattle.inventory.specs.declared.scanning.Judgement as inventory-judgement
 use Rattle.inventory.specs.declared.scanning.Judgement.the-variants as inventory-variants
 use Rattle.inventory.specs.Inventory as inventory
 use Rattle.inventory.specs.Scanning.{ScanFinds}
 use Rattle.bench.specs.Bench.{listedOf}
-use Rattle.words.proofs.Choice.{choose}
+use Rattle.words.proofs.Choice.{choose, decide}
 use Rattle.journal.proofs.Entries.{operations-few}
 use Rattle.journal.proofs.Walks.{within-limit}
 
@@ -34,11 +34,9 @@ Light (Counted c) = c .deletes + c .updates + c .additions ≤ 3145728
 module _ (sel : Selection) (j : List ℕ) where
   pub total-is : total (judgementOf sel j) ≡ cond (wellFormed j) (length (reportable sel j)) 18446744073709551615
   unfolding judgementOf reportable
-  total-is = go (wellFormed j)
-    where
-      go : (t : Bool) → total (cond t (Counted (countsOf sel j)) Malformed) ≡ cond t (length (chosen sel 1 (entries j) ++ (chosen sel 2 (entries j) ++ chosen sel 3 (entries j)))) 18446744073709551615
-      go true = omega (arith, length-append (chosen sel 1 (entries j)) (chosen sel 2 (entries j) ++ chosen sel 3 (entries j)), length-append (chosen sel 2 (entries j)) (chosen sel 3 (entries j)))
-      go false = refl
+  total-is = decide (wellFormed j)
+      (λ t. rw t (omega (arith, length-append (chosen sel 1 (entries j)) (chosen sel 2 (entries j) ++ chosen sel 3 (entries j)), length-append (chosen sel 2 (entries j)) (chosen sel 3 (entries j)))))
+      (λ t. rw t)
 
   pub light : Light (judgementOf sel j)
   unfolding judgementOf

@@ -11,7 +11,7 @@ use lib.ListN.{length, drop-of-length-le}
 use lib.Seq.{slice, take-length}
 use borrow.Author.Tests.{le-ltb, leb-true}
 use Rattle.words.specs.Nul.{untilNul}
-use Rattle.words.proofs.Choice.{and-left, and-right}
+use Rattle.words.proofs.Choice.{decide, and-left, and-right}
 use Rattle.dump.specs.Structure.{headerSize, sectionSize, sectionLimit, version, sections, statusFlags, firstSection, sectionsEnd, pathOffset, goodHeader, eachSection, goodPath, goodStructure}
 
 -- ---- sections one after the other
@@ -48,11 +48,7 @@ header-bounds s h =
 -- without a header there is no room for sections behind the header
 pub short-structure : (s : List ℕ) → length s < headerSize → goodStructure s ≡ false
 unfolding goodStructure
-short-structure s h = go (goodHeader s) _ refl
-  where
-    go : (t b : Bool) → goodHeader s ≡ t → (t && b) ≡ false
-    go true b e = absurd (omega (arith, header-bounds s e))
-    go false b e = refl
+short-structure s h = decide (goodHeader s) (λ e. absurd (omega (arith, header-bounds s e))) (λ e. rw e)
 
 -- ---- the path
 

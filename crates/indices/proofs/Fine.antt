@@ -1,6 +1,6 @@
 -- Laws of sets that have no fault: where their codes end, and the sets behind them.
 use mathlib.Core.Path.{_≡_, refl, sym, ap, _∙_}
-use mathlib.Core.Bool.{Bool, true, false, cond, not}
+use mathlib.Core.Bool.{true}
 use mathlib.Core.List.{List, [], _∷_}
 use Prim.Native.Nat.{ℕ, zero, suc, _+_, _-_, _%_, _<_, _≤_}
 use native.Mathlib.Omega.{arith}
@@ -11,16 +11,15 @@ use borrow.Author.Tests.{eq-eqb, eqb-true, leb-true, leb-false}
 use Rattle.words.specs.Numbers.{be32, zeros}
 use Rattle.words.specs.Nul.{untilNul}
 use Rattle.words.specs.Reading.{Reading, read, refused}
-use Rattle.words.proofs.Choice.{and-left, and-right}
+use Rattle.words.proofs.Choice.{choose, decide, and-left, and-right}
 use Rattle.inventory.specs.Listing.{Entry}
 use Rattle.indices.specs.declared.reading.Refusal.{Refusal}
-use Rattle.indices.specs.declared.reading.Refusal.the-variants.{Short, Past, Length, Code}
 use Rattle.indices.specs.declared.reading.Fault.{Fault}
 use Rattle.indices.specs.declared.reading.Fault.the-variants.{Fine, Bad}
 use Rattle.indices.specs.declared.reading.Check.the-variants.{Entries}
 use Rattle.indices.specs.Area.{fieldLimit}
 use Rattle.indices.specs.Reading.{lengthAt, fieldAt, goodLength, goodField, faultAt, entryAt, withEntry, judgedBy, readFrom, reading, checkOf}
-use Rattle.indices.proofs.IndexLaws.{fine-inside}
+use Rattle.indices.proofs.IndexLaws.{judged, fine-inside}
 
 -- ---- the code and the NULs of a field
 
@@ -29,11 +28,7 @@ code-byte : (f : List ℕ) (i : ℕ) → i < length (untilNul f) → getD f i 0 
 unfolding untilNul
 code-byte [] i h e = omega arith
 code-byte (b ∷ bs) zero h e = let k = rw (eq-eqb b 0 e) at h in omega arith
-code-byte (b ∷ bs) (suc i) h e = go (eqb b 0) (λ k. code-byte bs i k e) h
-  where
-    go : (t : Bool) → (i < length (untilNul bs) → ⊥) → suc i < length (cond t [] (b ∷ untilNul bs)) → ⊥
-    go true none k = omega arith
-    go false none k = none (omega arith)
+code-byte (b ∷ bs) (suc i) h e = choose (eqb b 0) (λ (l : List ℕ). suc i < length l → ⊥) (λ _ k. omega arith) (λ _ k. code-byte bs i (omega arith) e) h
 
 zeros-byte : (l : List ℕ) (i : ℕ) → zeros l ≡ true → getD l i 0 ≡ 0
 unfolding zeros
@@ -62,31 +57,15 @@ good f e =
 -- a byte of a good field is a NUL just behind the code
 module _ (f : List ℕ) (g : Good f) (i : ℕ) where
   nul-behind : getD f i 0 ≡ 0 → length (untilNul f) ≤ i
-  nul-behind e = go (leb (length (untilNul f)) i) refl
-    where
-      go : (t : Bool) → leb (length (untilNul f)) i ≡ t → length (untilNul f) ≤ i
-      go true h = leb-true (length (untilNul f)) i h
-      go false h = absurd (code-byte f i (leb-false (length (untilNul f)) i h) e)
+  nul-behind e = let n = length (untilNul f) in decide (leb n i) (leb-true n i) (λ h. absurd (code-byte f i (leb-false n i h) e))
 
   other-before : (getD f i 0 ≡ 0 → ⊥) → i < length (untilNul f)
-  other-before e = go (leb (length (untilNul f)) i) refl
-    where
-      go : (t : Bool) → leb (length (untilNul f)) i ≡ t → i < length (untilNul f)
-      go false h = leb-false (length (untilNul f)) i h
-      go true h =
-          let n = length (untilNul f) in
-          let le : n ≤ i = leb-true n i h in
-          let place : n + (i - n) ≡ i = omega arith in
-          absurd (e (rw (getD-drop n f (i - n) 0, place) at (zeros-byte (drop n f) (i - n) (g .nuls))))
+  other-before e =
+      let n = length (untilNul f) in
+      let zero-at : n ≤ i → getD f (n + (i - n)) 0 ≡ 0 = λ _. rw (getD-drop n f (i - n) 0) at (zeros-byte (drop n f) (i - n) (g .nuls)) in
+      decide (leb n i) (λ h. let le = leb-true n i h in let place : n + (i - n) ≡ i = omega arith in absurd (e (rw place at (zero-at le)))) (leb-false n i)
 
 -- ---- a set with no fault
-
-fine-judged : (a b c d : Bool) → cond a (Bad Past) (cond (not b) (Bad Length) (cond c (Bad Past) (cond (not d) (Bad Code) Fine))) ≡ Fine → (b ≡ true) × (d ≡ true)
-fine-judged true b c d h = (cc, cc)
-fine-judged false false c d h = (cc, cc)
-fine-judged false true true d h = (refl, cc)
-fine-judged false true false false h = (refl, cc)
-fine-judged false true false true h = (refl, refl)
 
 good-length : (n : ℕ) → goodLength n ≡ true → 4 ≤ n
 unfolding goodLength
@@ -96,12 +75,11 @@ good-length n e =
     omega arith
 
 module _ (area : List ℕ) (at : ℕ) (fine : faultAt area at ≡ Fine) where
-  judged : (goodLength (lengthAt area at) ≡ true) × (goodField (fieldAt area at) ≡ true)
-  unfolding faultAt
-  judged = fine-judged (ltb (length area - at) 8) (goodLength (lengthAt area at)) (ltb (length area - at) (8 + lengthAt area at)) (goodField (fieldAt area at)) fine
+  field : Good (fieldAt area at)
+  field = good (fieldAt area at) (judged area at fine .2)
 
   pub fine-some : 4 ≤ lengthAt area at
-  fine-some = good-length (lengthAt area at) (judged .0)
+  fine-some = good-length (lengthAt area at) (judged area at fine .0)
 
   field-size : length (fieldAt area at) ≡ lengthAt area at
   unfolding fieldAt
@@ -113,7 +91,7 @@ module _ (area : List ℕ) (at : ℕ) (fine : faultAt area at ≡ Fine) where
 
   -- one to four NULs follow the code
   pub code-ends : (length (untilNul (fieldAt area at)) + 1 ≤ lengthAt area at) × (lengthAt area at ≤ length (untilNul (fieldAt area at)) + 4)
-  code-ends = let g = good (fieldAt area at) (judged .1) in rw (← field-size) (g .ended, g .near)
+  code-ends = rw (← field-size) (field .ended, field .near)
 
   -- a byte of the field by its place in the area
   module _ (place : ℕ) (from : at + 8 ≤ place) (to : place < at + 8 + lengthAt area at) where
@@ -121,10 +99,10 @@ module _ (area : List ℕ) (at : ℕ) (fine : faultAt area at ≡ Fine) where
     there = let same : at + 8 + (place - (at + 8)) ≡ place = omega arith in rw same at (field-byte (place - (at + 8)) (omega arith))
 
     pub nul-place : getD area place 0 ≡ 0 → at + 8 + length (untilNul (fieldAt area at)) ≤ place
-    nul-place e = omega (arith, nul-behind (fieldAt area at) (good _ (judged .1)) (place - (at + 8)) (there ∙ e))
+    nul-place e = omega (arith, nul-behind (fieldAt area at) field (place - (at + 8)) (there ∙ e))
 
     pub code-place : (getD area place 0 ≡ 0 → ⊥) → place < at + 8 + length (untilNul (fieldAt area at))
-    code-place e = omega (arith, other-before (fieldAt area at) (good _ (judged .1)) (place - (at + 8)) (λ k. e (sym there ∙ k)))
+    code-place e = omega (arith, other-before (fieldAt area at) field (place - (at + 8)) (λ k. e (sym there ∙ k)))
 
 -- ---- sets with no fault, one after the other
 
@@ -168,8 +146,5 @@ reads-all (suc n) (suc m) area at h = ap suc (reads-all n m area (at + (8 + leng
 -- the first sets of an area that a check passes
 pub area-reads : (area : List ℕ) (n k : ℕ) → checkOf (reading area) ≡ Entries n → k ≤ n → Reads k area 4
 unfolding reading
-area-reads area n k h l = go (ltb (length area) 4) h
-  where
-    go : (t : Bool) → checkOf (cond t (refused Short 0) (readFrom (be32 area 0) area 4)) ≡ Entries n → Reads k area 4
-    go true e = cc
-    go false e = let same : be32 area 0 ≡ n = reads-all (be32 area 0) n area 4 e in reads-fewer k n area 4 l (rw same at e)
+area-reads area n k h l = decide (ltb (length area) 4) (λ t. let e = rw t at h in cc)
+    (λ t. let e = rw t at h in let same : be32 area 0 ≡ n = reads-all (be32 area 0) n area 4 e in reads-fewer k n area 4 l (rw same at e))

@@ -12,6 +12,7 @@ use lib.Seq.{take-length, take-nil, drop-nil, take-take, drop-drop, slice, lengt
 use borrow.Author.Tests.{eq-eqb, ne-eqb, ltb-false, lt-ltb, le-ltb, le-leb, lt-leb}
 use Rattle.words.specs.Numbers.{be32, zeros}
 use Rattle.words.specs.Nul.{untilNul}
+use Rattle.words.proofs.Choice.{choose, decide}
 use Rattle.inventory.specs.Listing.{Entry}
 use Rattle.indices.specs.declared.reading.Refusal.{Refusal}
 use Rattle.indices.specs.declared.reading.Refusal.the-variants.{Short, Past, Length, Code}
@@ -31,20 +32,12 @@ use Rattle.indices.specs.Cursor.{entriesFrom, remaining, Gives, nextOf, 
 code-short : (f : List ℕ) → length (untilNul f) ≤ length f
 unfolding untilNul
 code-short [] = omega arith
-code-short (b ∷ bs) = go (eqb b 0) (code-short bs)
-  where
-    go : (t : Bool) → length (untilNul bs) ≤ length bs → length (cond t [] (b ∷ untilNul bs)) ≤ suc (length bs)
-    go true h = omega arith
-    go false h = omega arith
+code-short (b ∷ bs) = choose (eqb b 0) (λ (l : List ℕ). length l ≤ suc (length bs)) (λ _. omega arith) (λ _. omega (arith, code-short bs))
 
 code-front : (f : List ℕ) → untilNul f ≡ take (length (untilNul f)) f
 unfolding untilNul
 code-front [] = refl
-code-front (b ∷ bs) = go (eqb b 0) (code-front bs)
-  where
-    go : (t : Bool) → untilNul bs ≡ take (length (untilNul bs)) bs → cond t [] (b ∷ untilNul bs) ≡ take (length (cond t [] (b ∷ untilNul bs))) (b ∷ bs)
-    go true e = refl
-    go false e = ap (λ (l : List ℕ). b ∷ l) e
+code-front (b ∷ bs) = choose (eqb b 0) (λ (l : List ℕ). l ≡ take (length l) (b ∷ bs)) (λ _. refl) (λ _. ap (λ (l : List ℕ). b ∷ l) (code-front bs))
 
 -- the judgement on a field whose code ends at a place
 module _ (s : List ℕ) (from to end : ℕ) (fits : (from ≤ to) × (to ≤ length s)) (found : end ≡ from + length (untilNul (slice from to s))) where
@@ -107,16 +100,21 @@ code-part area at =
 
 -- ---- the check of an area from a place on
 
--- a set with no fault is inside the area
-fault-none : (a b c d : Bool) → cond a (Bad Past) (cond (not b) (Bad Length) (cond c (Bad Past) (cond (not d) (Bad Code) Fine))) ≡ Fine → c ≡ false
-fault-none true b c d h = cc
-fault-none false false c d h = cc
-fault-none false true true d h = cc
-fault-none false true false d h = refl
+-- a set with no fault has a good length, is inside the area, and has a good field
+fine-judged : (a b c d : Bool) → cond a (Bad Past) (cond (not b) (Bad Length) (cond c (Bad Past) (cond (not d) (Bad Code) Fine))) ≡ Fine → (b ≡ true) × (c ≡ false) × (d ≡ true)
+fine-judged true b c d h = (cc, cc, cc)
+fine-judged false false c d h = (cc, cc, cc)
+fine-judged false true true d h = (refl, cc, cc)
+fine-judged false true false false h = (refl, refl, cc)
+fine-judged false true false true h = (refl, refl, refl)
 
-pub fine-inside : (area : List ℕ) (at : ℕ) → faultAt area at ≡ Fine → 8 + lengthAt area at ≤ length area - at
-unfolding faultAt
-fine-inside area at e = ltb-false (length area - at) (8 + lengthAt area at) (fault-none (ltb (length area - at) 8) (goodLength (lengthAt area at)) (ltb (length area - at) (8 + lengthAt area at)) (goodField (fieldAt area at)) e)
+module _ (area : List ℕ) (at : ℕ) (fine : faultAt area at ≡ Fine) where
+  pub judged : (goodLength (lengthAt area at) ≡ true) × (ltb (length area - at) (8 + lengthAt area at) ≡ false) × (goodField (fieldAt area at) ≡ true)
+  unfolding faultAt
+  judged = fine-judged (ltb (length area - at) 8) (goodLength (lengthAt area at)) (ltb (length area - at) (8 + lengthAt area at)) (goodField (fieldAt area at)) fine
+
+  pub fine-inside : 8 + lengthAt area at ≤ length area - at
+  fine-inside = ltb-false (length area - at) (8 + lengthAt area at) (judged .1)
 
 -- the sets that are left, by the first of them
 read-next : (n : ℕ) (area : List ℕ) (at : ℕ) → 0 < n → readFrom n area at ≡ judgedBy (faultAt area at) at (withEntry (entryAt area at) (readFrom (n - 1) area (at + (8 + lengthAt area at))))
@@ -202,12 +200,7 @@ module _ (area : List ℕ) (c : Cursor) where
 step-gives : (area : List ℕ) (at left : ℕ) → Gives area (entriesFrom left area at) (nextOf area (record { at = at; left = left }))
 unfolding nextOf remaining entriesFrom
 step-gives area at zero = refl
-step-gives area at (suc n) = rw (eqb·suc-zero n) (go (ltb (length area - at) 8))
-  where
-    go : (t : Bool) → Gives area (cond t [] (entryAt area at ∷ entriesFrom n area (at + (8 + lengthAt area at))))
-        (cond t End (Found (record { index = be32 area at; start = at + 8; length = length (untilNul (fieldAt area at)) }) (record { at = at + (8 + lengthAt area at); left = suc n - 1 })))
-    go true = refl
-    go false = rw (sub-one (suc n), ← code-part area at)
+step-gives area at (suc n) = rw (eqb·suc-zero n) (decide (ltb (length area - at) 8) (λ t. rw t refl) (λ t. rw (t, sub-one (suc n), ← code-part area at)))
 
 pub steps-give : StepsGive
 unfolding remaining
@@ -229,8 +222,4 @@ in-order (suc n) area at es e =
 
 pub entries-in-order : EntriesInOrder
 unfolding reading remaining
-entries-in-order area es e = go (ltb (length area) 4) e
-  where
-    go : (t : Bool) → cond t (refused Short 0) (readFrom (be32 area 0) area 4) ≡ read es → entriesFrom (cond t 0 (be32 area 0)) area 4 ≡ es
-    go true h = cc
-    go false h = in-order (be32 area 0) area 4 es h
+entries-in-order area es e = decide (ltb (length area) 4) (λ t. let h = rw t at e in rw t (cc)) (λ t. rw t (in-order (be32 area 0) area 4 es (rw t at e)))

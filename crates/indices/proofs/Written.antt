@@ -1,6 +1,6 @@
 -- Laws of the written index area: it reads back.
 use mathlib.Core.Path.{_≡_, refl, sym, ap, _∙_}
-use mathlib.Core.Bool.{Bool, true, false, cond, not, _&&_}
+use mathlib.Core.Bool.{true, false}
 use mathlib.Core.List.{List, [], _∷_, _++_, append-assoc}
 use Prim.Native.Nat.{ℕ, zero, suc, _+_, _-_, _%_, _≤_, _<_}
 use native.Mathlib.Nat.{add-zero, mod-eq-of-lt}
@@ -11,7 +11,7 @@ use lib.Seq.{drop-at, take-at, drop-drop}
 use borrow.Author.Tests.{le-leb, le-ltb, leb-true, eq-eqb}
 use Rattle.words.specs.Numbers.{be, be32, beBytes, zeros}
 use Rattle.words.specs.Nul.{untilNul}
-use Rattle.words.proofs.Choice.{choose, and-left, and-right}
+use Rattle.words.proofs.Choice.{choose, decide, and-left, and-right}
 use Rattle.words.proofs.Numbers.{be-drop, be-bytes, length-beBytes}
 use Rattle.inventory.specs.Inventory.{nonZero, goodCode, codeLimit}
 use Rattle.inventory.specs.Listing.{Entry, listed}
@@ -45,11 +45,7 @@ code-back : (code : List ℕ) (n : ℕ) → nonZero code ≡ true → 1 ≤ n �
 unfolding untilNul nonZero
 code-back [] zero h p = absurd (omega arith)
 code-back [] (suc n) h p = refl
-code-back (b ∷ bs) n h p = go (eqb b 0) (λ e. code-back bs n e p) h
-  where
-    go : (t : Bool) → (nonZero bs ≡ true → untilNul (bs ++ replicate n 0) ≡ bs) → (not t && nonZero bs) ≡ true → cond t [] (b ∷ untilNul (bs ++ replicate n 0)) ≡ b ∷ bs
-    go true rest e = cc
-    go false rest e = ap (λ (l : List ℕ). b ∷ l) (rest e)
+code-back (b ∷ bs) n h p = decide (eqb b 0) (λ t. let e = rw t at h in cc) (λ t. rw t (ap (λ (l : List ℕ). b ∷ l) (code-back bs n (rw t at h) p)))
 
 module _ (code : List ℕ) (good : goodCode code ≡ true) where
   some : 1 ≤ length code

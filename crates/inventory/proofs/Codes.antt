@@ -1,6 +1,5 @@
 -- Zero bytes of a location code, and the code of a record as a part of the inventory.
 use mathlib.Core.Path.{_≡_, refl, sym}
-use mathlib.Core.Bool.{Bool, true, false, cond, _&&_, not}
 use mathlib.Core.List.{List, [], _∷_}
 use Prim.Native.Nat.{ℕ, _+_, _<_, _≤_}
 use native.Mathlib.Nat.{zero-add}
@@ -10,6 +9,7 @@ use lib.Dec.{eqb}
 use lib.ListN.{length, getD, take, drop}
 use lib.Seq.{slice, slice-cons, slice-empty, take-add, drop-append-add, length-take-le}
 use borrow.Author.Tests.{ne-eqb}
+use Rattle.words.proofs.Choice.{decide}
 use Rattle.records.proofs.Choosing.{one-if}
 use Rattle.inventory.specs.Inventory.{codeLimit, nonZero}
 use Rattle.inventory.specs.Judging.{zeroCount}
@@ -36,11 +36,7 @@ zero-count-end s i to e = rw (e, slice-empty to s)
 pub non-zero-is : (s : List ℕ) → nonZero s ≡ eqb (zeroCount s) 0
 unfolding nonZero zeroCount
 non-zero-is [] = refl
-non-zero-is (b ∷ bs) = go (eqb b 0) (non-zero-is bs)
-  where
-    go : (t : Bool) → nonZero bs ≡ eqb (zeroCount bs) 0 → (not t && nonZero bs) ≡ eqb (cond t 1 0 + zeroCount bs) 0
-    go true e = sym (ne-eqb (1 + zeroCount bs) 0 (λ q. omega arith))
-    go false e = rw zero-add e
+non-zero-is (b ∷ bs) = decide (eqb b 0) (λ t. rw t (sym (ne-eqb (1 + zeroCount bs) 0 (λ q. omega arith)))) (λ t. rw (t, zero-add) (non-zero-is bs))
 
 -- a part of what stands behind a place is a part of the whole
 pub drop-part : (s : List ℕ) (at k size : ℕ) → at ≤ length s → drop k (take size (drop at s)) ≡ slice (at + k) (at + size) s

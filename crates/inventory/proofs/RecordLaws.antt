@@ -1,6 +1,6 @@
 -- What is known of the record at a place by its size, kind, flag and zero bytes.
-use mathlib.Core.Path.{_≡_, refl, sym, ap, _∙_}
-use mathlib.Core.Bool.{Bool, true, false, cond, _&&_, and-false, and-assoc}
+use mathlib.Core.Path.{_≡_, sym, ap, _∙_}
+use mathlib.Core.Bool.{Bool, true, false, _&&_, and-false, and-assoc}
 use mathlib.Core.List.{List}
 use Prim.Native.Nat.{ℕ, _+_, _-_, _<_, _≤_}
 use native.Mathlib.Omega.{arith}
@@ -9,10 +9,10 @@ use lib.ListN.{length, drop, length-drop}
 use lib.Seq.{slice, length-take-le}
 use borrow.Author.Tests.{le-leb, leb-true}
 use Rattle.words.specs.Numbers.{le}
-use Rattle.words.proofs.Choice.{and-left, and-right}
+use Rattle.words.proofs.Choice.{decide, and-left, and-right}
 use Rattle.records.specs.Records.{lengthOf, kindOf, sizeOf, firstRecord, whole}
 use Rattle.records.proofs.Steps.{field-at, record-length, record-kind, whole-at}
-use Rattle.inventory.specs.Inventory.{codeLimit, headSize, flagOf, typeOf, codeOf, goodNumbers, goodHead, goodCode, goodRecord}
+use Rattle.inventory.specs.Inventory.{codeLimit, headSize, flagOf, typeOf, codeOf, goodHead, goodCode, goodRecord}
 use Rattle.inventory.specs.Judging.{zeroCount, framedAt, goodSize, Readable}
 use Rattle.inventory.specs.Listing.{matches}
 use Rattle.inventory.proofs.Codes.{non-zero-is, drop-part}
@@ -44,13 +44,9 @@ module _ (s : List ℕ) (at : ℕ) where
   -- the head
   pub head-here : (whole here && goodHead here) ≡ framedHere
   unfolding goodHead flagOf
-  head-here = rw record-length (go (leb (headSize + 1) size) refl)
-    where
-      go : (t : Bool) → leb (headSize + 1) size ≡ t → (whole here && goodNumbers size (kindOf here) (le 2 here 4)) ≡ framedHere
-      go true e =
-          let large = leb-true (headSize + 1) size e in
-          rw (whole-at s at, le-leb 2 (lengthOf (drop at s)) (omega arith), record-kind s at (omega arith), field-at s at 2 4 (omega arith))
-      go false e = rw e (simp and-false)
+  head-here = rw record-length (decide (leb (headSize + 1) size)
+      (λ e. let large = leb-true (headSize + 1) size e in rw (whole-at s at, le-leb 2 (lengthOf (drop at s)) (omega arith), record-kind s at (omega arith), field-at s at 2 4 (omega arith)))
+      (λ e. rw e (simp and-false)))
 
   -- a record with a head that passes can be read
   framed-readable : framedHere ≡ true → Readable s at
@@ -74,19 +70,11 @@ module _ (s : List ℕ) (at : ℕ) where
 
   good-here : goodHere ≡ (framedHere && eqb zerosHere 0)
   unfolding goodRecord
-  good-here = sym (and-assoc (whole here) (goodHead here) (goodCode (codeOf here))) ∙ rw head-here (go framedHere refl)
-    where
-      go : (t : Bool) → framedHere ≡ t → (t && goodCode (codeOf here)) ≡ (t && eqb zerosHere 0)
-      go true e = code-good (framed-readable e)
-      go false e = refl
+  good-here = sym (and-assoc (whole here) (goodHead here) (goodCode (codeOf here))) ∙ rw head-here (decide framedHere (λ e. rw (code-good (framed-readable e))) (λ e. rw e))
 
   -- too few bytes for any record
   pub short-bad : length s - at < headSize + 1 → goodHere ≡ false
-  short-bad h = good-here ∙ go framedHere refl
-    where
-      go : (t : Bool) → framedHere ≡ t → (t && eqb zerosHere 0) ≡ false
-      go true e = absurd (omega (arith, framed-readable e))
-      go false e = refl
+  short-bad h = good-here ∙ decide framedHere (λ e. absurd (omega (arith, framed-readable e))) (λ e. rw e)
 
   -- by the numbers that the code read, its test of them, and the zero bytes that it counted
   pub good-read : (n kind flag zeros : ℕ) (t : Bool) → n ≡ size → kind ≡ kindOf (drop at s) → flag ≡ le 2 s (at + 4)
@@ -102,11 +90,7 @@ module _ (s : List ℕ) (at : ℕ) where
 
   -- where it is 0
   pub none-stands : (n : ℕ) → n ≡ goodSize (drop at s) → n ≡ 0 → goodHere ≡ false
-  none-stands n e z = go goodHere e
-    where
-      go : (t : Bool) → n ≡ cond t size 0 → t ≡ false
-      go true p = absurd (omega arith)
-      go false p = refl
+  none-stands n e z = decide goodHere (λ t. let p = rw t at e in absurd (omega arith)) (λ t. t)
 
   -- the flag and type of a record that holds them
   pub matches-at : (flag type : ℕ) → 10 ≤ size → matches flag type here ≡ (eqb (le 2 s (at + 4)) flag && eqb (le 4 s (at + 6)) type)
@@ -130,8 +114,4 @@ pub readable : {s : List ℕ} {at n : ℕ} → Stands s at n → Readable s at
 readable g = record { large = omega arith; small = omega arith; inside = omega arith }
 
 pub stands : {s : List ℕ} {at n : ℕ} → n ≡ goodSize (drop at s) → (n ≡ 0 → ⊥) → Stands s at n
-stands {s} {at} {n} e z = go (goodHere s at) refl
-  where
-    go : (t : Bool) → goodHere s at ≡ t → Stands s at n
-    go true g = good-stands g (e ∙ rw g)
-    go false g = absurd (z (e ∙ rw g))
+stands {s} {at} e z = decide (goodHere s at) (λ g. good-stands g (e ∙ rw g)) (λ g. absurd (z (e ∙ rw g)))

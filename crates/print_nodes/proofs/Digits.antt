@@ -1,6 +1,5 @@
 -- The digits that `io` makes are those of the text.
 use mathlib.Core.Path.{_≡_, refl, ap, _∙_}
-use mathlib.Core.Bool.{Bool, true, false}
 use mathlib.Core.List.{[], _∷_}
 use Prim.Native.Nat.{ℕ, zero, suc, _+_, _-_, _/_, _%_, _^_, _≤_, _<_}
 use native.Mathlib.Nat.{mod-eq-of-lt, pow-suc, one-le-pow, pow-le-pow-right}
@@ -8,6 +7,7 @@ use native.Mathlib.Numerals.{sub-one}
 use native.Mathlib.Omega.{arith}
 use lib.Dec.{ltb}
 use borrow.Author.Tests.{lt-ltb, le-ltb, ltb-true, ltb-false}
+use Rattle.words.proofs.Choice.{decide}
 use Rattle.io.specs.Digits.{Fewest, digits as io·digits}
 use Rattle.print_nodes.specs.Text.{digits, decimal, hexDigits, hex}
 
@@ -29,11 +29,9 @@ fewest (suc f) (suc (suc k)) v h w =
 
 -- a number below the n-th power has no more than n digits, or the least that is asked
 short : (b least v k n : ℕ) → 0 < b → least ≤ n → v < b ^ n → Fewest b least v k → k ≤ n
-short b least v k n some l h w = ltb-false n k (no (ltb n k) refl)
-  where
-    no : (t : Bool) → ltb n k ≡ t → ltb n k ≡ false
-    no true e = let m = ltb-true n k e in absurd (omega (arith, w .2 (omega arith), pow-le-pow-right {n = b} some {i = n} {j = k - 1} (omega arith)))
-    no false e = e
+short b least v k n some l h w = decide (ltb n k)
+    (λ e. let m = ltb-true n k e in absurd (omega (arith, w .2 (omega arith), pow-le-pow-right {n = b} some {i = n} {j = k - 1} (omega arith))))
+    (ltb-false n k)
 
 pub decimal-digits : (v k : ℕ) → v < 18446744073709551616 → Fewest 10 1 v k → io·digits 10 k v ≡ decimal v
 unfolding decimal

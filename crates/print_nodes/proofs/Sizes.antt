@@ -91,9 +91,6 @@ area-read area os e =
 
 -- ---- the text, from what a check tells of an area
 
-contrary : {A : Type 0} → _≡_ {A = ℕ} 0 1 → A
-contrary z = absurd (omega arith)
-
 module _ (input : List ℕ) where
   -- the text of an area with n operations
   pub area-text : (n state : ℕ) → checkOf (reading input) ≡ Entries n → state ≡ stateIn input
@@ -104,14 +101,14 @@ module _ (input : List ℕ) where
       go : (r : Reading Operation Refusal) → reading input ≡ r → checkOf r ≡ Entries n
           → (length input ≡ areaSize) × (textOf (stateIn input) (reading input) ≡ ended state- state ++ (lines (remaining input startOf) ++ ended end- n))
       go (read os) g h = let same : length os ≡ n = cc in (area-read input os g .size, rw (g, entries-in-order input os g, same, w))
-      go (refused r at) g h = contrary (cc)
+      go (refused r at) g h = (cc, cc)
 
   pub refused-text : (r : Refusal) (at : ℕ) → checkOf (reading input) ≡ Refused r at → text input ≡ numbered refused- (refusalNumber r) ++ ended -at- at
   unfolding text
   refused-text r at e = go (reading input) refl e
     where
       go : (x : Reading Operation Refusal) → reading input ≡ x → checkOf x ≡ Refused r at → textOf (stateIn input) (reading input) ≡ numbered refused- (refusalNumber r) ++ ended -at- at
-      go (read os) g h = contrary (cc)
+      go (read os) g h = cc
       go (refused q k) g h = let same : _≡_ {A = Reading Operation Refusal} (refused q k) (refused r at) = cc in rw g (ap (textOf (stateIn input)) same)
 
 -- ---- the text fits
