@@ -1,6 +1,6 @@
 -- What each command makes of a registration, phase by phase.
 use mathlib.Core.Path.{_≡_, refl}
-use mathlib.Core.Bool.{Bool, true, false, cond, _||_, not, false≢true}
+use mathlib.Core.Bool.{true, _||_, false≢true}
 use mathlib.Core.List.{List, []}
 use Prim.Native.Nat.{ℕ, zero, suc, _+_, _-_, _≤_}
 use native.Mathlib.Nat.{add-sub-cancel-left}
@@ -8,15 +8,15 @@ use native.Mathlib.Omega.{arith}
 use lib.Dec.{leb, ltb, eqb}
 use lib.ListN.{length, take, drop, length-take, length-drop}
 use borrow.Author.Tests.{leb-true, lt-ltb, le-ltb, eqb-true}
-use Rattle.words.proofs.Choice.{choose, and-left, and-right}
+use Rattle.words.proofs.Choice.{decide, choose, and-left, and-right}
 use Rattle.dump.specs.declared.registration.Phase.{Phase}
 use Rattle.dump.specs.declared.registration.Phase.the-variants.{Unregistered, Registered, Active}
 use Rattle.dump.specs.declared.registration.Registration.{Registration}
 use Rattle.dump.specs.declared.registration.Verdict.{Verdict}
-use Rattle.dump.specs.declared.registration.Verdict.the-variants.{Done, Parameter, AlreadyRegistered, DumpActive}
+use Rattle.dump.specs.declared.registration.Verdict.the-variants.{Parameter}
 use Rattle.dump.specs.declared.registration.Configured.{Configured}
 use Rattle.dump.specs.Structure.{headerSize}
-use Rattle.dump.specs.Registration.{copySize, isDone, padded, noRegistration, registered, structureAt, acceptable, verdictOf, registrationAfter, configured}
+use Rattle.dump.specs.Registration.{copySize, isDone, padded, registered, structureAt, acceptable, verdictOf, registrationAfter, configured}
 
 -- an acceptable structure fits into a copy, and stands inside memory
 module _ (m : List ℕ) (address len : ℕ) (good : acceptable m address len ≡ true) where
@@ -45,49 +45,6 @@ outside zero one two three = refl
 outside (suc n) one two three = rw (le-ltb (suc n) 1 (omega arith), lt-ltb 3 (suc n) (omega arith))
 
 module _ (m : List ℕ) (address len : ℕ) (r : Registration) where
-  -- command 1
-  pub register-active : r .phase ≡ Active → configured m 1 address len r ≡ record { next = r; verdict = DumpActive }
-  unfolding verdictOf registrationAfter
-  register-active e = rw e
-
-  pub register-registered : r .phase ≡ Registered → configured m 1 address len r ≡ record { next = r; verdict = AlreadyRegistered }
-  unfolding verdictOf registrationAfter
-  register-registered e = rw e
-
-  pub register-refused : r .phase ≡ Unregistered → acceptable m address len ≡ false → configured m 1 address len r ≡ record { next = r; verdict = Parameter }
-  unfolding verdictOf registrationAfter
-  register-refused e h = rw (e, h)
-
-  pub register-done : r .phase ≡ Unregistered → acceptable m address len ≡ true → configured m 1 address len r ≡ record { next = registered (structureAt m address len); verdict = Done }
-  unfolding verdictOf registrationAfter
-  register-done e h = rw (e, h)
-
-  -- command 2
-  pub unregister-active : r .phase ≡ Active → configured m 2 address len r ≡ record { next = r; verdict = DumpActive }
-  unfolding verdictOf registrationAfter
-  unregister-active e = rw e
-
-  pub unregister-done : r .phase ≡ Registered → configured m 2 address len r ≡ record { next = noRegistration; verdict = Done }
-  unfolding verdictOf registrationAfter
-  unregister-done e = rw e
-
-  pub unregister-none : r .phase ≡ Unregistered → configured m 2 address len r ≡ record { next = r; verdict = Parameter }
-  unfolding verdictOf registrationAfter
-  unregister-none e = rw e
-
-  -- command 3
-  pub complete-done : r .phase ≡ Active → configured m 3 address len r ≡ record { next = noRegistration; verdict = Done }
-  unfolding verdictOf registrationAfter
-  complete-done e = rw e
-
-  pub complete-registered : r .phase ≡ Registered → configured m 3 address len r ≡ record { next = r; verdict = Parameter }
-  unfolding verdictOf registrationAfter
-  complete-registered e = rw e
-
-  pub complete-unregistered : r .phase ≡ Unregistered → configured m 3 address len r ≡ record { next = r; verdict = Parameter }
-  unfolding verdictOf registrationAfter
-  complete-unregistered e = rw e
-
   -- commands 2 and 3 look at the registration alone
   pub unregister-ignores : configured m 2 address len r ≡ configured [] 2 0 0 r
   unfolding verdictOf registrationAfter
@@ -109,11 +66,7 @@ done-acceptable : (m : List ℕ) (address len : ℕ) (p : Phase) → isDone (ver
 unfolding verdictOf
 done-acceptable m address len Active e = absurd (false≢true e)
 done-acceptable m address len Registered e = absurd (false≢true e)
-done-acceptable m address len Unregistered e = go (acceptable m address len) e
-  where
-    go : (a : Bool) → isDone (cond (not a) Parameter Done) ≡ true → a ≡ true
-    go true h = refl
-    go false h = h
+done-acceptable m address len Unregistered e = decide (acceptable m address len) (λ a. a) (λ a. absurd (false≢true (rw a at e)))
 
 -- no command makes a length above the copy's
 pub registration-short : (m : List ℕ) (command address len : ℕ) (r : Registration) → r .len ≤ copySize → registrationAfter m command address len r .len ≤ copySize

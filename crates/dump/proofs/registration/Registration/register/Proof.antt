@@ -4,13 +4,14 @@ use mathlib.Core.Bool.{true}
 use borrow.Author.Needs.{needs}
 use borrow.Author.Tests.{not-true, not-false}
 use denote.Ref.{now}
-use Rattle.dump.specs.Registration.{acceptable}
-use Rattle.dump.proofs.Verdicts.{acceptable-short, acceptable-inside, registered-is, kept-is, register-active, register-registered, register-refused, register-done}
+use Rattle.dump.specs.Registration.{acceptable, verdictOf, registrationAfter}
+use Rattle.dump.proofs.Verdicts.{acceptable-short, acceptable-inside, registered-is, kept-is}
 use Rattle.dump.proofs.registration.Registration.register.Statement.{statement}
 use Rattle.dump.proofs.registration.Registration.register.Tie as tie
 
 returns : tie.Need-returns
-returns c = kept-is _ _ _ (c .kept3 .ensures) ∙ sym (register-refused _ _ _ _ (c .before .before .before .enum-told3 .given .1) (sym (c .before .before .is-acceptable .ensures) ∙ not-true _ (c .before .if1 .taken)))
+unfolding verdictOf registrationAfter
+returns c = kept-is _ _ _ (c .kept3 .ensures) ∙ rw (c .before .before .before .enum-told3 .given .1, ← c .before .before .is-acceptable .ensures, not-true (c .before .before .is-acceptable .result) (c .before .if1 .taken))
 
 good : (c : tie.Else1) → acceptable (now (c .before .before .before .before .before .args .memory)) (c .before .before .before .before .before .args .address) (c .before .before .before .before .before .args .len) ≡ true
 good c = sym (c .before .is-acceptable .ensures) ∙ not-false _ (c .if1 .left)
@@ -22,13 +23,16 @@ copied-requires : tie.Need-copied-requires
 copied-requires c κs = let h = acceptable-short _ _ _ (good (c .before)) in search needs
 
 returns-2 : tie.Need-returns-2
-returns-2 c = kept-is _ _ _ (c .kept .ensures) ∙ sym (register-active _ _ _ _ (c .before .enum-told .given .1))
+unfolding verdictOf registrationAfter
+returns-2 c = kept-is _ _ _ (c .kept .ensures) ∙ rw (c .before .enum-told .given .1)
 
 returns-3 : tie.Need-returns-3
-returns-3 c = kept-is _ _ _ (c .kept2 .ensures) ∙ sym (register-registered _ _ _ _ (c .before .enum-told2 .given .1))
+unfolding verdictOf registrationAfter
+returns-3 c = kept-is _ _ _ (c .kept2 .ensures) ∙ rw (c .before .enum-told2 .given .1)
 
 returns-4 : tie.Need-returns-4
-returns-4 c = rw (registered-is _ _ _ (good (c .before .before)) _ (c .copied .ensures)) (sym (register-done _ _ _ _ (c .before .before .before .before .enum-told3 .given .1) (good (c .before .before))))
+unfolding verdictOf registrationAfter
+returns-4 c = rw (registered-is _ _ _ (good (c .before .before)) _ (c .copied .ensures), c .before .before .before .before .enum-told3 .given .1, good (c .before .before))
 
 pub register-spec : {M : Type 1} → statement M
 register-spec =
