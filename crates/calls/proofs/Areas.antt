@@ -1,5 +1,5 @@
 -- What the checks of a work area come to, way by way through the code.
-use mathlib.Core.Path.{_≡_, refl, sym, ap, _∙_}
+use mathlib.Core.Path.{_≡_, refl, ap}
 use mathlib.Core.Bool.{Bool, true, false, cond, _||_}
 use mathlib.Core.List.{List, _++_}
 use Prim.Native.Nat.{ℕ, _+_, _-_, _%_, _≤_}
@@ -22,11 +22,11 @@ use Rattle.nodes.proofs.Listed.{total-is}
 use Rattle.calls.specs.declared.status.Status.{Status}
 use Rattle.calls.specs.declared.status.Status.the-variants as status
 use Rattle.calls.specs.UpdateNodes.{areaAt, withArea, placed, goodState, areaStatus, areaAfter, nodesStatus, nodesMemory}
-use Rattle.words.proofs.Choice.{and-right}
+use Rattle.words.proofs.Choice.{decide, and-right}
 use Rattle.calls.proofs.Memory.{part-lent, part-back}
 
 -- what a status and an area afterwards are to be
-abbrev Left : Selection → List ℕ → List ℕ → Status → List ℕ → Type 0
+abbrev pub Left : Selection → List ℕ → List ℕ → Status → List ℕ → Type 0
 Left selection j area s after = (s ≡ areaStatus selection j area) × (after ≡ areaAfter selection j area)
 
 module _ (selection : Selection) (j area : List ℕ) where
@@ -44,13 +44,11 @@ module _ (selection : Selection) (j area : List ℕ) where
       unfolding areaStatus areaAfter
       left-state e = rw (w, z, e) (refl, refl)
 
-      pub left-again : goodState selection j area ≡ true → remains (reportable selection j) (be32 area 0) ≡ true → Left selection j area status.Again (written area (reportable selection j) (be32 area 0))
+      -- an answer, by whether anything remains behind it
+      pub left-answered : goodState selection j area ≡ true → (more : Bool) → remains (reportable selection j) (be32 area 0) ≡ more → Left selection j area (cond more status.Again status.Done) (written area (reportable selection j) (be32 area 0))
       unfolding areaStatus areaAfter
-      left-again e f = rw (w, z, e, f) (refl, refl)
-
-      pub left-done : goodState selection j area ≡ true → remains (reportable selection j) (be32 area 0) ≡ false → Left selection j area status.Done (written area (reportable selection j) (be32 area 0))
-      unfolding areaStatus areaAfter
-      left-done e f = rw (w, z, e, f) (refl, refl)
+      left-answered e true f = rw (w, z, e, f) (refl, refl)
+      left-answered e false f = rw (w, z, e, f) (refl, refl)
 
 -- the code's test of the state
 pub state-is : (selection : Selection) (j area : List ℕ) (state : ℕ) (c : Counts) → state ≡ be32 area 0 → c ≡ countsOf selection j → (eqb state 0 || ltb state (total c)) ≡ goodState selection j area
@@ -60,27 +58,16 @@ state-is selection j area state c e f = rw (e, f, total-is selection j)
 -- a good state is no further than the end of the list
 pub state-within : (selection : Selection) (j area : List ℕ) → goodState selection j area ≡ true → be32 area 0 ≤ length (reportable selection j)
 unfolding goodState
-state-within selection j area = go (eqb (be32 area 0) 0) (ltb (be32 area 0) (length (reportable selection j))) refl refl
-  where
-    go : (t u : Bool) → eqb (be32 area 0) 0 ≡ t → ltb (be32 area 0) (length (reportable selection j)) ≡ u → (t || u) ≡ true → be32 area 0 ≤ length (reportable selection j)
-    go true u p q e = omega (arith, eqb-true (be32 area 0) 0 p)
-    go false u p q e = omega (arith, ltb-true (be32 area 0) (length (reportable selection j)) (q ∙ e))
+state-within selection j area e = decide (eqb (be32 area 0) 0)
+    (λ t. omega (arith, eqb-true (be32 area 0) 0 t)) (λ t. omega (arith, ltb-true (be32 area 0) (length (reportable selection j)) (rw t at e)))
 
 pub scanned-malformed : (selection : Selection) (j : List ℕ) (g : Judgement) → g ≡ Malformed → g ≡ judgementOf selection j → wellFormed j ≡ false
 unfolding judgementOf
-scanned-malformed selection j g e f = go (wellFormed j) (sym e ∙ f)
-  where
-    go : (t : Bool) → Malformed ≡ cond t (Counted (countsOf selection j)) Malformed → t ≡ false
-    go true q = cc
-    go false q = refl
+scanned-malformed selection j g e f = decide (wellFormed j) (λ t. let q = rw t at f in cc) (λ t. t)
 
 pub scanned-counted : (selection : Selection) (j : List ℕ) (g : Judgement) (c : Counts) → g ≡ Counted c → g ≡ judgementOf selection j → (wellFormed j ≡ true) × (c ≡ countsOf selection j)
 unfolding judgementOf
-scanned-counted selection j g c e f = go (wellFormed j) (sym e ∙ f)
-  where
-    go : (t : Bool) → Counted c ≡ cond t (Counted (countsOf selection j)) Malformed → (t ≡ true) × (c ≡ countsOf selection j)
-    go true q = (refl, cc)
-    go false q = (cc, cc)
+scanned-counted selection j g c e f = decide (wellFormed j) (λ t. let q = rw t at f in (t, cc)) (λ t. let q = rw t at f in (cc, cc))
 
 -- ---- the whole call
 

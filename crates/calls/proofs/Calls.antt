@@ -16,7 +16,7 @@ use Rattle.journal.specs.Journal.{wellFormed}
 use Rattle.journal.specs.Scope.{valid, selectionOf}
 use Rattle.journal.specs.Reportable.{reportable}
 use Rattle.words.proofs.Choice.{choose, decide, and-left, and-right}
-use Rattle.node_area.specs.Head.{isReserved}
+use Rattle.nodes.specs.Head.{isReserved}
 use Rattle.nodes.specs.Run.{remains}
 use Rattle.nodes.specs.Area.{written}
 use Rattle.calls.specs.declared.status.Status.{Status}
@@ -24,13 +24,9 @@ use Rattle.calls.specs.declared.status.Status.the-variants.{Done, Again,
 use Rattle.calls.specs.Status.{isGiven, isAnswer, statusWord}
 use Rattle.calls.specs.UpdateNodes.{areaAt, withArea, placed, goodState, areaStatus, areaAfter, nodesStatus, nodesMemory}
 use Rattle.calls.specs.Buffer.{token, input, statusAt, numberFor, isNodes, Outcome, nodesOutcome, outcome, Found, Left, callOf, answered}
+use Rattle.calls.proofs.Ladder.{ladder-passed}
 use Rattle.calls.proofs.Heads.{whole-buffer, asked, unchanged, carried-out, outcome-ways, nodes-outcome}
 use Rattle.calls.proofs.Areas.{placed-inside}
-
--- a statement, from either value of a test
-pub decide : {P : Type 0} (t : Bool) → (t ≡ true → P) → (t ≡ false → P) → P
-decide true p q = p refl
-decide false p q = q refl
 
 -- ---- update-nodes
 
@@ -51,30 +47,12 @@ module _ (m : List ℕ) (a s : ℕ) (j : List ℕ) where
     pub clear : isReserved (areaAt m a) ≡ true
     pub begun : goodState (selectionOf s) j (areaAt m a) ≡ true
 
-  abbrev Checked : Status → Type 0
-  Checked x = isAnswer x ≡ true → Passed
-
   -- a status of 0 or 1 tells so
-  pub passed-is : Checked (nodesStatus m a s j)
+  pub passed-is : isAnswer (nodesStatus m a s j) ≡ true → Passed
   unfolding nodesStatus placed areaStatus
-  passed-is =
-      choose (placed m a) Checked
-      (λ e₁. choose (valid s) Checked
-      (λ e₂. choose (wellFormed j) Checked
-      (λ e₃. choose (isReserved (areaAt m a)) Checked
-      (λ e₄. choose (goodState (selectionOf s) j (areaAt m a)) Checked
-      (λ e₅ h. record {
-        aligned = eqb-true _ _ (and-left _ _ e₁);
-        inside = placed-inside m a e₁;
-        scoped = e₂;
-        formed = e₃;
-        clear = e₄;
-        begun = e₅;
-      })
-      (λ e. fails)) (λ e. fails)) (λ e h. absurd (false≢true h))) (λ e. fails)) (λ e. fails)
-    where
-      fails : Checked Parameter
-      fails h = absurd (false≢true h)
+  passed-is h =
+      let t = ladder-passed (placed m a) (valid s) (wellFormed j) (isReserved (areaAt m a)) (goodState (selectionOf s) j (areaAt m a)) (remains (listed s j) (state m a)) h in
+      record { aligned = eqb-true _ _ (and-left _ _ (t .0)); inside = placed-inside m a (t .0); scoped = t .1; formed = t .2; clear = t .3; begun = t .4 }
 
   answer-either : isAnswer (cond (remains (listed s j) (state m a)) Again Done) ≡ true
   answer-either = choose (remains (listed s j) (state m a)) (λ (x : Status). isAnswer x ≡ true) (λ e. refl) (λ e. refl)

@@ -1,6 +1,6 @@
 -- Demand 1: what no call changes.
 use mathlib.Core.Path.{_≡_, refl, sym, ap, _∙_}
-use mathlib.Core.Bool.{Bool, true, false, cond, _&&_, false≢true}
+use mathlib.Core.Bool.{Bool, true, false, cond, false≢true}
 use mathlib.Core.List.{List, [], _∷_}
 use mathlib.Core.Logic.{⊎-elim}
 use Prim.Native.Nat.{ℕ, _+_, _*_, _<_, _≤_}
@@ -8,6 +8,7 @@ use native.Mathlib.Omega.{arith}
 use lib.ListN.{length, getD}
 use lib.Seq.{sets, length-sets}
 use Rattle.words.specs.Numbers.{be32, wordBytes}
+use Rattle.words.proofs.Choice.{decide}
 use Rattle.words.proofs.Stores.{sets-before, sets-after, length-wordBytes}
 use Rattle.dump.specs.declared.registration.Registration.{Registration}
 use Rattle.journal.specs.Journal.{wellFormed}
@@ -16,14 +17,15 @@ use Rattle.node_area.specs.Head.{isReserved}
 use Rattle.nodes.specs.Run.{remains}
 use Rattle.journal.specs.Scope.{valid, Selection, selectionOf}
 use Rattle.calls.specs.declared.status.Number.the-variants.{Given}
-use Rattle.calls.specs.declared.status.Status.the-variants.{Done, Again, Malformed, Parameter}
+use Rattle.calls.specs.declared.status.Status.the-variants.{Done, Parameter}
 use Rattle.calls.specs.Status.{numberOf, isGiven, isAnswer, statusWord}
 use Rattle.calls.specs.UpdateNodes.{areaAt, withArea, placed, goodState, areaStatus, areaAfter, nodesStatus, nodesMemory}
 use Rattle.calls.specs.Buffer.{outputs, input, statusAt, numberFor, isNodes, isIndices, isDump, requestOf, Outcome, nodesOutcome, indicesOutcome, dumpOutcome, refusal, outcome, Found, leaves, Left, callOf}
 use Rattle.calls.specs.Terms.{HasStatus, Refused, Asks, Outside}
 use Rattle.calls.specs.Demands.{Confined, Demand1}
 use Rattle.calls.proofs.Areas.{placed-inside, state-within, nodes-checked}
-use Rattle.calls.proofs.Calls.{decide, status-word}
+use Rattle.calls.proofs.Ladder.{ladder-passed}
+use Rattle.calls.proofs.Calls.{status-word}
 use Rattle.calls.proofs.Heads.{whole-buffer, asked, unchanged, carried-out, outcome-ways}
 use Rattle.calls.proofs.Memory.{part-length, part-kept, part-before, part-behind, part-same, written-length}
 use lib.Dec.{leb, eqb}
@@ -40,13 +42,7 @@ use Rattle.calls.proofs.Requests.{indices-refused, indices-outside, ind
 -- an area that is answered had a good state
 answers-state : (selection : Selection) (j area : List ℕ) → isAnswer (areaStatus selection j area) ≡ true → goodState selection j area ≡ true
 unfolding areaStatus
-answers-state selection j area = go (wellFormed j) (isReserved area) (goodState selection j area) (remains (reportable selection j) (be32 area 0))
-  where
-    go : (w r g m : Bool) → isAnswer (cond w (cond r (cond g (cond m Again Done) Parameter) Parameter) Malformed) ≡ true → g ≡ true
-    go w r true m e = refl
-    go false r false m e = e
-    go true false false m e = e
-    go true true false m e = e
+answers-state selection j area h = ladder-passed true true (wellFormed j) (isReserved area) (goodState selection j area) (remains (reportable selection j) (be32 area 0)) h .4
 
 after-length : (selection : Selection) (j area : List ℕ) → length area ≡ 4096 → length (areaAfter selection j area) ≡ 4096
 unfolding areaAfter
@@ -68,18 +64,10 @@ module _ (m : List ℕ) (address scope : ℕ) (j : List ℕ) where
   -- the ways through the checks of address and scope
   ways : (P : List ℕ → Type 0) → (placed m address ≡ true → valid scope ≡ true → P (withArea m address next)) → P m → P (nodesMemory m address scope j)
   unfolding nodesMemory
-  ways P f g = go (placed m address) (valid scope) refl refl
-    where
-      go : (p v : Bool) → placed m address ≡ p → valid scope ≡ v → P (cond (placed m address && valid scope) (withArea m address next) m)
-      go true true e h = rw (e, h) (f e h)
-      go true false e h = rw (e, h) g
-      go false v e h = rw e g
+  ways P f g = decide (placed m address) (λ p. decide (valid scope) (λ v. rw (p, v) (f p v)) (λ v. rw (p, v) g)) (λ p. rw p g)
 
   nodes-refused : isAnswer (nodesStatus m address scope j) ≡ false → nodesMemory m address scope j ≡ m
-  nodes-refused e = ways (λ (l : List ℕ). l ≡ m) (λ p v. ap (withArea m address) (after-none (sym (ap isAnswer (status-here p v)) ∙ e)) ∙ part-same m address 4096) refl
-    where
-      status-here : placed m address ≡ true → valid scope ≡ true → nodesStatus m address scope j ≡ areaStatus (selectionOf scope) j area
-      status-here p v = nodes-checked m address scope j p v
+  nodes-refused e = ways (λ (l : List ℕ). l ≡ m) (λ p v. ap (withArea m address) (after-none (sym (ap isAnswer (nodes-checked m address scope j p v)) ∙ e)) ∙ part-same m address 4096) refl
 
   module _ (p : placed m address ≡ true) where
     inside : address + 4096 ≤ length m

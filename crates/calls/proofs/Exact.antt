@@ -1,6 +1,6 @@
 -- Demand 2: the number of a call, and all that it leaves by its token and counts.
 use mathlib.Core.Path.{_≡_, refl, sym, ap, _∙_}
-use mathlib.Core.Bool.{Bool, true, false, _||_}
+use mathlib.Core.Bool.{true, false, _||_, or-true}
 use mathlib.Core.List.{List}
 use mathlib.Core.Logic.{⊎-elim}
 use Prim.Native.Nat.{ℕ, _+_, _*_, _≤_}
@@ -9,6 +9,7 @@ use borrow.Author.Tests.{lt-ltb, le-ltb, eq-eqb, ne-eqb}
 use lib.Dec.{ltb}
 use lib.ListN.{length}
 use Rattle.words.specs.Numbers.{be32}
+use Rattle.words.proofs.Choice.{decide}
 use Rattle.words.proofs.Stores.{wordBytes-one}
 use Rattle.calls.specs.declared.status.Number.{Number}
 use Rattle.calls.specs.declared.status.Number.the-variants.{Given, Short, NoOutputs, TooMany}
@@ -21,7 +22,7 @@ use Rattle.calls.specs.ExactIndices.{ExactIndices}
 use Rattle.calls.specs.ExactDump.{ExactDump}
 use Rattle.calls.specs.Demands.{Numbered, Unknown, ByToken, Demand2}
 use Rattle.calls.proofs.Heads.{asked, given-number, unchanged, carried-out, nodes-outcome, indices-outcome, dump-outcome}
-use Rattle.calls.proofs.Calls.{decide, status-word}
+use Rattle.calls.proofs.Calls.{status-word}
 use Rattle.calls.proofs.Requests.{passed-is}
 use Rattle.calls.proofs.IndicesCalls.{number-word}
 use Rattle.calls.proofs.Exactly.{at-most}
@@ -30,10 +31,6 @@ use Rattle.calls.proofs.ExactIndices.{exact-indices}
 use Rattle.calls.proofs.ExactDump.{exact-dump}
 
 -- ---- the number
-
-or-right : (a b : Bool) → b ≡ true → (a || b) ≡ true
-or-right true b e = refl
-or-right false b e = e
 
 numbered : (b : List ℕ) → Numbered b (inputs b) (outputs b) (numberOf (numberFor b))
 unfolding numberFor
@@ -44,7 +41,7 @@ numbered b =
     let size = 12 + 4 * (i + o) in
     record {
       no-head = λ h. rw (lt-ltb n 12 h);
-      too-many = λ h e. let many : (ltb 16 i || ltb 16 o) ≡ true = ⊎-elim (λ g. rw (lt-ltb 16 i g)) (λ g. or-right (ltb 16 i) _ (lt-ltb 16 o g)) e in rw (le-ltb n 12 h, many);
+      too-many = λ h e. let many : (ltb 16 i || ltb 16 o) ≡ true = ⊎-elim (λ g. rw (lt-ltb 16 i g)) (λ g. simp (lt-ltb 16 o g, or-true)) e in rw (le-ltb n 12 h, many);
       cut-off = λ h g f l. rw (le-ltb n 12 h, le-ltb 16 i g, le-ltb 16 o f, lt-ltb n size l);
       no-outputs = λ g l e. rw (le-ltb n 12 (omega arith), le-ltb 16 i g, le-ltb 16 o (omega arith), le-ltb n size l, eq-eqb o 0 e);
       given = λ g f l s. rw (le-ltb n 12 (omega arith), le-ltb 16 i g, le-ltb 16 o f, le-ltb n size l, ne-eqb o 0 (λ e. omega arith));

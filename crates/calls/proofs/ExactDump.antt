@@ -44,9 +44,7 @@ record Agrees (c : ℕ) (p : Phase) (a : Bool) : Type 0 where
   dump-active : word 4294967286 (ladder c p a) ≡ ((eqb c 1 || eqb c 2) && isActive p)
 
 agrees : (c : ℕ) (p : Phase) (a : Bool) → Agrees c p a
-agrees zero Unregistered a = record { done = refl; already-registered = refl; dump-active = refl }
-agrees zero Registered a = record { done = refl; already-registered = refl; dump-active = refl }
-agrees zero Active a = record { done = refl; already-registered = refl; dump-active = refl }
+agrees zero p a = record { done = refl; already-registered = refl; dump-active = refl }
 agrees (suc zero) Unregistered true = record { done = refl; already-registered = refl; dump-active = refl }
 agrees (suc zero) Unregistered false = record { done = refl; already-registered = refl; dump-active = refl }
 agrees (suc zero) Registered a = record { done = refl; already-registered = refl; dump-active = refl }

@@ -8,7 +8,6 @@ use native.Mathlib.Omega.{arith}
 use native.Mathlib.Nat.{mod-eq-of-lt}
 use lib.Dec.{leb, eqb}
 use lib.ListN.{length, take, drop, getD, length-drop}
-use lib.Seq.{getD-append-add, getD-drop}
 use Rattle.words.specs.Numbers.{Bytes, be, be32, beBytes}
 use Rattle.words.proofs.Numbers.{be-bytes}
 use Rattle.words.proofs.Choice.{and-left, and-right}
@@ -29,6 +28,7 @@ use Rattle.calls.specs.ExactIndices as exact
 use Rattle.calls.specs.ExactIndices.{ExactIndices}
 use Rattle.calls.proofs.Exactly.{equal, at-most, both, either, no, fails, same}
 use Rattle.calls.proofs.Ladder.{ladder, isMalformed, ladder-malformed, ladder-otherwise}
+use Rattle.calls.proofs.Memory.{front-behind}
 use Rattle.calls.proofs.Calls.{word-either}
 use Rattle.calls.proofs.Requests.{Passed, passed-is, left-is, reads-back, indices-answers, indices-status, indices-memory, run-some, lent-size}
 
@@ -71,11 +71,7 @@ module _ (area : List ℕ) (es : List Entry) where
   -- bytes behind the last entry
   behind : (k : ℕ) → 4 + taken es ≤ k → getD (written area es) k 0 ≡ getD area k 0
   unfolding written
-  behind k h =
-      let front = answer es in
-      let there : k ≡ length front + (k - length front) = omega (arith, answer-length es) in
-      ap (λ (n : ℕ). getD (front ++ drop (length front) area) n 0) there
-      ∙ getD-append-add front (drop (length front) area) (k - length front) 0 ∙ getD-drop (length front) area (k - length front) 0 ∙ ap (λ (n : ℕ). getD area n 0) (sym there)
+  behind k h = front-behind (answer es) area k (omega (arith, answer-length es))
 
   counted : length es < 4294967296 → be32 (written area es) 0 ≡ length es
   unfolding written answer

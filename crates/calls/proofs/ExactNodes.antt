@@ -8,7 +8,7 @@ use native.Mathlib.Omega.{arith}
 use lib.Dec.{leb, ltb, eqb}
 use borrow.Author.Tests.{ltb-true}
 use lib.ListN.{length, drop, getD, length-append}
-use lib.Seq.{drop-at, getD-append-add, getD-drop}
+use lib.Seq.{drop-at}
 use Rattle.words.specs.Numbers.{Bytes, be, be32, beBytes, wordBytes}
 use Rattle.words.proofs.Numbers.{be-drop, be-bytes}
 use Rattle.words.proofs.Choice.{choose}
@@ -33,7 +33,7 @@ use Rattle.calls.proofs.Exactly.{equal, at-most, below, both, either, f
 use Rattle.calls.proofs.Ladder.{ladder, isMalformed, ladder-malformed, ladder-otherwise}
 use Rattle.calls.proofs.Areas.{state-within}
 use Rattle.calls.proofs.Calls.{Passed, passed-is, nodes-answers, nodes-status, nodes-memory, word-either}
-use Rattle.calls.proofs.Memory.{part-length, part-stored, written-length}
+use Rattle.calls.proofs.Memory.{part-length, part-stored, front-behind, written-length}
 
 -- ---- the checks in the paper's numerals
 
@@ -60,11 +60,8 @@ asked-exact m address scope =
 behind : (area : List ℕ) (os : List Operation) (state k : ℕ) → 16 + 4 * cost (run os state) + 4 ≤ k → getD (written area os state) k 0 ≡ getD area k 0
 unfolding written answer
 behind area os state k h =
-    let front = wordBytes (answer os state) in
-    let size : length front ≡ 20 + 4 * cost (run os state) = simp (length-wordBytes, length-append, length-body) (omega arith) in
-    let there : k ≡ length front + (k - length front) = omega arith in
-    ap (λ (n : ℕ). getD (front ++ drop (length front) area) n 0) there
-    ∙ getD-append-add front (drop (length front) area) (k - length front) 0 ∙ getD-drop (length front) area (k - length front) 0 ∙ ap (λ (n : ℕ). getD area n 0) (sym there)
+    let size : length (wordBytes (answer os state)) ≡ 20 + 4 * cost (run os state) = simp (length-wordBytes, length-append, length-body) (omega arith) in
+    front-behind (wordBytes (answer os state)) area k (omega arith)
 
 -- the terminator stands behind the run
 ends-zero : (area : List ℕ) (os : List Operation) (state : ℕ) → be32 (written area os state) (16 + 4 * cost (run os state)) ≡ 0

@@ -67,6 +67,13 @@ part-same m a n =
     ∙ ap (λ (l : List ℕ). take a m ++ l) (ap₂ _++_ (take-take n n (drop a m) (omega arith)) (sym (drop-drop n a m)) ∙ take-append-drop n (drop a m))
     ∙ take-append-drop a m
 
+-- an area behind an answer in its front
+pub front-behind : (front area : List ℕ) (k : ℕ) → length front ≤ k → getD (front ++ drop (length front) area) k 0 ≡ getD area k 0
+front-behind front area k h =
+    let d = k - length front in
+    let there : k ≡ length front + d = omega arith in
+    ap (λ (n : ℕ). getD (front ++ drop (length front) area) n 0) there ∙ getD-append-add front (drop (length front) area) d 0 ∙ getD-drop (length front) area d 0 ∙ ap (λ (n : ℕ). getD area n 0) (sym there)
+
 -- an answer leaves the length of an area as it was
 pub written-length : (area : List ℕ) (os : List Operation) (k : ℕ) → length area ≡ 4096 → k ≤ length os → length (written area os k) ≡ 4096
 unfolding written answer

@@ -1,6 +1,6 @@
 -- Demand 3: the answered calls of a session hand out the reportable list, each operation once and in order.
 use mathlib.Core.Path.{_≡_, refl, ap, _∙_, sym}
-use mathlib.Core.Bool.{Bool, true, false, _||_, true≢false}
+use mathlib.Core.Bool.{true, _||_, or-true, true≢false}
 use mathlib.Core.List.{List}
 use mathlib.Core.Logic.{_⊎_, ⊎-elim}
 use Prim.Native.Nat.{ℕ, _+_, _*_, _≤_, _<_}
@@ -37,10 +37,6 @@ use Rattle.calls.proofs.Session as session
 -- the words of a part of a list are no more than the list's
 words-part : (k : ℕ) (os : List Operation) → operandWords (take k os) ≤ operandWords os
 words-part k os = omega (arith, operandWords-append (take k os) (drop k os), ap operandWords (take-append-drop k os))
-
-or-right : (a b : Bool) → b ≡ true → (a || b) ≡ true
-or-right true b e = refl
-or-right false b e = e
 
 -- ---- the kind of session: sixteen bytes carry a state, and each area that does not end the list has 1,015 operand words
 
@@ -122,7 +118,7 @@ module _ (j : List ℕ) (s : ℕ) (ls : Listed (listed s j)) where
     -- ---- a well-made call is answered while the session is open
     module _ (w : wellFormed j ≡ true) (v : valid s ≡ true) (c : Found) (m : WellMade j s st c) where
       good-state : (eqb k 0 || ltb k (length os)) ≡ true
-      good-state = ⊎-elim (λ e. rw (eq-eqb k 0 e)) (λ l. or-right (eqb k 0) _ (lt-ltb k (length os) l)) (o .place)
+      good-state = ⊎-elim (λ e. rw (eq-eqb k 0 e)) (λ l. simp (lt-ltb k (length os) l, or-true)) (o .place)
 
       given-is : isGiven (numberFor (c .args)) ≡ true
       unfolding numberFor

@@ -1,6 +1,6 @@
 -- Laws of get-indices: what an answered request has passed, and the memory that it leaves.
 use mathlib.Core.Path.{_≡_, refl, sym, ap, _∙_}
-use mathlib.Core.Bool.{true, false, cond, false≢true}
+use mathlib.Core.Bool.{true, false, cond}
 use mathlib.Core.List.{List, [], _∷_}
 use mathlib.Core.Logic.{⊎-elim}
 use Prim.Native.Nat.{ℕ, _+_, _-_, _≤_}
@@ -11,7 +11,7 @@ use lib.Seq.{sets}
 use borrow.Author.Tests.{leb-true, leb-false, le-leb, lt-leb}
 use Rattle.words.specs.Numbers.{Bytes, beBytes, wordBytes}
 use Rattle.words.proofs.Stores.{wordBytes-one}
-use Rattle.words.proofs.Choice.{choose, and-left, and-right}
+use Rattle.words.proofs.Choice.{choose, decide, and-left, and-right}
 use Rattle.inventory.specs.Inventory.{wellFormed}
 use Rattle.inventory.specs.Listing.{Entry}
 use Rattle.indices.specs.Area.{entrySize, fitting, run, answer, written}
@@ -21,13 +21,13 @@ use Rattle.indices.proofs.Longest.{fits}
 use Rattle.indices.proofs.Written as indices-written
 use Rattle.calls.specs.declared.request.Request.{Request}
 use Rattle.calls.specs.declared.status.Status.{Status}
-use Rattle.calls.specs.declared.status.Status.the-variants.{Done, Again, Parameter}
+use Rattle.calls.specs.declared.status.Status.the-variants.{Done, Again}
 use Rattle.calls.specs.Status.{isAnswer}
 use Rattle.calls.specs.Lent.{partAt, withPart}
 use Rattle.calls.specs.GetIndices.{askable, lendable, entriesFor, numberIn, runFor, goodNumber, dueFits, moreEntries, listStatus, indicesStatus, indicesMemory, nextNumber, numberGiven}
 use Rattle.calls.specs.Terms.{Outside}
+use Rattle.calls.proofs.Ladder.{ladder-passed}
 use Rattle.calls.proofs.Memory.{part-length, part-stored, part-kept, part-before, part-behind}
-use Rattle.calls.proofs.Calls.{decide}
 
 -- a part that may be lent
 pub lent-size : (m : List ℕ) (address size : ℕ) → lendable m address size ≡ true → (4 ≤ size) × (address + size ≤ 4294967296) × (address + size ≤ length m)
@@ -67,23 +67,13 @@ module _ (m i : List ℕ) (q : Request) where
     pub numbered : goodNumber (numberIn q) (entriesFor i q) ≡ true
     pub due : dueFits (q .size) (drop (numberIn q - 1) (entriesFor i q)) ≡ true
 
-  abbrev Checked : Status → Type 0
-  Checked x = isAnswer x ≡ true → Passed
-
   -- a status of 0 or 1 tells so
-  pub passed-is : Checked (indicesStatus m i q)
+  pub passed-is : isAnswer (indicesStatus m i q) ≡ true → Passed
   unfolding indicesStatus listStatus
-  passed-is =
-      choose (askable (q .flag) (q .«item_type»)) Checked
-      (λ e₁. choose (lendable m (q .address) (q .size)) Checked
-      (λ e₂. choose (wellFormed i) Checked
-      (λ e₃. choose (goodNumber (numberIn q) (entriesFor i q)) Checked
-      (λ e₄. choose (dueFits (q .size) (drop (numberIn q - 1) (entriesFor i q))) Checked
-      (λ e₅ h. record { askable-is = e₁; lent = e₂; formed = e₃; numbered = e₄; due = e₅ })
-      (λ e. fails)) (λ e. fails)) (λ e h. absurd (false≢true h))) (λ e. fails)) (λ e. fails)
-    where
-      fails : Checked Parameter
-      fails h = absurd (false≢true h)
+  passed-is h =
+      let due = dueFits (q .size) (drop (numberIn q - 1) (entriesFor i q)) in
+      let t = ladder-passed (askable (q .flag) (q .«item_type»)) (lendable m (q .address) (q .size)) (wellFormed i) (goodNumber (numberIn q) (entriesFor i q)) due (moreEntries i q) h in
+      record { askable-is = t .0; lent = t .1; formed = t .2; numbered = t .3; due = t .4 }
 
   pub indices-status : Passed → indicesStatus m i q ≡ cond (moreEntries i q) Again Done
   unfolding indicesStatus listStatus

@@ -10,11 +10,10 @@ use borrow.Author.Tests.{ltb-true, ltb-false}
 use lib.ListN.{length, take, drop, length-append}
 use lib.Seq.{take-all, take-add}
 use Rattle.words.specs.Reading.{Reading, read, readings}
-use Rattle.words.proofs.Choice.{choose}
+use Rattle.words.proofs.Choice.{choose, decide}
 use Rattle.words.proofs.Readings.{readings-none, readings-more, joined-read}
 use Rattle.calls.specs.Buffer.{Found}
 use Rattle.calls.specs.Session.{isAnswered, statusThen, Standing, afterCall, over, Each, Among, none, counted, passed}
-use Rattle.calls.proofs.Calls.{decide}
 
 -- ---- a list of calls
 

@@ -7,7 +7,7 @@ use native.Mathlib.Omega.{arith}
 use lib.Dec.{leb, ltb}
 use lib.ListN.{length, take, drop, length-drop}
 use borrow.Author.Tests.{leb-true, le-leb, lt-ltb, le-ltb}
-use Rattle.words.proofs.Choice.{and-left, and-right}
+use Rattle.words.proofs.Choice.{decide, and-left, and-right}
 use Rattle.records.specs.Records.{sizeLimit}
 use Rattle.records.proofs.Steps.{formed-good}
 use Rattle.inventory.specs.Inventory.{goodRecord, wellFormed}
@@ -25,7 +25,6 @@ use Rattle.calls.specs.Status.{isAnswer}
 use Rattle.calls.specs.Lent.{partAt, withPart}
 use Rattle.calls.specs.GetIndices.{askable, lendable, entriesFor, numberIn, runFor, goodNumber, dueFits, moreEntries, listStatus, listArea, indicesStatus, indicesMemory, nextNumber, numberGiven}
 use Rattle.calls.proofs.Memory.{part-length, part-lent, part-back, part-same}
-use Rattle.calls.proofs.Calls.{decide}
 use Rattle.calls.proofs.Requests.{lent-size, due-run}
 
 -- ---- what the scan gives is what the writer of the run asks for

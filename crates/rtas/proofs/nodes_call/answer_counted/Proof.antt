@@ -1,5 +1,5 @@
 -- `nodes_call::answer_counted` meets its contract.
-use mathlib.Core.Bool.{true}
+use mathlib.Core.Bool.{Bool, true, false, cond}
 use mathlib.Core.Path.{_≡_, sym, ap, _∙_}
 use Prim.Native.Nat.{_≤_}
 use native.Mathlib.Omega.{arith}
@@ -11,31 +11,28 @@ use Rattle.journal.specs.Reportable.{reportable}
 use Rattle.nodes.proofs.Answers.{counts-small}
 use Rattle.nodes.proofs.Listed.{total-is}
 use Rattle.nodes.specs.Area.{written}
-use Rattle.node_area.specs.Head.{isReserved}
-use Rattle.node_area.specs.State.{total}
+use Rattle.nodes.specs.Head.{isReserved}
+use Rattle.nodes.specs.Run.{total}
 use Rattle.calls.proofs.Areas.{left-reserved, left-state, left-answered, Left, state-is, state-within}
 use Rattle.calls.specs.declared.status.Status.the-variants.{Done, Again}
 use Rattle.calls.specs.UpdateNodes.{goodState}
 use Rattle.rtas.proofs.nodes_call.answer_counted.Statement.{statement}
 use Rattle.rtas.proofs.nodes_call.answer_counted.Tie as tie
 
--- the tests of the code are those of the definition
-reserved-is : (c : tie.After-is-reserved) → c .is-reserved .result ≡ isReserved (now (c .before .before .before .before .args .area))
-reserved-is c = c .is-reserved .ensures
-
 returns : tie.Need-returns
 returns c =
     let s = c .before .before .before .before .before in
-    left-reserved (byRow (now (s .args .row))) (now (s .args .j)) (now (s .args .area)) (s .pre .1 .good) (sym (reserved-is (c .before)) ∙ not-true _ (c .if1 .taken))
+    left-reserved (byRow (now (s .args .row))) (now (s .args .j)) (now (s .args .area)) (s .pre .1 .good) (sym (c .before .is-reserved .ensures) ∙ not-true _ (c .if1 .taken))
 
 is-within-requires : tie.Need-is-within-requires
 is-within-requires c κs = let s = c .before .before .before .before .before .before .before in omega (arith, counts-small (byRow (now (s .args .row))) (now (s .args .j)) (s .args .counts) (s .pre .1 .good) (s .pre .1 .counted))
 
+-- the test of the code is that of the definition
 good-is : (c : tie.After-is-within) → c .is-within .result ≡ goodState (byRow (now (c .before .before .before .before .before .before .before .before .args .row))) (now (c .before .before .before .before .before .before .before .before .args .j)) (now (c .before .before .before .before .before .before .before .before .args .area))
 good-is c = let s = c .before .before .before .before .before .before .before .before in c .is-within .ensures ∙ state-is (byRow (now (s .args .row))) (now (s .args .j)) (now (s .args .area)) _ _ (c .before .read .ensures) (s .pre .1 .counted)
 
-reserved-yes : (c : tie.Else2) → isReserved (now (c .before .before .before .before .before .before .before .before .before .args .area)) ≡ true
-reserved-yes c = sym (reserved-is (c .before .before .before .before .before)) ∙ not-false _ (c .before .before .before .before .if1 .left)
+reserved-yes : (c : tie.Else1) → isReserved (now (c .before .before .before .before .before .args .area)) ≡ true
+reserved-yes c = sym (c .before .is-reserved .ensures) ∙ not-false _ (c .if1 .left)
 
 good-yes : (c : tie.Else2) → goodState (byRow (now (c .before .before .before .before .before .before .before .before .before .args .row))) (now (c .before .before .before .before .before .before .before .before .before .args .j)) (now (c .before .before .before .before .before .before .before .before .before .args .area)) ≡ true
 good-yes c = sym (good-is (c .before)) ∙ not-false _ (c .if2 .left)
@@ -48,32 +45,24 @@ within c =
 returns-2 : tie.Need-returns-2
 returns-2 c =
     let s = c .before .before .before .before .before .before .before .before .before in
-    left-state (byRow (now (s .args .row))) (now (s .args .j)) (now (s .args .area)) (s .pre .1 .good) (sym (reserved-is (c .before .before .before .before .before)) ∙ not-false _ (c .before .before .before .before .if1 .left)) (sym (good-is (c .before)) ∙ not-true _ (c .if2 .taken))
+    left-state (byRow (now (s .args .row))) (now (s .args .j)) (now (s .args .area)) (s .pre .1 .good) (reserved-yes (c .before .before .before .before)) (sym (good-is (c .before)) ∙ not-true _ (c .if2 .taken))
 
 write-answer-requires : tie.Need-write-answer-requires
 write-answer-requires c κs = let p = c .before .before .before .before .before .before .before .before .before .before .pre in (p .0, p .1, within (c .before))
 
+-- what the writer leaves, with the status that its result tells
+answered : (c : tie.After-write-answer) (more : Bool) → c .write-answer .result ≡ more → Left (byRow (now (c .before .before .before .before .before .before .before .before .before .before .before .args .row))) (now (c .before .before .before .before .before .before .before .before .before .before .before .args .j)) (now (c .before .before .before .before .before .before .before .before .before .before .before .args .area)) (cond more Again Done) (c .write-answer .last .0)
+answered c more told =
+    let s = c .before .before .before .before .before .before .before .before .before .before .before in
+    let e = c .before .before .before .before .read .ensures in
+    let l = left-answered (byRow (now (s .args .row))) (now (s .args .j)) (now (s .args .area)) (s .pre .1 .good) (reserved-yes (c .before .before .before .before .before .before)) (good-yes (c .before .before)) more (rw e at (sym (c .write-answer .ensures .0) ∙ told)) in
+    (l .0, c .write-answer .ensures .1 .0 ∙ ap (written (now (s .args .area)) (reportable (byRow (now (s .args .row))) (now (s .args .j)))) e ∙ l .1)
+
 returns-3 : tie.Need-returns-3
-returns-3 c =
-    let s = c .before .before .before .before .before .before .before .before .before .before .before .before .before .before in
-    let selection = byRow (now (s .args .row)) in
-    let j = now (s .args .j) in
-    let area = now (s .args .area) in
-    let w = c .before .before .before .write-answer in
-    let e = c .before .before .before .before .before .before .before .read .ensures in
-    let l = left-again selection j area (s .pre .1 .good) (reserved-yes (c .before .before .before .before .before)) (good-yes (c .before .before .before .before .before)) (rw e at (sym (w .ensures .0) ∙ c .if3 .taken)) in
-    (l .0, w .ensures .1 .0 ∙ ap (written area (reportable selection j)) e ∙ l .1)
+returns-3 c = answered (c .before .before .before) true (c .if3 .taken)
 
 returns-4 : tie.Need-returns-4
-returns-4 c =
-    let s = c .before .before .before .before .before .before .before .before .before .before .before .before .before .before in
-    let selection = byRow (now (s .args .row)) in
-    let j = now (s .args .j) in
-    let area = now (s .args .area) in
-    let w = c .before .before .before .write-answer in
-    let e = c .before .before .before .before .before .before .before .read .ensures in
-    let l = left-done selection j area (s .pre .1 .good) (reserved-yes (c .before .before .before .before .before)) (good-yes (c .before .before .before .before .before)) (rw e at (sym (w .ensures .0) ∙ c .if3 .left)) in
-    (l .0, w .ensures .1 .0 ∙ ap (written area (reportable selection j)) e ∙ l .1)
+returns-4 c = answered (c .before .before .before) false (c .if3 .left)
 
 pub answer-counted-spec : {M : Type 1} → statement M
 answer-counted-spec =
