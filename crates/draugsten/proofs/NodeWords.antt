@@ -219,16 +219,12 @@ module _ {area start l : List ℕ} {count at i : ℕ} (s : Walking area start co
 
 -- ---- what a check of an area tells of its reading
 
--- a check that finds operations is none that refuses
-contrary : {A : Type 0} → _≡_ {A = ℕ} 0 1 → A
-contrary z = absurd (omega arith)
-
 -- a check that refuses tells the refusal of the reading
 pub refused-reading : (area : List ℕ) (x : Check) (r : Refusal) (at : ℕ) → x ≡ checkOf (reading area) → x ≡ Refused r at → reading area ≡ refused r at
 refused-reading area x r at told e = go (reading area) told
   where
     go : (y : Reading Operation Refusal) → x ≡ checkOf y → y ≡ refused r at
-    go (read os) h = contrary (cc)
+    go (read os) h = cc
     go (refused q k) h = cc
 
 -- of another size nothing is read
@@ -253,7 +249,7 @@ good area x n told e = go (reading area) refl told
   where
     go : (y : Reading Operation Refusal) → reading area ≡ y → x ≡ checkOf y → Good area n
     go (read os) g h = let ahead = entries-in-order area os g in record { size = area-size area os g; is = rw ahead g; entries = rw ahead (cc) }
-    go (refused r at) g h = contrary (cc)
+    go (refused r at) g h = record { size = cc; is = cc; entries = cc }
 
 -- taking more than all takes all
 take-min : (os : List Operation) (k : ℕ) → take (min (length os) k) os ≡ take k os

@@ -1,11 +1,11 @@
 -- A registration over the C boundary and back, and from one call to the next.
 use mathlib.Core.Path.{_≡_, refl, ap, _∙_}
-use mathlib.Core.Bool.{Bool, true, false, cond}
+use mathlib.Core.Bool.{true}
 use Prim.Native.Nat.{ℕ, zero, suc, _≤_}
 use native.Mathlib.Omega.{arith}
 use lib.Dec.{leb}
 use borrow.Author.Tests.{leb-true, le-leb}
-use Rattle.words.proofs.Choice.{and-left, and-right}
+use Rattle.words.proofs.Choice.{decide, and-left, and-right}
 use Rattle.dump.specs.declared.registration.Phase.{Phase}
 use Rattle.dump.specs.declared.registration.Phase.the-variants.{Unregistered, Registered, Active}
 use Rattle.dump.specs.declared.registration.Registration.{Registration}
@@ -16,7 +16,7 @@ use Rattle.calls.specs.Buffer.{found}
 use Rattle.calls.specs.Status.{numberOf}
 use Rattle.calls.proofs.Registrations.{handed-short}
 use Rattle.draugsten.specs.declared.calling.FlatRegistration.{FlatRegistration}
-use Rattle.draugsten.specs.Registration.{phaseNumber, phaseOf, flatOf, registrationOf, isRegistration, Faithful, FlatFound, flatLeaves, called, flatCallOf, HandedOn, StartTaken}
+use Rattle.draugsten.specs.Registration.{phaseNumber, phaseOf, flatOf, registrationOf, isRegistration, Faithful, FlatFound, called, flatCallOf, HandedOn, StartTaken}
 
 -- the phase and the length of a registration
 bounds : (f : FlatRegistration) → isRegistration f ≡ true → (f .phase ≤ 2) × (f .length ≤ copySize)
@@ -60,11 +60,7 @@ module _ (f : FlatFound) where
 
   not-refused : (flatCallOf f .number ≡ 13 → ⊥) → isRegistration (f .registration) ≡ true
   unfolding flatCallOf
-  not-refused n = go (isRegistration (f .registration)) n
-    where
-      go : (t : Bool) → (cond t (flatLeaves (numberOf (called f .number)) (called f .args) (called f .memory) (flatOf (called f .registration))) (flatLeaves 13 (f .args) (f .memory) (f .registration)) .number ≡ 13 → ⊥) → t ≡ true
-      go true h = refl
-      go false h = absurd (h refl)
+  not-refused n = decide (isRegistration (f .registration)) (λ t. t) (λ t. absurd (n (rw t)))
 
   then-is : isRegistration (f .registration) ≡ true → isRegistration (flatCallOf f .registration) ≡ true
   unfolding flatCallOf
