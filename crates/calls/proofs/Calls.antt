@@ -16,7 +16,7 @@ use Rattle.journal.specs.Journal.{wellFormed}
 use Rattle.journal.specs.Scope.{valid, selectionOf}
 use Rattle.journal.specs.Reportable.{reportable}
 use Rattle.words.proofs.Choice.{choose, decide, and-left, and-right}
-use Rattle.nodes.specs.Head.{isReserved}
+use Rattle.node_area.specs.Head.{isReserved}
 use Rattle.nodes.specs.Run.{remains}
 use Rattle.nodes.specs.Area.{written}
 use Rattle.calls.specs.declared.status.Status.{Status}

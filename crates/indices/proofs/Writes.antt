@@ -12,10 +12,9 @@ use Rattle.words.proofs.Numbers.{length-beBytes}
 use Rattle.words.proofs.Stores.{sets-behind, sets-swap}
 use Rattle.records.specs.Records.{sizeLimit}
 use Rattle.inventory.specs.Listing.{Entry, listed}
-use Rattle.inventory.specs.Scanning.{ahead}
+use Rattle.inventory.specs.Scanning.{ahead, GoodFrom, NextMatch}
 use Rattle.inventory.specs.declared.locating.Located.{Located}
 use Rattle.inventory.specs.Located.{locatedAt, entryIn}
-use Rattle.inventory.specs.Scanning.{ahead, GoodFrom, NextMatch}
 use Rattle.inventory.proofs.Located.{code-sized, located-entry, located-inside}
 use Rattle.indices.specs.Area.{filled, entrySize, codeField, entryBytes, entriesBytes, fitting, run, answer, written, areaAfter}
 use Rattle.indices.specs.Writing.{DueEntries}

@@ -12,41 +12,14 @@ use Rattle.draugsten.proofs.reading.code_length.Tie as tie
 stands : (c : tie.Start) → (4 ≤ c .args .n) × (c .args .at + 8 + c .args .n ≤ length (now (c .args .area)))
 stands c = field-stands (now (c .args .area)) (c .args .at) (c .args .n) (c .pre)
 
-add-behind : tie.Need-add-behind
-add-behind c = omega (arith, stands c)
-
-add-behind-2 : tie.Need-add-behind-2
-add-behind-2 c = omega (arith, stands c)
-
-shared-slice-read-if1 : tie.Need-shared-slice-read-if1
-shared-slice-read-if1 c = omega (arith, stands (c .before))
-
-sub-result : tie.Need-sub-result
-sub-result c = omega (arith, stands (c .before .before))
-
 returns : tie.Need-returns
 returns c = omega (arith, field-ends (now (c .before .before .args .area)) (c .before .before .args .at) (c .before .before .args .n) (c .before .before .pre), nul-last (now (c .before .before .args .area)) (c .before .before .args .at) (c .before .before .args .n) (c .before .before .pre) 4 (omega arith) (omega arith) (c .if1 .taken))
-
-shared-slice-read-if2 : tie.Need-shared-slice-read-if2
-shared-slice-read-if2 c = omega (arith, stands (c .before .before .before))
-
-sub-result-2 : tie.Need-sub-result-2
-sub-result-2 c = omega (arith, stands (c .before .before .before .before))
 
 returns-2 : tie.Need-returns-2
 returns-2 c = omega (arith, code-last (now (c .before .before .before .before .args .area)) (c .before .before .before .before .args .at) (c .before .before .before .before .args .n) (c .before .before .before .before .pre) 4 (omega arith) (omega arith) (c .before .before .if1 .left), nul-last (now (c .before .before .before .before .args .area)) (c .before .before .before .before .args .at) (c .before .before .before .before .args .n) (c .before .before .before .before .pre) 3 (omega arith) (omega arith) (c .if2 .taken))
 
-shared-slice-read-if3 : tie.Need-shared-slice-read-if3
-shared-slice-read-if3 c = omega (arith, stands (c .before .before .before .before .before))
-
-sub-result-3 : tie.Need-sub-result-3
-sub-result-3 c = omega (arith, stands (c .before .before .before .before .before .before))
-
 returns-3 : tie.Need-returns-3
 returns-3 c = omega (arith, code-last (now (c .before .before .before .before .before .before .args .area)) (c .before .before .before .before .before .before .args .at) (c .before .before .before .before .before .before .args .n) (c .before .before .before .before .before .before .pre) 3 (omega arith) (omega arith) (c .before .before .if2 .left), nul-last (now (c .before .before .before .before .before .before .args .area)) (c .before .before .before .before .before .before .args .at) (c .before .before .before .before .before .before .args .n) (c .before .before .before .before .before .before .pre) 2 (omega arith) (omega arith) (c .if3 .taken))
-
-sub-result-4 : tie.Need-sub-result-4
-sub-result-4 c = omega (arith, stands (c .before .before .before .before .before .before))
 
 returns-4 : tie.Need-returns-4
 returns-4 c = omega (arith, code-last (now (c .before .before .before .before .before .before .args .area)) (c .before .before .before .before .before .before .args .at) (c .before .before .before .before .before .before .args .n) (c .before .before .before .before .before .before .pre) 2 (omega arith) (omega arith) (c .if3 .left), field-ends (now (c .before .before .before .before .before .before .args .area)) (c .before .before .before .before .before .before .args .at) (c .before .before .before .before .before .before .args .n) (c .before .before .before .before .before .before .pre))
@@ -55,19 +28,19 @@ pub code-length-spec : {M : Type 1} → statement M
 code-length-spec =
     tie.close
     (tie.spec
-    add-behind
-    add-behind-2
+    (λ c. omega (arith, stands c))
+    (λ c. omega (arith, stands c))
     (λ c. search needs)
-    shared-slice-read-if1
-    sub-result
+    (λ c. omega (arith, stands (c .before)))
+    (λ c. omega (arith, stands (c .before .before)))
     returns
     (λ c. search needs)
-    shared-slice-read-if2
-    sub-result-2
+    (λ c. omega (arith, stands (c .before .before .before)))
+    (λ c. omega (arith, stands (c .before .before .before .before)))
     returns-2
     (λ c. search needs)
-    shared-slice-read-if3
-    sub-result-3
+    (λ c. omega (arith, stands (c .before .before .before .before .before)))
+    (λ c. omega (arith, stands (c .before .before .before .before .before .before)))
     returns-3
-    sub-result-4
+    (λ c. omega (arith, stands (c .before .before .before .before .before .before)))
     returns-4)

@@ -14,9 +14,6 @@ found c = good _ _ _ (c .before .before .check-area .ensures .0) (c .found2 .giv
 store-operations-requires : tie.Need-store-operations-requires
 store-operations-requires c κs = let g = found (c .before .before .before) in let least = c .least .ensures in (omega arith, omega arith, g .is)
 
-read-requires : tie.Need-read-requires
-read-requires c κs = omega (arith, found (c .before .before .before .before .before .before) .size)
-
 returns : tie.Need-returns
 returns c = rw (refused-reading _ _ _ _ (c .before .before .before .before .check-area .ensures .0) (c .before .before .found .given .1), c .node-refusal .ensures) (refl, refl)
 
@@ -35,7 +32,7 @@ draugsten-read-nodes-spec =
     (λ c. search needs)
     (λ c κs. search needs)
     store-operations-requires
-    read-requires
+    (λ c κs. omega (arith, found (c .before .before .before .before .before .before) .size))
     returns
     (λ c. search needs)
     returns-2)

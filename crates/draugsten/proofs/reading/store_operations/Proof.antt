@@ -30,9 +30,6 @@ store-operands-requires c κs =
     let range = walking-range s more _ word in
     (walking-fits s more, walking-operator s more _ word .fits, omega (arith, walking-length s), range .0, range .1)
 
-add-i : tie.Need-add-i Inv-loop μ-loop
-add-i c = omega (arith, c .before .before .store-operands .ensures .0)
-
 add-at : tie.Need-add-at Inv-loop μ-loop
 add-at c = omega (arith, walking-inside (c .before .before .before .before .before .before .loop .inv) (c .before .before .before .before .before .loop-test .taken) _ (c .before .before .before .before .read-be32 .ensures))
 
@@ -66,7 +63,7 @@ store-operations-spec =
     (λ c. search needs)
     (λ c. search needs)
     store-operands-requires
-    add-i
+    (λ c. omega (arith, c .before .before .store-operands .ensures .0))
     add-at
     (λ c. search needs)
     mul-at

@@ -15,9 +15,6 @@ abbrev μ-loop : tie.MeasureT-loop
 loop-holds : tie.Need-loop-holds Inv-loop μ-loop
 loop-holds c = pairs-first _ _ _ _ _
 
-store-words-requires : tie.Need-store-words-requires Inv-loop μ-loop
-store-words-requires c κs = omega (arith, pairs-length (c .before .before .before .before .loop .inv))
-
 loop-again : tie.Need-loop-again Inv-loop μ-loop
 loop-again c = pairs-next (c .before .before .before .before .before .before .before .loop .inv) _ _ _ (c .before .before .before .before .before .before .loop-test .taken) (c .before .before .before .before .before .before .before .before .before .before .pre .0) (c .before .before .before .before .before .read-be32 .ensures) (c .before .before .before .before .read-be322 .ensures) (c .before .before .store-words .ensures)
 
@@ -43,7 +40,7 @@ store-pairs-spec =
     (λ c κs. search needs)
     (λ c. search needs)
     (λ c. search needs)
-    store-words-requires
+    (λ c κs. omega (arith, pairs-length (c .before .before .before .before .loop .inv)))
     (λ c. search needs)
     (λ c. search needs)
     loop-again

@@ -27,18 +27,6 @@ length-read c = c .read-be32 .ensures
 loop-holds : tie.Need-loop-holds Inv-loop μ-loop
 loop-holds c = storing-first _ _ _ (c .before .before .pre .1)
 
-add-read-be32 : tie.Need-add-read-be32 Inv-loop μ-loop
-add-read-be32 c = omega (arith, room c)
-
-read-be32-requires : tie.Need-read-be32-requires Inv-loop μ-loop
-read-be32-requires c κs = omega (arith, room c)
-
-read-be32-requires-2 : tie.Need-read-be32-requires-2 Inv-loop μ-loop
-read-be32-requires-2 c κs = omega (arith, room (c .before))
-
-add-store-set : tie.Need-add-store-set Inv-loop μ-loop
-add-store-set c = omega (arith, room (c .before .before))
-
 code-length-requires : tie.Need-code-length-requires Inv-loop μ-loop
 code-length-requires c κs = (length-read (c .before), storing-fine (c .before .before .before .loop .inv) (c .before .before .loop-test .taken))
 
@@ -61,11 +49,11 @@ store-sets-spec =
     Inv-loop
     μ-loop
     loop-holds
-    add-read-be32
-    read-be32-requires
+    (λ c. omega (arith, room c))
+    (λ c κs. omega (arith, room c))
     (λ c. search needs)
-    read-be32-requires-2
-    add-store-set
+    (λ c κs. omega (arith, room (c .before)))
+    (λ c. omega (arith, room (c .before .before)))
     code-length-requires
     (λ c. search needs)
     (λ c κs. search needs)

@@ -15,9 +15,6 @@ abbrev μ-loop : tie.MeasureT-loop
 loop-holds : tie.Need-loop-holds Inv-loop μ-loop
 loop-holds c = singles-first _ _ _ _ _ _
 
-store-words-requires : tie.Need-store-words-requires Inv-loop μ-loop
-store-words-requires c κs = omega (arith, singles-length (c .before .before .before .loop .inv))
-
 loop-again : tie.Need-loop-again Inv-loop μ-loop
 loop-again c =
     let pre = c .before .before .before .before .before .before .before .before .before .pre in
@@ -41,7 +38,7 @@ store-singles-spec =
     (λ c κs. search needs)
     (λ c. search needs)
     (λ c. search needs)
-    store-words-requires
+    (λ c κs. omega (arith, singles-length (c .before .before .before .loop .inv)))
     (λ c. search needs)
     (λ c. search needs)
     loop-again

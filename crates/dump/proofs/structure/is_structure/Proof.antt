@@ -27,9 +27,6 @@ header c = sym (c .before .is-header .ensures) ∙ not-false _ (c .if2 .left)
 inside : (c : tie.Else2) → sectionsEnd (now (c .before .before .before .before .args .s)) ≤ length (now (c .before .before .before .before .args .s))
 inside c = header-bounds _ (header c) .1
 
-are-sections-requires : tie.Need-are-sections-requires
-are-sections-requires c κs = omega (arith, inside (c .before .before))
-
 -- what `are_sections` said of the sections
 told : (c : tie.After-are-sections) → c .are-sections .result ≡ eachSection (goodSection (now (c .before .before .before .before .before .before .before .args .s))) (sections (now (c .before .before .before .before .before .before .before .args .s))) (firstSection (now (c .before .before .before .before .before .before .before .args .s)))
 told c = c .are-sections .ensures ∙ rw (c .before .read-be16 .ensures, c .before .before .read-be32 .ensures)
@@ -64,7 +61,7 @@ is-structure-spec =
     (λ c. search needs)
     (λ c κs. search needs)
     (λ c. search needs)
-    are-sections-requires
+    (λ c κs. omega (arith, inside (c .before .before)))
     returns-3
     (λ c κs. search needs)
     is-without-disk-requires

@@ -10,9 +10,6 @@ use Rattle.indices.proofs.Writes.{entry-stored}
 use Rattle.indices.proofs.writing.store_entry.Statement.{statement}
 use Rattle.indices.proofs.writing.store_entry.Tie as tie
 
-cast-store-be32 : tie.Need-cast-store-be32
-cast-store-be32 c = omega (arith, code-in-word)
-
 returns : tie.Need-returns
 returns c = c .before .before .store-zeros .ensures
     ∙ rw (c .before .before .before .before .before .before .store-bytes .ensures, c .before .before .before .before .before .before .before .before .before .before .store-be322 .ensures, c .before .before .before .before .before .before .before .before .before .before .before .before .before .before .store-be32 .ensures, c .before .before .before .before .before .before .before .before .before .before .before .before .before .before .before .before .filled-size .ensures)
@@ -25,7 +22,7 @@ store-entry-spec =
     (λ c κs. search needs)
     (λ c κs. search needs)
     (λ c. search needs)
-    cast-store-be32
+    (λ c. omega (arith, code-in-word))
     (λ c κs. search needs)
     (λ c. search needs)
     (λ c κs. search needs)

@@ -33,17 +33,8 @@ bounds c = rw (c .locate .ensures) (located-few (c .before .next-entry .ensures 
 filled-size-requires : tie.Need-filled-size-requires Inv-loop μ-loop
 filled-size-requires c κs = bounds c .0
 
-add-taken : tie.Need-add-taken Inv-loop μ-loop
-add-taken c = omega (arith, bounds (c .before), code-in-word)
-
 returns : tie.Need-returns Inv-loop μ-loop
 returns c = writing-full (c .before .before .before .before .before .loop .inv) _ _ _ (c .before .before .before .next-entry .ensures) (c .before .before .locate .ensures) (ap (λ (n : ℕ). 8 + n) (c .before .filled-size .ensures)) (c .if1 .taken)
-
-store-entry-requires : tie.Need-store-entry-requires Inv-loop μ-loop
-store-entry-requires c κs = omega (arith, bounds (c .before .before .before))
-
-add-at : tie.Need-add-at Inv-loop μ-loop
-add-at c = omega (arith, bounds (c .before .before .before .before .before .before .before))
 
 loop-again : tie.Need-loop-again Inv-loop μ-loop
 loop-again c = rw (c .before .before .before .store-entry .ensures) (writing-next (c .before .before .before .before .before .before .before .before .before .before .loop .inv) _ _ _ (c .before .before .before .before .before .before .before .before .next-entry .ensures) (c .before .before .before .before .before .before .before .locate .ensures) (ap (λ (n : ℕ). 8 + n) (c .before .before .before .before .before .before .filled-size .ensures)) (c .before .before .before .before .before .if1 .left))
@@ -61,12 +52,12 @@ write-entries-spec =
     (λ c κs. search needs)
     locate-requires
     filled-size-requires
-    add-taken
+    (λ c. omega (arith, bounds (c .before), code-in-word))
     (λ c. search needs)
     (λ c. search needs)
     returns
-    store-entry-requires
-    add-at
+    (λ c κs. omega (arith, bounds (c .before .before .before)))
+    (λ c. omega (arith, bounds (c .before .before .before .before .before .before .before)))
     (λ c. search needs)
     (λ c. search needs)
     (λ c. search needs)

@@ -35,15 +35,6 @@ returns-2 c = none-given (now (c .before .before .before .before .before .before
 fits : (c : tie.Else2) → (headSize + 1 ≤ c .before .before .before .record-size .result) × (c .before .before .before .record-size .result ≤ headSize + codeLimit) × (c .before .before .before .record-size .result ≤ length (now (c .before .before .before .before .before .before .before .args .s)) - c .before .before .before .before .before .before .before .args .at)
 fits c = framed-bounds _ _ (c .before .before .before .before .read-frame .result .kind) (c .before .before .read-le16 .result) (sym (c .before .is-framed .ensures) ∙ not-false _ (c .if2 .left))
 
-add-zero-bytes : tie.Need-add-zero-bytes
-add-zero-bytes c = omega (arith, fits c)
-
-add-zero-bytes-2 : tie.Need-add-zero-bytes-2
-add-zero-bytes-2 c = omega (arith, fits c)
-
-zero-bytes-requires : tie.Need-zero-bytes-requires
-zero-bytes-requires c κs = omega (arith, fits c, code-in-byte)
-
 returns-3 : tie.Need-returns-3
 returns-3 c = none-given (now (c .before .before .before .before .before .before .before .before .before .args .s)) (c .before .before .before .before .before .before .before .before .before .args .at) (judged (c .before .before .before) _ (c .before .zero-bytes .ensures) ∙ rw (ne-eqb (c .before .zero-bytes .result) 0 (λ e. omega arith), and-false))
 
@@ -62,8 +53,8 @@ record-at-spec =
     (λ c κs. search needs)
     (λ c κs. search needs)
     returns-2
-    add-zero-bytes
-    add-zero-bytes-2
-    zero-bytes-requires
+    (λ c. omega (arith, fits c))
+    (λ c. omega (arith, fits c))
+    (λ c κs. omega (arith, fits c, code-in-byte))
     returns-3
     returns-4)

@@ -26,9 +26,6 @@ loop-holds c = (search needs, search needs, search needs, sym (zero-add _))
 one : (c : tie.After-one-if Inv-loop μ-loop) → c .one-if .result ≤ 1
 one c = rw (c .one-if .ensures) (one-if-le (eqb (getD (now (c .before .before .before .before .before .args .s)) (c .before .before .before .loop .i) 0) 0))
 
-add-zeros : tie.Need-add-zeros Inv-loop μ-loop
-add-zeros c = omega (arith, one c)
-
 loop-again : tie.Need-loop-again Inv-loop μ-loop
 loop-again c = (search needs, search needs, omega (arith, one c), omega (arith, c .before .before .before .loop .inv .2, c .one-if .ensures, zero-count-next (now (c .before .before .before .before .before .args .s)) (c .before .before .before .loop .i) (c .before .before .before .before .before .args .to) (omega arith) (omega arith)))
 
@@ -44,7 +41,7 @@ zero-bytes-spec =
     loop-holds
     (λ c. search needs)
     (λ c κs. search needs)
-    add-zeros
+    (λ c. omega (arith, one c))
     (λ c. search needs)
     (λ c. search needs)
     loop-again

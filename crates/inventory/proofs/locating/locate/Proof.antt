@@ -15,9 +15,6 @@ use Rattle.inventory.proofs.locating.locate.Tie as tie
 size-is : (c : tie.After-record-size) → c .record-size .result ≡ sizeOf (drop (c .before .before .before .args .at) (now (c .before .before .before .args .inventory)))
 size-is c = c .record-size .ensures ∙ ap (λ (f : Frame). f .length + 2) (c .before .read-frame .ensures)
 
-sub-length : tie.Need-sub-length
-sub-length c = omega (arith, size-is (c .before))
-
 returns : tie.Need-returns
 returns c = located-read (c .before .before .before .before .pre) _ _ (size-is (c .before)) (c .read-le32 .ensures)
 
@@ -30,5 +27,5 @@ locate-spec =
     (λ c. search needs)
     (λ c κs. search needs)
     (λ c. search needs)
-    sub-length
+    (λ c. omega (arith, size-is (c .before)))
     returns)

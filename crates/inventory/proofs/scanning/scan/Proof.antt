@@ -46,9 +46,6 @@ one c = rw (c .one-if .ensures) (one-if-le (c .before .has-type .result))
 add-count : tie.Need-add-count Inv-loop μ-loop
 add-count c = omega (arith, one c, c .before .before .before .before .before .before .before .loop .inv .few)
 
-add-at : tie.Need-add-at Inv-loop μ-loop
-add-at c = omega (arith, standing (c .before .before .before .before) .fits)
-
 loop-less : tie.Need-loop-less Inv-loop μ-loop
 loop-less c = omega (arith, standing (c .before .before .before .before) .fits, standing (c .before .before .before .before) .large)
 
@@ -77,7 +74,7 @@ scan-spec =
     (λ c κs. search needs)
     (λ c. search needs)
     add-count
-    add-at
+    (λ c. omega (arith, standing (c .before .before .before .before) .fits))
     loop-less
     loop-again
     returns-3)

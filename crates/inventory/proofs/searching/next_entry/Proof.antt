@@ -25,9 +25,6 @@ loop-holds c = record { onward = c .before .pre .0; some = c .before .pre .1; sa
 has-type-requires : tie.Need-has-type-requires Inv-loop μ-loop
 has-type-requires c κs = readable (record-sought (c .loop .inv))
 
-read-frame-requires : tie.Need-read-frame-requires Inv-loop μ-loop
-read-frame-requires c κs = omega (arith, record-sought (c .before .before .loop .inv))
-
 -- the size that was read
 size-is : (c : tie.After-record-size Inv-loop μ-loop) → c .record-size .result ≡ sizeOf (drop (c .before .before .before .before .loop .at) (now (c .before .before .before .before .before .before .args .inventory)))
 size-is c = c .record-size .ensures ∙ ap (λ (f : Frame). f .length + 2) (c .before .read-frame .ensures)
@@ -52,7 +49,7 @@ next-entry-spec =
     μ-loop
     loop-holds
     has-type-requires
-    read-frame-requires
+    (λ c κs. omega (arith, record-sought (c .before .before .loop .inv)))
     (λ c κs. search needs)
     add-at
     loop-less

@@ -12,9 +12,6 @@ use Rattle.print_nodes.proofs.Sizes.{area-text, text-fits}
 use Rattle.print_nodes.proofs.text.put_area.Statement.{statement}
 use Rattle.print_nodes.proofs.text.put_area.Tie as tie
 
-read-requires : tie.Need-read-requires
-read-requires c κs = omega (arith, area-text _ _ _ (c .before .pre) refl .0)
-
 whole : (c : tie.After-read) → Fits 0 (ended state- (c .read .result .0) ++ (lines (remaining (now (c .before .before .args .input)) startOf) ++ ended end- (c .before .before .args .count)))
 whole c = rw (area-text _ _ _ (c .before .before .pre) (c .read .ensures) .1) at (text-fits (now (c .before .before .args .input)))
 
@@ -37,7 +34,7 @@ pub put-area-spec : {M : Type 1} → statement M
 put-area-spec =
     tie.close
     (tie.spec
-    read-requires
+    (λ c κs. omega (arith, area-text _ _ _ (c .before .pre) refl .0))
     (λ c. search needs)
     (λ c. search needs)
     put-ended-requires

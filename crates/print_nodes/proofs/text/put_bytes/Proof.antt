@@ -16,15 +16,6 @@ abbrev μ-loop : tie.MeasureT-loop
 loop-holds : tie.Need-loop-holds Inv-loop μ-loop
 loop-holds c = copied-first _ _ _
 
-element-write-out : tie.Need-element-write-out Inv-loop μ-loop
-element-write-out c = omega (arith, copied-place (c .before .before .loop .inv))
-
-add-to : tie.Need-add-to Inv-loop μ-loop
-add-to c = omega (arith, copied-place (c .before .before .loop .inv))
-
-loop-less : tie.Need-loop-less Inv-loop μ-loop
-loop-less c = omega arith
-
 loop-again : tie.Need-loop-again Inv-loop μ-loop
 loop-again c = copied-byte (c .before .before .loop .inv) (c .before .loop-test .taken)
 
@@ -39,9 +30,9 @@ put-bytes-spec =
     μ-loop
     loop-holds
     (λ c. search needs)
-    element-write-out
-    add-to
+    (λ c. omega (arith, copied-place (c .before .before .loop .inv)))
+    (λ c. omega (arith, copied-place (c .before .before .loop .inv)))
     (λ c. search needs)
-    loop-less
+    (λ c. omega arith)
     loop-again
     returns)

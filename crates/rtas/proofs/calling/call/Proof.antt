@@ -32,9 +32,6 @@ yes c = sym (given (c .before)) ∙ not-false _ (c .if1 .left)
 whole : (c : tie.Else1) → Whole (now (c .before .before .before .before .before .before .before .before .args .args))
 whole c = whole-buffer _ (yes c)
 
-read-be32-requires : tie.Need-read-be32-requires
-read-be32-requires c κs = omega (arith, whole (c .before) .size)
-
 number-is : (c : tie.Else1) → c .before .before .number-for .result ≡ Given
 number-is c = given-number _ (sym (c .before .is-given .ensures) ∙ not-false _ (c .if1 .left))
 
@@ -59,7 +56,7 @@ call-spec =
     (λ c κs. search needs)
     (λ c. search needs)
     returns
-    read-be32-requires
+    (λ c κs. omega (arith, whole (c .before) .size))
     (λ c. search needs)
     dispatch-requires
     (λ c. search needs)

@@ -20,9 +20,6 @@ entry c = found (now (c .args .args)) (now (c .args .memory)) (now (c .args .jou
 whole : (c : tie.Start) → Whole (now (c .args .args))
 whole c = whole-buffer (now (c .args .args)) (ap isGiven (c .pre))
 
-asks-for-requires : tie.Need-asks-for-requires
-asks-for-requires c κs = omega (arith, whole (c .before .before .before .before .before) .size)
-
 -- ---- update-nodes
 
 nodes-yes : (c : tie.After-read-be32-arg) → isNodes (now (c .before .before .before .before .before .before .before .before .args .args)) ≡ true
@@ -31,12 +28,6 @@ nodes-yes c = sym (c .before .before .asks-for .ensures) ∙ c .before .if1 .tak
 -- two inputs are inside
 two-inside : (c : tie.After-read-be32-arg) → 24 ≤ length (now (c .before .before .before .before .before .before .before .before .args .args))
 two-inside c = omega (arith, whole (c .before .before .before .before .before .before .before .before) .size, asked 1 2 1 (now (c .before .before .before .before .before .before .before .before .args .args)) (nodes-yes c))
-
-read-be32-requires : tie.Need-read-be32-requires
-read-be32-requires c κs = omega (arith, two-inside c)
-
-read-be32-requires-2 : tie.Need-read-be32-requires-2
-read-be32-requires-2 c κs = omega (arith, two-inside (c .before .before))
 
 returns : tie.Need-returns
 returns c =
@@ -71,15 +62,6 @@ dump-yes c = sym (c .before .before .asks-for3 .ensures) ∙ c .before .if3 .tak
 three-inside : (c : tie.After-read-be32-arg3) → 28 ≤ length (now (c .before .before .before .before .before .before .before .before .before .before .before .before .before .before .args .args))
 three-inside c = omega (arith, whole (c .before .before .before .before .before .before .before .before .before .before .before .before .before .before) .size, asked 3 3 1 (now (c .before .before .before .before .before .before .before .before .before .before .before .before .before .before .args .args)) (dump-yes c))
 
-read-be32-requires-3 : tie.Need-read-be32-requires-3
-read-be32-requires-3 c κs = omega (arith, three-inside c)
-
-read-be32-requires-4 : tie.Need-read-be32-requires-4
-read-be32-requires-4 c κs = omega (arith, three-inside (c .before .before))
-
-read-be32-requires-5 : tie.Need-read-be32-requires-5
-read-be32-requires-5 c κs = omega (arith, three-inside (c .before .before .before .before))
-
 returns-3 : tie.Need-returns-3
 returns-3 c =
     let told = rw (c .before .before .before .before .before .before .read-be323 .ensures, c .before .before .before .before .read-be324 .ensures, c .before .before .read-be325 .ensures) at (c .configure-kernel-dump .ensures) in
@@ -96,9 +78,9 @@ pub dispatch-spec : {M : Type 1} → statement M
 dispatch-spec =
     tie.close
     (tie.spec
-    asks-for-requires
-    read-be32-requires
-    read-be32-requires-2
+    (λ c κs. omega (arith, whole (c .before .before .before .before .before) .size))
+    (λ c κs. omega (arith, two-inside c))
+    (λ c κs. omega (arith, two-inside (c .before .before)))
     (λ c κs. search needs)
     (λ c. search needs)
     (λ c. search needs)
@@ -109,9 +91,9 @@ dispatch-spec =
     (λ c. search needs)
     returns-2
     asks-for-requires-3
-    read-be32-requires-3
-    read-be32-requires-4
-    read-be32-requires-5
+    (λ c κs. omega (arith, three-inside c))
+    (λ c κs. omega (arith, three-inside (c .before .before)))
+    (λ c κs. omega (arith, three-inside (c .before .before .before .before)))
     (λ c κs. search needs)
     (λ c. search needs)
     (λ c. search needs)

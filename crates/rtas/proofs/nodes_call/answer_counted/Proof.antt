@@ -11,8 +11,8 @@ use Rattle.journal.specs.Reportable.{reportable}
 use Rattle.nodes.proofs.Answers.{counts-small}
 use Rattle.nodes.proofs.Listed.{total-is}
 use Rattle.nodes.specs.Area.{written}
-use Rattle.nodes.specs.Head.{isReserved}
-use Rattle.nodes.specs.Run.{total}
+use Rattle.node_area.specs.Head.{isReserved}
+use Rattle.node_area.specs.State.{total}
 use Rattle.calls.proofs.Areas.{left-reserved, left-state, left-answered, Left, state-is, state-within}
 use Rattle.calls.specs.declared.status.Status.the-variants.{Done, Again}
 use Rattle.calls.specs.UpdateNodes.{goodState}
