@@ -148,7 +148,7 @@ enum draugsten_refusal {
     DRAUGSTEN_REFUSAL_AREA_SIZE = 20,           /* not 4,096 bytes; at 0 */
     DRAUGSTEN_REFUSAL_RESERVED = 21,            /* bytes 4 to 15 not zero; at 4 */
     DRAUGSTEN_REFUSAL_OPCODE = 22,              /* opcode not 1 to 3; 22 to 26 at the operator */
-    DRAUGSTEN_REFUSAL_NO_OPERANDS = 23,         /* operand count zero */
+    /* 23, operand count zero, is withdrawn and not used again: such an operator is passed over */
     DRAUGSTEN_REFUSAL_OPERANDS_PAST_END = 24,
     DRAUGSTEN_REFUSAL_ODD_OPERANDS = 25,        /* odd count for opcode 3 */
     DRAUGSTEN_REFUSAL_ORDER = 26,               /* opcode lower than an earlier one */

@@ -47,6 +47,7 @@ pub struct Refusal {
 }
 
 /// What is wrong with an area. `as u32` gives its number: 20 to 27 of node areas, 30 to 33 of index areas.
+/// 23 is withdrawn: an operator with no operands is passed over.
 #[derive(Clone, Copy, PartialEq, Eq, Debug)]
 pub enum Reason {
     /// Not 4,096 bytes.
@@ -55,8 +56,6 @@ pub enum Reason {
     Reserved = 21,
     /// An opcode not 1 to 3.
     Opcode = 22,
-    /// An operand count of zero.
-    NoOperands = 23,
     /// Operands past the end.
     OperandsPastEnd = 24,
     /// An odd operand count for additions.
@@ -129,7 +128,6 @@ fn accepted(number: u32, offset: usize) -> Result<(), Refusal> {
         20 => Reason::AreaSize,
         21 => Reason::Reserved,
         22 => Reason::Opcode,
-        23 => Reason::NoOperands,
         24 => Reason::OperandsPastEnd,
         25 => Reason::OddOperands,
         26 => Reason::Order,

@@ -37,9 +37,13 @@ fn entries(area: &[u8]) -> Result<usize, Refused> {
             return Ok(entries);
         }
         let (opcode, words) = split(operator);
-        judge(opcode, words, last, at)?;
+        at += 4;
+        if words == 0 {
+            continue;
+        }
+        judge(opcode, words, last, at - 4)?;
         entries += if opcode == 3 { words / 2 } else { words };
-        at += 4 + 4 * words;
+        at += 4 * words;
         last = opcode;
     }
     Err((27, NODE_AREA))
@@ -49,8 +53,6 @@ fn entries(area: &[u8]) -> Result<usize, Refused> {
 fn judge(opcode: u32, words: usize, last: u32, at: usize) -> Result<(), Refused> {
     let refusal = if !(1..=3).contains(&opcode) {
         22
-    } else if words == 0 {
-        23
     } else if opcode == 3 && words % 2 == 1 {
         25
     } else if opcode < last {

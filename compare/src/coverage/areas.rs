@@ -10,7 +10,6 @@ pub const NODE_REFUSALS: &[(u32, &str)] = &[
     (20, "20 not 4,096 bytes"),
     (21, "21 bytes 4 to 15 not zero"),
     (22, "22 opcode not 1 to 3"),
-    (23, "23 operand count zero"),
     (24, "24 operands past the end"),
     (25, "25 odd count for opcode 3"),
     (26, "26 opcode lower than an earlier one"),
@@ -49,6 +48,36 @@ impl Facts {
         let operator = word_at(&self.area, self.reading.offset as usize).unwrap_or(0);
         let count = operator & 0xff_ffff;
         (operator >> 24, count, self.reading.offset + 4 + 4 * u64::from(count))
+    }
+
+    /// The operators of a node area with their offsets, up to a zero word or the end.
+    fn operators(&self) -> Vec<(usize, u32)> {
+        let mut operators = Vec::new();
+        let mut at = 16;
+        while let Some(operator @ 1..) = word_at(&self.area, at) {
+            operators.push((at, operator));
+            at += 4 + 4 * (operator & 0xff_ffff) as usize;
+        }
+        operators
+    }
+
+    fn empty_at(&self, test: fn(usize, u32) -> bool) -> bool {
+        self.operators().iter().any(|&(at, operator)| is_empty(operator) && test(at, operator))
+    }
+
+    fn empty_below_earlier(&self) -> bool {
+        self.operators().windows(3).any(|three| {
+            let [before, empty, behind] = [three[0].1, three[1].1, three[2].1];
+            !is_empty(before) && is_empty(empty) && !is_empty(behind) && empty >> 24 < before >> 24
+        })
+    }
+
+    fn empty_before_terminator(&self) -> bool {
+        self.operators().last().is_some_and(|&(_, operator)| is_empty(operator))
+    }
+
+    fn empty_in_a_row(&self, number: usize) -> bool {
+        self.operators().windows(number).any(|row| row.iter().all(|&(_, operator)| is_empty(operator)))
     }
 
     /// What is left of an index area from the refused set on, and the set's length, if it has one.
@@ -96,12 +125,13 @@ impl Facts {
 
     /// The operands of a read node area end at 4,092, so that the last word is the terminator.
     fn operands_to_4092(&self) -> bool {
-        let mut at = 16;
-        while let Some(operator @ 1..) = word_at(&self.area, at) {
-            at += 4 + 4 * (operator & 0xff_ffff) as usize;
-        }
-        at == 4092
+        self.operators().last().is_some_and(|&(at, operator)| at + 4 + 4 * (operator & 0xff_ffff) as usize == 4092)
     }
+}
+
+/// An operator with no operands.
+fn is_empty(operator: u32) -> bool {
+    operator & 0xff_ffff == 0
 }
 
 pub const NODE_LINES: &[Line<Facts>] = &[
@@ -113,10 +143,15 @@ pub const NODE_LINES: &[Line<Facts>] = &[
     ("terminator in the last word", |f| f.entries() && f.operands_to_4092()),
     ("22: opcode 0 with a count", |f| f.refused(22) && f.operator().0 == 0),
     ("22: opcode 4 with a count", |f| f.refused(22) && f.operator().0 == 4 && f.operator().1 > 0),
-    ("22: opcode 4, count 0", |f| f.refused(22) && f.operator().0 == 4 && f.operator().1 == 0),
     ("22: opcode 4, past the end", |f| f.refused(22) && f.operator().0 == 4 && f.operator().2 > 4096),
-    ("23: opcode 1", |f| f.refused(23) && f.operator().0 == 1),
-    ("23: opcode 3", |f| f.refused(23) && f.operator().0 == 3),
+    ("empty operator: opcode 0x80", |f| f.entries() && f.empty_at(|_, word| word == 0x8000_0000)),
+    ("empty operator: opcode 4", |f| f.entries() && f.empty_at(|_, word| word == 0x0400_0000)),
+    ("empty operator before all lists", |f| f.entries() && f.empty_at(|at, _| at == 16)),
+    ("empty operator of a lower opcode between lists", |f| f.entries() && f.empty_below_earlier()),
+    ("empty operator right before the terminator", |f| f.entries() && f.empty_before_terminator()),
+    ("empty operators, four in a row", |f| f.entries() && f.empty_in_a_row(4)),
+    ("empty operators alone", |f| f.refused(0) && f.reading.entries == 0 && f.empty_at(|_, _| true)),
+    ("27: empty operator in the last word", |f| f.refused(27) && f.empty_at(|at, _| at == 4092)),
     ("25: inside the area", |f| f.refused(25) && f.operator().2 <= 4096),
     ("25: past the end", |f| f.refused(25) && f.operator().2 > 4096),
     ("26: inside the area", |f| f.refused(26) && f.operator().2 <= 4096),

@@ -55,6 +55,16 @@ fn node_readings() -> Vec<AreaReading> {
             &[[1, 7, 0], [1, 8, 0], [1, 9, 0]],
         ),
         nodes("operands 0", filled(&[0x0300_0002, 0, 0, 0]), 0, &[[3, 0, 0]]),
+        nodes("count 0", filled(&[0x0100_0000, 0]), 0, &[]),
+        nodes("opcode 4, count 0", filled(&[0x0400_0000, 0]), 0, &[]),
+        nodes("opcode 255, count 0", filled(&[0xff00_0000, 0]), 0, &[]),
+        nodes("count 0 before a lower opcode", filled(&[0x0200_0000, 0x0100_0001, 7, 0]), 0, &[[1, 7, 0]]),
+        nodes(
+            "count 0 of a lower opcode between updates",
+            filled(&[0x0200_0001, 7, 0x0100_0000, 0x0200_0001, 8, 0]),
+            0,
+            &[[2, 7, 0], [2, 8, 0]],
+        ),
     ]
 }
 
@@ -71,11 +81,10 @@ fn node_refusals() -> Vec<AreaReading> {
         nodes_refused("byte 4", reserved(4), 21, 4),
         nodes_refused("byte 15", reserved(15), 21, 4),
         nodes_refused("opcode 0, count 5", filled(&[5]), 22, 16),
-        nodes_refused("opcode 4, count 0", filled(&[0x0400_0000]), 22, 16),
+        nodes_refused("opcode 4, count 1", filled(&[0x0400_0001]), 22, 16),
         nodes_refused("opcode 4, past the end", filled(&[0x04ff_ffff]), 22, 16),
         nodes_refused("opcode 255", filled(&[0x0100_0001, 1, 0xff00_0001]), 22, 24),
-        nodes_refused("count 0", filled(&[0x0100_0000]), 23, 16),
-        nodes_refused("count 0, lower opcode", filled(&[0x0200_0001, 1, 0x0100_0000]), 23, 24),
+        nodes_refused("lower opcode behind count 0", filled(&[0x0200_0001, 1, 0x0100_0000, 0x0100_0001]), 26, 28),
         nodes_refused("odd count", filled(&[0x0300_0003]), 25, 16),
         nodes_refused("odd count past the end", filled(&[0x03ff_ffff]), 25, 16),
         nodes_refused("lower opcode", filled(&[0x0200_0001, 1, 0x0100_0001, 1, 0]), 26, 24),
@@ -90,9 +99,12 @@ fn node_ends() -> Vec<AreaReading> {
     let mut terminated = filled(&[0x0100_03fa]);
     terminated[4092..].fill(0);
     let whole = vec![[1, 1, 0]; 1018];
+    let mut empty = filled(&[0x0100_03fa]);
+    empty[4092..].copy_from_slice(&[2, 0, 0, 0]);
     vec![
         nodes("1,018 deletes and a terminator in the last word", terminated, 0, &whole),
         nodes_refused("1,018 deletes and one word more, opcode 0", filled(&[0x0100_03fa]), 22, 4092),
+        nodes_refused("1,018 deletes and an empty operator in the last word", empty, 27, 4096),
         nodes_refused("1,019 deletes to byte 4,096", filled(&[0x0100_03fb]), 27, 4096),
         nodes_refused("1,020 deletes", filled(&[0x0100_03fc]), 24, 16),
         nodes_refused("510 additions", filled(&[0x0300_03fc]), 24, 16),

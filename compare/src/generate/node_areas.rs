@@ -35,6 +35,9 @@ fn written(random: &mut Random) -> Vec<u8> {
     area
 }
 
+/// Operators with no operands, which are passed over whatever their opcode.
+const EMPTY: [u32; 6] = [0x0100_0000, 0x0200_0000, 0x0300_0000, 0x0400_0000, 0x8000_0000, 0xff00_0000];
+
 /// One operator, good or on the wrong side of a line, that stands at `at` behind one of `last` opcode.
 fn operator(random: &mut Random, at: usize, last: u32) -> u32 {
     let left = ((4096 - at - 4) / 4) as u32;
@@ -66,12 +69,18 @@ fn built(random: &mut Random) -> Vec<u8> {
         area[0..4].fill(0);
     }
     let ends_in = random.pick(&[2, 5, 1000]);
+    let empty_in = random.pick(&[2, 8, 1000]);
     let mut at = 16;
     let mut last = 0;
     while at < 4096 {
         if random.one_in(ends_in) {
             put_word(&mut area, at, 0);
             break;
+        }
+        if random.one_in(empty_in) {
+            put_word(&mut area, at, random.pick(&EMPTY));
+            at += 4;
+            continue;
         }
         let operator = operator(random, at, last);
         put_word(&mut area, at, operator);

@@ -45,6 +45,11 @@ pub fn read_nodes(area: &[u8]) -> Result<Nodes, Refused> {
             return Ok(Nodes { state: as_word(word(area, 0)), operations });
         }
         let (opcode, count) = (operator >> 24, operator & 0xff_ffff);
+        // M-101: "passed over whatever its opcode, and takes no part in the order test"
+        if count == 0 {
+            at += 4;
+            continue;
+        }
         judge_operator(opcode, count, last_opcode, at)?;
         let end = at + 4 + 4 * count as usize;
         read_operands(&area[at + 4..end], opcode, &mut operations);
@@ -54,14 +59,11 @@ pub fn read_nodes(area: &[u8]) -> Result<Nodes, Refused> {
     refused_at(27, 4096)
 }
 
-/// "22 opcode not 1 to 3; 23 operand count zero; 25 odd count for opcode 3; 26 opcode lower than an earlier one; 24
+/// "22 opcode not 1 to 3; .. 25 odd count for opcode 3; 26 opcode lower than an earlier one; 24
 /// operands past the end; each at the operator's offset, in this order."
 fn judge_operator(opcode: u64, count: u64, last_opcode: u64, at: usize) -> Result<(), Refused> {
     if !(1..=3).contains(&opcode) {
         return refused_at(22, at);
-    }
-    if count == 0 {
-        return refused_at(23, at);
     }
     if opcode == 3 && count % 2 == 1 {
         return refused_at(25, at);

@@ -8,7 +8,7 @@ use Rattle.journal.specs.Reportable.{reports, reportable, operandWords}
 use Rattle.node_area.specs.Head.{isReserved}
 use Rattle.nodes.specs.Run.{present, cost, longest, run, remains, nextState}
 use Rattle.nodes.specs.Area.{operandsOf, body, answer, written}
-use Rattle.node_area.specs.Reading.{faultOf, verdict, operationsAt, reading}
+use Rattle.node_area.specs.Reading.{faultOf, lastAfter, verdict, operationsAt, reading}
 use Rattle.calls.specs.Lent.{partAt, withPart}
 use Rattle.calls.specs.UpdateNodes.{placed, goodState, areaStatus, areaAfter, nodesStatus, nodesMemory}
 use Rattle.inventory.specs.Inventory.{codeLimit, flagOf, typeOf, indexOf, codeOf, nonZero, goodHead, goodCode}
@@ -27,5 +27,5 @@ use Rattle.calls.specs.Buffer.{numberFor, asks, nodesOutcome, indicesOut
 use Rattle.calls.specs.Readings.{Readings}
 
 pub readings : Readings
-unfolding be le beBytes wordBytes words zeros lengthOf kindOf recordsFrom records whole allGood wellFormedBy goodFrame nodeType goodRecord wellFormed operationOf entries negative valid rowOf reports chosenBy reportable operandWords present cost longest run remains nextState operandsOf body answer written faultOf verdict operationsAt reading partAt withPart placed goodState areaStatus areaAfter nodesStatus nodesMemory flagOf typeOf indexOf codeOf nonZero goodCode inventory.goodRecord inventory.wellFormed listing.matches listing.listed codeField entryBytes entriesBytes fitting index-area.run index-area.answer index-area.written lengthAt fieldAt goodLength goodField faultAt readFrom index-reading.reading askable lendable goodNumber dueFits moreEntries listStatus indicesStatus indicesMemory nextNumber untilNul goodHeader eachSection goodType goodSection requested withoutDisk goodPath goodStructure acceptable verdictOf registrationAfter padded dumpStatus numberFor asks nodesOutcome indicesOutcome dumpOutcome outcome callOf codeLimit goodHead isReserved
+unfolding be le beBytes wordBytes words zeros lengthOf kindOf recordsFrom records whole allGood wellFormedBy goodFrame nodeType goodRecord wellFormed operationOf entries negative valid rowOf reports chosenBy reportable operandWords present cost longest run remains nextState operandsOf body answer written faultOf lastAfter verdict operationsAt reading partAt withPart placed goodState areaStatus areaAfter nodesStatus nodesMemory flagOf typeOf indexOf codeOf nonZero goodCode inventory.goodRecord inventory.wellFormed listing.matches listing.listed codeField entryBytes entriesBytes fitting index-area.run index-area.answer index-area.written lengthAt fieldAt goodLength goodField faultAt readFrom index-reading.reading askable lendable goodNumber dueFits moreEntries listStatus indicesStatus indicesMemory nextNumber untilNul goodHeader eachSection goodType goodSection requested withoutDisk goodPath goodStructure acceptable verdictOf registrationAfter padded dumpStatus numberFor asks nodesOutcome indicesOutcome dumpOutcome outcome callOf codeLimit goodHead isReserved
 readings = tt

@@ -22,10 +22,10 @@ use Rattle.node_area.specs.declared.reading.Check.{Check}
 use Rattle.node_area.specs.declared.reading.Check.the-variants.{Entries, Refused}
 use Rattle.words.specs.Reading.{Reading, read, refused}
 use Rattle.node_area.specs.Reading as nodes
-use Rattle.node_area.specs.Reading.{opcodeIn, countIn, faultOf, verdict, single, operationsAt, operationsIn, reading, checkOf}
+use Rattle.node_area.specs.Reading.{opcodeIn, countIn, faultOf, lastAfter, verdict, single, operationsAt, operationsIn, reading, checkOf}
 use Rattle.node_area.specs.Cursor.{remaining, startOf}
-use Rattle.node_area.proofs.Verdicts.{Operator, operator, operations-end, operations-more, operations-single, operations-pair, operations-passed, verdict-fine, entries-in-order}
-use Rattle.node_area.proofs.Walks.{good-words, opcode-range, good-fine, words-inside, operations-next, singles-cut, pairs-cut, operator-split}
+use Rattle.node_area.proofs.Verdicts.{Operator, operator, operations-end, operations-more, operations-single, operations-pair, operations-passed, verdict-fine, operations-next, entries-in-order}
+use Rattle.node_area.proofs.Walks.{good-words, good-fine, words-inside, singles-cut, pairs-cut, operator-split}
 use Rattle.draugsten.specs.Readings.{operationWords, operationsWords, nodesOut}
 
 -- ---- operations stored one after the other
@@ -193,9 +193,6 @@ module _ {area start l : List ℕ} {count at i : ℕ} (s : Walking area start co
       pub walking-inside : at + 4 + 4 * countIn w ≤ length area
       walking-inside = omega (arith, walking-fits, walking-operator .fits, words-inside (drop (at + 4) area), length-drop (at + 4) area)
 
-      pub walking-range : (1 ≤ opcodeIn w) × (opcodeIn w ≤ 3)
-      walking-range = opcode-range w (s .last) (length ws) fault
-
       -- its operations are stored
       pub walking-next : (r : ℕ) (m : List ℕ) → r ≡ min (operationsIn w) (count - i) → m ≡ sets l (3 * i) (operationsWords (take r (operationsAt ws (opcodeIn w) (countIn w)))) → Walking area start count m (at + 4 + 4 * countIn w) (i + r)
       walking-next r m least stored =
@@ -210,7 +207,7 @@ module _ {area start l : List ℕ} {count at i : ℕ} (s : Walking area start co
           let split = rw (less, behind) at (operator-split (opcodeIn w) n (count - i) r ws (o .fits) (o .even) least) in
           let place : 3 * (i + r) ≡ 3 * i + 3 * length (take r os) = omega (arith, length-take-le r os (omega arith)) in
           record {
-            last = opcodeIn w;
+            last = lastAfter (s .last) w;
             fine = sym (rw behind at (verdict-fine w at (s .last) ws some fault)) ∙ (rw here at (s .fine));
             within = omega (arith, s .within);
             ahead = omega arith;

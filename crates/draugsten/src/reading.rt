@@ -40,7 +40,6 @@ fn node_refusal(refusal: node_area::Refusal) -> u32
         node_area::Refusal::Size => 20,
         node_area::Refusal::Reserved => 21,
         node_area::Refusal::Opcode => 22,
-        node_area::Refusal::Count => 23,
         node_area::Refusal::Past => 24,
         node_area::Refusal::Odd => 25,
         node_area::Refusal::Order => 26,
@@ -60,7 +59,7 @@ fn store_words(out: &mut [u32], to: usize, first: u32, second: u32, third: u32)
 
 // Operations of one operand word, `n` of them, from a place of the area on.
 fn store_singles(area: &[u8], at: usize, code: u32, n: usize, out: &mut [u32], to: usize)
-    requires { ⌜ (at + 4 * n ≤ length (now area)) × (to + 3 * n ≤ length (now out)) × (1 ≤ code) × (code < 3) ⌝ }
+    requires { ⌜ (at + 4 * n ≤ length (now area)) × (to + 3 * n ≤ length (now out)) × (0 < n → (1 ≤ code) × (code < 3)) ⌝ }
     ensures { λ _. ⌜ now (out .exit) ≡ sets (now (out .entry)) to (operationsWords (take n (nodes_reading.operationsAt (words (drop at (now (area .entry)))) code n))) ⌝ }
 {
     let mut i: usize = 0;
@@ -94,7 +93,7 @@ fn store_operands(
     to: usize,
     most: usize,
 ) -> usize
-    requires { ⌜ (at ≤ length (now area)) × (nodes_reading.countIn word ≤ length (words (drop at (now area)))) × (to + 3 * most ≤ length (now out)) × (1 ≤ nodes_reading.opcodeIn word) × (nodes_reading.opcodeIn word ≤ 3) ⌝ }
+    requires { ⌜ (at ≤ length (now area)) × (nodes_reading.countIn word ≤ length (words (drop at (now area)))) × (to + 3 * most ≤ length (now out)) × (0 < nodes_reading.countIn word → (1 ≤ nodes_reading.opcodeIn word) × (nodes_reading.opcodeIn word ≤ 3)) ⌝ }
     ensures { λ r. ⌜ r ≡ min (nodes_reading.operationsIn word) most ⌝ }
     ensures { λ r. ⌜ now (out .exit) ≡ sets (now (out .entry)) to (operationsWords (take r (nodes_reading.operationsAt (words (drop at (now (area .entry)))) (nodes_reading.opcodeIn word) (nodes_reading.countIn word)))) ⌝ }
 {

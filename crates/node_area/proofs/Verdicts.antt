@@ -9,47 +9,65 @@ use native.Mathlib.Omega.{arith}
 use lib.Dec.{leb, ltb, eqb}
 use lib.ListN.{length, drop, length-drop}
 use lib.Seq.{drop-drop}
-use borrow.Author.Tests.{eq-eqb, ne-eqb, ltb-false, eqb-true, eqb-false}
+use borrow.Author.Tests.{eq-eqb, ne-eqb, leb-true, ltb-false, eqb-true, eqb-false}
 use Rattle.words.specs.Numbers.{be, words}
 use Rattle.words.proofs.Words.{words-step, words-short, words-drop, length-words}
 use Rattle.words.proofs.Choice.{choose}
 use Rattle.journal.specs.declared.operation.Operation.{Operation}
 use Rattle.journal.specs.declared.operation.Operation.the-variants.{Add}
 use Rattle.node_area.specs.declared.reading.Refusal.{Refusal}
-use Rattle.node_area.specs.declared.reading.Refusal.the-variants.{Size, Reserved, Opcode, Count, Past, Odd, Order, Unterminated}
+use Rattle.node_area.specs.declared.reading.Refusal.the-variants.{Size, Reserved, Opcode, Past, Odd, Order, Unterminated}
 use Rattle.node_area.specs.declared.reading.Fault.the-variants.{Fine, Bad}
 use Rattle.node_area.specs.declared.reading.Check.{Check}
 use Rattle.node_area.specs.declared.reading.Check.the-variants.{Entries, Refused}
 use Rattle.words.specs.Reading.{read, refused}
-use Rattle.node_area.specs.Reading.{opcodeIn, countIn, faultOf, Verdict, good, bad, verdict, single, operationsAt, operationsIn, readBy, reading, checkOf}
+use Rattle.node_area.specs.Reading.{opcodeIn, countIn, faultOf, lastAfter, Verdict, good, bad, verdict, single, operationsAt, operationsIn, readBy, reading, checkOf}
 use Rattle.node_area.specs.Head.{areaSize, headSize, isReserved}
 use Rattle.node_area.specs.Cursor.{remaining, EntriesInOrder}
 
 -- ---- a fine operator
 
--- where no test finds a fault, those for an odd count and for operands past the end do not
-fault-none : (a b c d e : Bool) → cond a (Bad Opcode) (cond b (Bad Count) (cond c (Bad Odd) (cond d (Bad Order) (cond e (Bad Past) Fine)))) ≡ Fine → (c ≡ false) × (e ≡ false)
-fault-none true b c d e h = (cc, cc)
-fault-none false true c d e h = (cc, cc)
-fault-none false false true d e h = (cc, cc)
-fault-none false false false true e h = (cc, cc)
-fault-none false false false false true h = (cc, cc)
-fault-none false false false false false h = (refl, refl)
+-- where there are operands and no test finds a fault, those for the opcode, an odd count and operands past the end do not
+fault-none : (a b c d e : Bool) → cond (not (a && b)) (Bad Opcode) (cond c (Bad Odd) (cond d (Bad Order) (cond e (Bad Past) Fine))) ≡ Fine → (a ≡ true) × (b ≡ true) × (c ≡ false) × (e ≡ false)
+fault-none false b c d e h = (cc, cc, cc, cc)
+fault-none true false c d e h = (cc, cc, cc, cc)
+fault-none true true true d e h = (cc, cc, cc, cc)
+fault-none true true false true e h = (cc, cc, cc, cc)
+fault-none true true false false true h = (cc, cc, cc, cc)
+fault-none true true false false false h = (refl, refl, refl, refl)
 
--- what a fine operator is: its operands are inside, and additions have an even number of them
+-- what a fine operator is: its operands are inside, additions have an even number of them, and where there are any the opcode is one of the three
 pub record Operator (word left : ℕ) : Type 0 where
   pub fits : countIn word ≤ left
   pub even : opcodeIn word ≡ 3 → countIn word % 2 ≡ 0
+  pub range : 0 < countIn word → (1 ≤ opcodeIn word) × (opcodeIn word ≤ 3)
 
 pub operator : (word last left : ℕ) → faultOf word last left ≡ Fine → Operator word left
 unfolding faultOf
-operator word last left e =
-    let odd = eqb (opcodeIn word) 3 && eqb (countIn word % 2) 1 in
-    let none = fault-none (not (leb 1 (opcodeIn word) && leb (opcodeIn word) 3)) (eqb (countIn word) 0) odd (ltb (opcodeIn word) last) (ltb left (countIn word)) e in
-    record { fits = ltb-false left (countIn word) (none .1); even = λ h. not-odd (eq-eqb (opcodeIn word) 3 h) (none .0) }
+operator word last left = go (eqb (countIn word) 0) refl
   where
-    not-odd : eqb (opcodeIn word) 3 ≡ true → (eqb (opcodeIn word) 3 && eqb (countIn word % 2) 1) ≡ false → countIn word % 2 ≡ 0
+    odd : Bool
+    odd = eqb (opcodeIn word) 3 && eqb (countIn word % 2) 1
+
+    not-odd : eqb (opcodeIn word) 3 ≡ true → odd ≡ false → countIn word % 2 ≡ 0
     not-odd h o = let p : (countIn word % 2 ≡ 1 → ⊥) = eqb-false (countIn word % 2) 1 (rw h at o) in omega arith
+
+    go : (t : Bool) → eqb (countIn word) 0 ≡ t
+        → cond t Fine (cond (not (leb 1 (opcodeIn word) && leb (opcodeIn word) 3)) (Bad Opcode) (cond odd (Bad Odd) (cond (ltb (opcodeIn word) last) (Bad Order) (cond (ltb left (countIn word)) (Bad Past) Fine)))) ≡ Fine
+        → Operator word left
+    go true z e = let none = eqb-true (countIn word) 0 z in record { fits = omega arith; even = λ h. omega arith; range = λ h. absurd (omega arith) }
+    go false z e =
+        let none = fault-none (leb 1 (opcodeIn word)) (leb (opcodeIn word) 3) odd (ltb (opcodeIn word) last) (ltb left (countIn word)) e in
+        record {
+          fits = ltb-false left (countIn word) (none .3);
+          even = λ h. not-odd (eq-eqb (opcodeIn word) 3 h) (none .2);
+          range = λ h. (leb-true 1 (opcodeIn word) (none .0), leb-true (opcodeIn word) 3 (none .1));
+        }
+
+-- it stands before the next operator where it has operands
+pub last-filled : (last word : ℕ) → 0 < countIn word → lastAfter last word ≡ opcodeIn word
+unfolding lastAfter
+last-filled last word h = rw (ne-eqb (countIn word) 0 (λ e. omega arith))
 
 -- ---- the operations at words
 
@@ -62,6 +80,12 @@ module _ (code w : ℕ) (ws : List ℕ) where
   pub operations-more : (w ≡ 0 → ⊥) → operationsAt (w ∷ ws) code 0 ≡ operationsAt ws (opcodeIn w) (countIn w)
   unfolding operationsAt
   operations-more h = rw (ne-eqb w 0 h)
+
+-- where no operand word is left the opcode tells nothing
+pub operations-next : (ws : List ℕ) (code : ℕ) → operationsAt ws code 0 ≡ operationsAt ws 0 0
+unfolding operationsAt
+operations-next [] code = refl
+operations-next (w ∷ ws) code = refl
 
 -- at the operands of an operation
 pub operations-single : (code w : ℕ) (ws : List ℕ) (n : ℕ) → (code ≡ 3 → ⊥) → 0 < n → operationsAt (w ∷ ws) code n ≡ single code w ∷ operationsAt ws code (n - 1)
@@ -119,9 +143,9 @@ module _ (w at last : ℕ) (ws : List ℕ) where
   unfolding verdict
   verdict-bad r h e = rw (ne-eqb w 0 h, e)
 
-  pub verdict-fine : (w ≡ 0 → ⊥) → faultOf w last (length ws) ≡ Fine → verdict 0 at last (w ∷ ws) ≡ verdict 0 (at + 4 + 4 * countIn w) (opcodeIn w) (drop (countIn w) ws)
+  pub verdict-fine : (w ≡ 0 → ⊥) → faultOf w last (length ws) ≡ Fine → verdict 0 at last (w ∷ ws) ≡ verdict 0 (at + 4 + 4 * countIn w) (lastAfter last w) (drop (countIn w) ws)
   unfolding verdict
-  verdict-fine h e = rw (ne-eqb w 0 h, e) (verdict-passed (countIn w) (at + 4) (opcodeIn w) ws (operator w last (length ws) e .fits))
+  verdict-fine h e = rw (ne-eqb w 0 h, e) (verdict-passed (countIn w) (at + 4) (lastAfter last w) ws (operator w last (length ws) e .fits))
 
 pub verdict-none : (at last : ℕ) → verdict 0 at last [] ≡ bad Unterminated areaSize
 unfolding verdict
@@ -186,7 +210,7 @@ module _ (a : List ℕ) (at last entries : ℕ) (s : Stands a at last entries) w
     unfolding found
     stands-bad r h e = rw (s .finds, ahead, verdict-bad w at last _ r h (rw behind at e))
 
-    pub stands-fine : (w ≡ 0 → ⊥) → faultOf w last ((areaSize - (at + 4)) / 4) ≡ Fine → Stands a (at + 4 + 4 * countIn w) (opcodeIn w) (entries + operationsIn w)
+    pub stands-fine : (w ≡ 0 → ⊥) → faultOf w last ((areaSize - (at + 4)) / 4) ≡ Fine → Stands a (at + 4 + 4 * countIn w) (lastAfter last w) (entries + operationsIn w)
     unfolding found
     stands-fine h e =
         let n = countIn w in
@@ -198,7 +222,7 @@ module _ (a : List ℕ) (at last entries : ℕ) (s : Stands a at last entries) w
           inside = omega (arith, s .place, o .fits);
           place = omega (arith, s .place);
           few = omega (arith, s .few, few-operations w);
-          finds = rw (s .finds, ahead, verdict-fine w at last ws h (rw behind at e), operations-more last w ws h, passed, rest, add-assoc entries);
+          finds = rw (s .finds, ahead, verdict-fine w at last ws h (rw behind at e), operations-more last w ws h, passed, rest, operations-next _ (opcodeIn w), operations-next _ (lastAfter last w), add-assoc entries);
         }
 
 -- ---- the operations of a reading, in order

@@ -1,26 +1,26 @@
 -- Laws of a walk over the operators of an area: what an operator of a good area is, and the operations of its operand words.
 use mathlib.Core.Path.{_≡_, refl, sym, ap}
-use mathlib.Core.Bool.{Bool, true, false, cond, _&&_, not}
+use mathlib.Core.Bool.{Bool, true, false, cond, not}
 use mathlib.Core.List.{List, [], _∷_, _++_, append-nil}
 use Prim.Native.Nat.{ℕ, zero, suc, _+_, _*_, _-_, _/_, _%_, _<_, _≤_, min}
 use native.Mathlib.Nat.{zero-add, add-zero, suc-add, sub-zero}
 use native.Mathlib.Numerals.{sub-one}
 use native.Mathlib.Omega.{arith}
-use lib.Dec.{leb, eqb}
+use lib.Dec.{eqb}
 use lib.ListN.{length, take, drop}
-use borrow.Author.Tests.{leb-true, eqb-true, eqb-false}
+use borrow.Author.Tests.{eqb-true, eqb-false}
 use Rattle.words.specs.Numbers.{words}
 use Rattle.words.specs.Reading.{read, refused}
 use Rattle.words.proofs.Choice.{choose}
 use Rattle.words.proofs.Words.{words-drop}
 use Rattle.journal.specs.declared.operation.Operation.{Operation}
 use Rattle.journal.specs.declared.operation.Operation.the-variants.{Add}
-use Rattle.node_area.specs.declared.reading.Refusal.the-variants.{Size, Reserved, Opcode}
+use Rattle.node_area.specs.declared.reading.Refusal.the-variants.{Size, Reserved}
 use Rattle.node_area.specs.declared.reading.Fault.{Fault}
 use Rattle.node_area.specs.declared.reading.Fault.the-variants.{Fine, Bad}
 use Rattle.node_area.specs.Reading.{opcodeIn, countIn, faultOf, Verdict, good, bad, verdict, single, operationsAt, readBy, reading}
 use Rattle.node_area.specs.Head.{areaSize, headSize, isReserved}
-use Rattle.node_area.proofs.Verdicts.{verdict-bad, operations-single, operations-pair}
+use Rattle.node_area.proofs.Verdicts.{verdict-bad, operations-next, operations-single, operations-pair}
 
 -- ---- a good area
 
@@ -38,18 +38,6 @@ good-words area os e =
     rw (words-drop 4 area) at (read-good (not (eqb (length area) areaSize)) (not (isReserved area)) (verdict 0 headSize 0 ws) (operationsAt ws 0 0) os e)
 
 -- ---- an operator
-
--- a fine operator has one of the three opcodes
-in-range : (a b : Bool) (x : Fault) → cond (not (a && b)) (Bad Opcode) x ≡ Fine → (a ≡ true) × (b ≡ true)
-in-range true true x e = (refl, refl)
-in-range true false x e = (cc, cc)
-in-range false b x e = (cc, cc)
-
-pub opcode-range : (word last left : ℕ) → faultOf word last left ≡ Fine → (1 ≤ opcodeIn word) × (opcodeIn word ≤ 3)
-unfolding faultOf
-opcode-range word last left e =
-    let both = in-range (leb 1 (opcodeIn word)) (leb (opcodeIn word) 3) _ e in
-    (leb-true 1 (opcodeIn word) (both .0), leb-true (opcodeIn word) 3 (both .1))
 
 -- an operator of good words is fine
 pub good-fine : (w at last : ℕ) (ws : List ℕ) → (w ≡ 0 → ⊥) → verdict 0 at last (w ∷ ws) ≡ good → faultOf w last (length ws) ≡ Fine
@@ -69,12 +57,6 @@ words-inside (a ∷ b ∷ c ∷ []) = omega arith
 words-inside (a ∷ b ∷ c ∷ d ∷ l) = omega (arith, words-inside l)
 
 -- ---- the operations of operand words
-
--- where no operand word is left the opcode tells nothing
-pub operations-next : (ws : List ℕ) (code : ℕ) → operationsAt ws code 0 ≡ operationsAt ws 0 0
-unfolding operationsAt
-operations-next [] code = refl
-operations-next (w ∷ ws) code = refl
 
 -- the first n of m operand words: their operations, then those behind them
 pub singles-split : (code : ℕ) → (code ≡ 3 → ⊥) → (n j m : ℕ) (ws : List ℕ) → n ≤ m → n ≤ length ws

@@ -11,19 +11,18 @@ use Rattle.journal.specs.declared.operation.Operation.{Operation}
 use Rattle.journal.specs.declared.operation.Operation.the-variants.{Delete, Update, Add}
 use Rattle.node_area.specs.Head.{areaSize, headSize, isReserved}
 use Rattle.node_area.specs.declared.reading.Refusal.{Refusal}
-use Rattle.node_area.specs.declared.reading.Refusal.the-variants.{Size, Reserved, Opcode, Count, Past, Odd, Order, Unterminated}
+use Rattle.node_area.specs.declared.reading.Refusal.the-variants.{Size, Reserved, Opcode, Past, Odd, Order, Unterminated}
 use Rattle.node_area.specs.declared.reading.Fault.{Fault}
 use Rattle.node_area.specs.declared.reading.Fault.the-variants.{Fine, Bad}
 use Rattle.node_area.specs.declared.reading.Check.{Check}
 use Rattle.node_area.specs.declared.reading.Check.the-variants.{Entries, Refused}
 
--- 01: "20 not 4,096 bytes", "21 bytes 4 to 15 not zero", "22 opcode not 1 to 3; 23 operand count zero; 25 odd count for opcode 3;
--- 26 opcode lower than an earlier one; 24 operands past the end", "27 the area ends without a terminator"
+-- 01: "20 not 4,096 bytes", "21 bytes 4 to 15 not zero", "22 opcode not 1 to 3; .. 25 odd count for opcode 3;
+-- 26 opcode lower than an earlier one; 24 operands past the end", "27 the area ends without a terminator"; 02: "23 is withdrawn"
 abbrev pub refusalNumber : Refusal → ℕ
 refusalNumber Size = 20
 refusalNumber Reserved = 21
 refusalNumber Opcode = 22
-refusalNumber Count = 23
 refusalNumber Past = 24
 refusalNumber Odd = 25
 refusalNumber Order = 26
@@ -36,15 +35,20 @@ opcodeIn word = word / 16777216
 abbrev pub countIn : ℕ → ℕ
 countIn word = word % 16777216
 
--- The first fault of an operator, in the paper's order; `last` is the opcode before it, `left` the words behind it.
+-- The first fault of an operator, in the papers' order; `last` is the opcode before it, `left` the words behind it.
+-- 02, M-101: "A non-zero word whose low three bytes are zero is passed over whatever its opcode", "the empty count is looked at before 22."
 unfoldable pub faultOf : ℕ → ℕ → ℕ → Fault
 faultOf word last left =
-    cond (not (leb 1 (opcodeIn word) && leb (opcodeIn word) 3)) (Bad Opcode)
-    (cond (eqb (countIn word) 0) (Bad Count)
+    cond (eqb (countIn word) 0) Fine
+    (cond (not (leb 1 (opcodeIn word) && leb (opcodeIn word) 3)) (Bad Opcode)
     (cond (eqb (opcodeIn word) 3 && eqb (countIn word % 2) 1) (Bad Odd)
     (cond (ltb (opcodeIn word) last) (Bad Order)
     (cond (ltb left (countIn word)) (Bad Past)
     Fine))))
+
+-- 02, M-101: ".. and takes no part in the order test." The opcode before the operator that follows this one.
+unfoldable pub lastAfter : ℕ → ℕ → ℕ
+lastAfter last word = cond (eqb (countIn word) 0) last (opcodeIn word)
 
 -- What the operators at words `ws` are judged: nothing wrong, or the first refusal.
 pub data Verdict : Type 0 where
@@ -60,7 +64,7 @@ judgedBy (Bad r) at more = bad r at
 unfoldable pub verdict : ℕ → ℕ → ℕ → List ℕ → Verdict
 verdict zero at last [] = bad Unterminated areaSize
 verdict zero at last (w ∷ ws) =
-    let more = verdict (countIn w) (at + 4) (opcodeIn w) ws in
+    let more = verdict (countIn w) (at + 4) (lastAfter last w) ws in
     let judged = judgedBy (faultOf w last (length ws)) at more in
     cond (eqb w 0) good judged
 verdict (suc k) at last [] = bad Unterminated areaSize

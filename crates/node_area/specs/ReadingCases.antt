@@ -41,15 +41,23 @@ readingCases =
     -- "word zero ends the list"
     ∷ area (0 ∷ []) (entries 0)
     ∷ area (16777217 ∷ 0 ∷ 33554433 ∷ 8 ∷ 50331650 ∷ 9 ∷ 9 ∷ 0 ∷ []) (entries 3)
-    -- "22 opcode not 1 to 3", in the high byte; before 23, 26 and 24
-    ∷ marked 16 (refusal 23 16)
+    -- "22 opcode not 1 to 3", in the high byte; before 26 and 24
     ∷ marked 19 (refusal 22 16)
     ∷ area (67108865 ∷ 8 ∷ 0 ∷ []) (refusal 22 16)
-    ∷ area (67108864 ∷ 0 ∷ []) (refusal 22 16)
+    ∷ area (5 ∷ 0 ∷ []) (refusal 22 16)
     ∷ area (33554433 ∷ 8 ∷ 16777215 ∷ 0 ∷ []) (refusal 22 24)
-    -- "23 operand count zero", before 26
-    ∷ area (33554432 ∷ 0 ∷ []) (refusal 23 16)
-    ∷ area (33554433 ∷ 8 ∷ 16777216 ∷ 0 ∷ []) (refusal 23 24)
+    -- 02: "A non-zero word whose low three bytes are zero is passed over whatever its opcode"
+    ∷ marked 16 (entries 0)
+    ∷ area (16777216 ∷ 0 ∷ []) (entries 0)
+    ∷ area (67108864 ∷ 0 ∷ []) (entries 0)
+    ∷ area (4278190080 ∷ 4278190080 ∷ 16777217 ∷ 8 ∷ 50331648 ∷ 0 ∷ []) (entries 1)
+    ∷ area (67108864 ∷ 67108865 ∷ 8 ∷ 0 ∷ []) (refusal 22 20)
+    -- ".. and takes no part in the order test": it is lower than none, and none is lower than it
+    ∷ area (33554432 ∷ 16777217 ∷ 8 ∷ 0 ∷ []) (entries 1)
+    ∷ area (33554433 ∷ 8 ∷ 16777216 ∷ 33554433 ∷ 8 ∷ 0 ∷ []) (entries 2)
+    ∷ area (33554433 ∷ 8 ∷ 16777216 ∷ 16777217 ∷ 8 ∷ 0 ∷ []) (refusal 26 28)
+    -- it ends no list, so that in the last word it is followed by no terminator
+    ∷ area ((16778234 ∷ []) ++ (replicate 1018 8 ++ (33554432 ∷ []))) (refusal 27 4096)
     -- "25 odd count for opcode 3", before 24
     ∷ area (50331649 ∷ 8 ∷ 0 ∷ []) (refusal 25 16)
     ∷ area (50331651 ∷ 8 ∷ 8 ∷ 8 ∷ 0 ∷ []) (refusal 25 16)

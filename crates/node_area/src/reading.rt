@@ -6,7 +6,7 @@ ghost use Prim.Native.Nat.{_-_, _%_, _<_};
 ghost use lib.ListN.{length, drop};
 ghost use Rattle.words.specs.Numbers.{words};
 ghost use Rattle.node_area.specs.Head.{areaSize, headSize};
-ghost use Rattle.node_area.specs.Reading.{faultOf, operationsIn, verdict, operationsAt, single, readBy, reading, checkOf};
+ghost use Rattle.node_area.specs.Reading.{faultOf, lastAfter, operationsIn, verdict, operationsAt, single, readBy, reading, checkOf};
 ghost use Rattle.node_area.specs.ReadingCases.{ReadingCases};
 ghost use Rattle.node_area.specs.Cursor.{stepAt, nextOf, StepsGive, startOf, EntriesInOrder};
 use crate::head::AREA_SIZE;
@@ -19,7 +19,6 @@ pub enum Refusal {
     Size,
     Reserved,
     Opcode,
-    Count,
     Past,
     Odd,
     Order,
@@ -37,20 +36,20 @@ pub enum Check {
     Refused(Refusal, usize),
 }
 
-// The first fault of an operator, with `left` words behind it and the opcode `last` before it.
+// The first fault of an operator, with `left` words behind it and the opcode `last` before it. One with no operands has none.
 fn fault_of(word: u32, last: u32, left: usize) -> Fault
     ensures { λ r. ⌜ r ≡ faultOf word last left ⌝ }
 {
     let code = word / 16777216;
     let count = word % 16777216;
+    if count == 0 {
+        return Fault::Fine;
+    }
     if code < 1 {
         return Fault::Bad(Refusal::Opcode);
     }
     if 3 < code {
         return Fault::Bad(Refusal::Opcode);
-    }
-    if count == 0 {
-        return Fault::Bad(Refusal::Count);
     }
     if is_odd_addition(code, count) {
         return Fault::Bad(Refusal::Odd);
@@ -62,6 +61,16 @@ fn fault_of(word: u32, last: u32, left: usize) -> Fault
         return Fault::Bad(Refusal::Past);
     }
     Fault::Fine
+}
+
+// The opcode before the operator that follows this one, where `last` is the one before it. One with no operands does not count.
+fn last_after(last: u32, word: u32) -> u32
+    ensures { λ r. ⌜ r ≡ lastAfter last word ⌝ }
+{
+    if word % 16777216 == 0 {
+        return last;
+    }
+    word / 16777216
 }
 
 fn is_odd_addition(code: u32, count: u32) -> bool
@@ -102,7 +111,7 @@ fn check_operators(area: &[u8]) -> Check
             }
             Fault::Fine => {
                 entries += operations_in(word);
-                last = word / 16777216;
+                last = last_after(last, word);
                 at = behind + 4 * ((word % 16777216) as usize);
             }
         }

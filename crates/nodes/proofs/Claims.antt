@@ -24,8 +24,8 @@ use Rattle.nodes.specs.Run.{areaWords, present, cost, longest, run, rema
 use Rattle.nodes.specs.Longest.{AllOf}
 use Rattle.nodes.specs.Area.{operandsOf, part, body, answer, written}
 use Rattle.words.specs.Reading.{read}
-use Rattle.node_area.specs.Reading.{reading}
-use Rattle.nodes.specs.Claims.{Sorted, SmallOperands, Listed, ReportableListed, NeverEmpty, WellFilled, RunCases, AreaClaims}
+use Rattle.node_area.specs.Reading.{good, verdict, operationsAt, reading}
+use Rattle.nodes.specs.Claims.{Sorted, SmallOperands, Listed, operatorsAt, Filled, ReportableListed, NeverEmpty, WellFilled, RunCases, AreaClaims}
 use Rattle.nodes.proofs.Runs.{length-operandsOf, length-body, longest-run, run-facts, next-le}
 use Rattle.nodes.proofs.Listed.{chosen-code}
 use Rattle.nodes.proofs.Decoding.{sorted-lower, body-reads}
@@ -51,14 +51,14 @@ chosen-small selection code (e ∷ es) h =
 
 reportable-listed : ReportableListed
 unfolding reportable
-reportable-listed selection j bytes good =
+reportable-listed selection j bytes formed =
     let of : ℕ → List Operation = λ code. chosen selection code (entries j) in
     let from : (code : ℕ) (ps : List Operation) → Sorted (suc code) ps → Sorted code (of code ++ ps) = λ code ps s. sorted-join code (of code) ps (chosen-code selection code (entries j)) s in
     let fit : (code : ℕ) → SmallOperands (of code) = λ code. chosen-small selection code (entries j) (entries-small j bytes) in
     record {
       sorted = sorted-lower 0 1 (of 1 ++ (of 2 ++ of 3)) (omega arith) (from 1 (of 2 ++ of 3) (from 2 (of 3) (rw append-nil at (from 3 [] tt))));
       small = small-join (of 1) (of 2 ++ of 3) (fit 1) (small-join (of 2) (of 3) (fit 2) (fit 3));
-      few = simp length-append (omega (arith, within-limit j good, operations-few selection j 1, operations-few selection j 2, operations-few selection j 3));
+      few = simp length-append (omega (arith, within-limit j formed, operations-few selection j 1, operations-few selection j 2, operations-few selection j 3));
     }
 
 -- ---- the words of an answer
@@ -141,11 +141,15 @@ module _ (area : List ℕ) (os : List Operation) (state : ℕ) (size : length ar
   unfolding written answer
   written-words = ap (drop 4) (words-bytes (answer os state) behind answer-small) ∙ append-assoc (body (run os state)) (0 ∷ []) (words behind)
 
+  reads : (verdict 0 headSize 0 (body (run os state) ++ (0 ∷ words behind)) ≡ good) × (operationsAt (body (run os state) ++ (0 ∷ words behind)) 0 0 ≡ run os state) × Filled (operatorsAt 0 (body (run os state) ++ (0 ∷ words behind)))
+  reads = body-reads (run os state) (words behind) run-sorted run-fits headSize 0 (omega arith)
+
   read-back : reading (written area os state) ≡ read (run os state)
   unfolding reading
-  read-back =
-      let reads = body-reads (run os state) (words behind) run-sorted run-fits headSize 0 (omega arith) in
-      rw (written-size, written-zeros, written-words, reads .0, reads .1)
+  read-back = rw (written-size, written-zeros, written-words, reads .0, reads .1)
+
+  none-empty : Filled (operatorsAt 0 (drop 4 (words (written area os state))))
+  none-empty = rw written-words (reads .2)
 
 -- ---- all of them
 
@@ -161,4 +165,4 @@ unfolding nextState remains run longest cost present operandWords
 run-cases = tt
 
 pub area-claims : AreaClaims
-area-claims = record { reportable-listed = reportable-listed; round-trip = read-back; longest-run = longest-run; never-empty = never-empty; well-filled = well-filled; run-cases = run-cases }
+area-claims = record { reportable-listed = reportable-listed; round-trip = read-back; none-empty = none-empty; longest-run = longest-run; never-empty = never-empty; well-filled = well-filled; run-cases = run-cases }

@@ -18,10 +18,10 @@ use Rattle.nodes.specs.Run.{areaWords, cost}
 use Rattle.nodes.specs.Longest.{AllOf}
 use Rattle.nodes.specs.Area.{wordsOf, part, body}
 use Rattle.node_area.specs.Reading.{opcodeIn, countIn, faultOf, good, verdict, operationsAt}
-use Rattle.nodes.specs.Claims.{Sorted}
+use Rattle.nodes.specs.Claims.{Sorted, operatorsAt, Filled}
 use Rattle.nodes.proofs.Runs.{length-part, length-body}
 use Rattle.nodes.proofs.Cut.{words-two, body-split}
-use Rattle.node_area.proofs.Verdicts.{operations-end, operations-more, operations-single, operations-pair, verdict-end, verdict-fine}
+use Rattle.node_area.proofs.Verdicts.{last-filled, operations-end, operations-more, operations-single, operations-pair, verdict-end, verdict-fine}
 
 -- ---- a list sorted by opcode is its deletes, then its updates, then its additions
 
@@ -84,9 +84,19 @@ even-additions code os c = go (eqb code 3) refl
 
 -- ---- reading parts
 
--- behind an opcode that is not higher, and at any offset, the words are good and hold the operations
+-- behind an opcode that is not higher, and at any offset, the words are good and hold the operations, and no operator among them is empty
 abbrev Reads : ℕ → List ℕ → List Operation → Type 0
-Reads code ws os = (at last : ℕ) → last ≤ code → (verdict 0 at last ws ≡ good) × (operationsAt ws last 0 ≡ os)
+Reads code ws os = (at last : ℕ) → last ≤ code → (verdict 0 at last ws ≡ good) × (operationsAt ws last 0 ≡ os) × Filled (operatorsAt 0 ws)
+
+-- behind operands, and at an operator that has some
+operators-passed : (vs ws : List ℕ) → operatorsAt (length vs) (vs ++ ws) ≡ operatorsAt 0 ws
+unfolding operatorsAt
+operators-passed [] ws = refl
+operators-passed (v ∷ vs) ws = operators-passed vs ws
+
+filled-more : (w : ℕ) (vs ws : List ℕ) → countIn w ≡ length vs → 0 < length vs → Filled (operatorsAt 0 ws) → Filled (operatorsAt 0 (w ∷ (vs ++ ws)))
+unfolding operatorsAt
+filled-more w vs ws c some f = rw (ne-eqb w 0 (λ e. omega arith), c, operators-passed vs ws) (omega arith, f)
 
 -- operand words of an opcode, which hold operations
 record Operands (code : ℕ) (vs : List ℕ) (os : List Operation) : Type 0 where
@@ -100,12 +110,12 @@ no-fault : (code : ℕ) (vs : List ℕ) (os : List Operation) (word last left : 
     → opcodeIn word ≡ code → countIn word ≡ length vs → 0 < length vs → last ≤ code → length vs ≤ left → faultOf word last left ≡ Fine
 unfolding faultOf
 no-fault code vs os word last left p q c some order fits =
-    rw (q, c) (simp (le-leb 1 code (p .low), le-leb code 3 (p .high), ne-eqb (length vs) 0 (λ e. omega arith), p .even, le-ltb code last order, le-ltb left (length vs) fits))
+    rw (q, c) (simp (ne-eqb (length vs) 0 (λ e. omega arith), le-leb 1 code (p .low), le-leb code 3 (p .high), p .even, le-ltb code last order, le-ltb left (length vs) fits))
 
 reads-part : (code : ℕ) (vs ws : List ℕ) (os ps : List Operation) → Operands code vs os → Reads code ws ps → Reads code (part code vs ++ ws) (os ++ ps)
 reads-part code [] ws os ps p r at last h =
     let here = r at code (omega arith) .1 in
-    (r at last h .0, r at last h .1 ∙ sym here ∙ p .holds ws ∙ ap (λ (l : List Operation). os ++ l) here)
+    (r at last h .0, r at last h .1 ∙ sym here ∙ p .holds ws ∙ ap (λ (l : List Operation). os ++ l) here, r at last h .2)
 reads-part code (v ∷ vs) ws os ps p r at last h =
     let n = length (v ∷ vs) in
     let w = code * 16777216 + n in
@@ -114,15 +124,17 @@ reads-part code (v ∷ vs) ws os ps p r at last h =
     let some : (w ≡ 0 → ⊥) = λ e. omega arith in
     let fine : faultOf w last (length ((v ∷ vs) ++ ws)) ≡ Fine = no-fault code (v ∷ vs) os w last _ p q c (omega arith) h (omega (arith, length-append vs ws)) in
     let behind = r (at + 4 + 4 * n) code (omega arith) in (
-      verdict-fine w at last ((v ∷ vs) ++ ws) some fine ∙ rw (q, c, drop-append-seam (v ∷ vs) ws) (behind .0),
+      verdict-fine w at last ((v ∷ vs) ++ ws) some fine ∙ rw (last-filled last w (omega arith), q, c, drop-append-seam (v ∷ vs) ws) (behind .0),
       operations-more last w ((v ∷ vs) ++ ws) some ∙ rw (q, c, p .holds ws, behind .1),
+      filled-more w (v ∷ vs) ws c (omega arith) (behind .2),
     )
 
 reads-lower : (b c : ℕ) (ws : List ℕ) (os : List Operation) → b ≤ c → Reads c ws os → Reads b ws os
 reads-lower b c ws os l r at last h = r at last (omega arith)
 
 reads-end : (code : ℕ) (ws : List ℕ) → Reads code (0 ∷ ws) []
-reads-end code ws at last h = (verdict-end 0 at last ws refl, operations-end last 0 ws refl)
+unfolding operatorsAt
+reads-end code ws at last h = (verdict-end 0 at last ws refl, operations-end last 0 ws refl, tt)
 
 words-operands : (code : ℕ) (os : List Operation) → IsOpcode code → length (wordsOf os) < 16777216 → AllOf code os → Operands code (wordsOf os) os
 words-operands code os o short c =

@@ -1,12 +1,12 @@
 -- Claims about node areas, cited by the contract of `write_answer`.
-use Prim.Native.Nat.{ℕ, _≤_, _<_}
+use Prim.Native.Nat.{ℕ, zero, suc, _≤_, _<_}
 use mathlib.Core.Path.{_≡_}
-use mathlib.Core.Bool.{Bool, true}
+use mathlib.Core.Bool.{Bool, true, cond}
 use mathlib.Core.List.{List, [], _∷_, _++_}
 use lib.Dec.{T, eqb}
-use lib.ListN.{length, replicate}
+use lib.ListN.{length, drop, replicate}
 use Rattle.journal.specs.Scope.{Selection}
-use Rattle.words.specs.Numbers.{Bytes, Small}
+use Rattle.words.specs.Numbers.{Bytes, Small, words}
 use Rattle.words.specs.Cases.{all}
 use Rattle.journal.specs.declared.operation.Operation.{Operation}
 use Rattle.journal.specs.declared.operation.Operation.the-variants.{Delete, Update, Add}
@@ -17,7 +17,7 @@ use Rattle.nodes.specs.Run.{filledWords, run, remains, nextState}
 use Rattle.nodes.specs.Longest.{LongestRun}
 use Rattle.nodes.specs.Area.{written}
 use Rattle.words.specs.Reading.{read}
-use Rattle.node_area.specs.Reading.{reading}
+use Rattle.node_area.specs.Reading.{countIn, reading}
 
 -- the opcodes do not fall, from `least` on
 abbrev pub Sorted : ℕ → List Operation → Type 0
@@ -41,6 +41,24 @@ ReportableListed = (selection : Selection) (j : List ℕ) → Bytes j → wellFo
 -- Reading what was written gives back the run, so it is never refused.
 abbrev pub RoundTrip : Type 0
 RoundTrip = (area : List ℕ) (os : List Operation) (state : ℕ) → length area ≡ areaSize → Listed os → state ≤ length os → reading (written area os state) ≡ read (run os state)
+
+-- 02, M-101, operators with no operands "perform no operation": what is written holds none.
+-- The operators at words of which the first k are operands, up to a zero word; and that each has operands.
+unfoldable pub operatorsAt : ℕ → List ℕ → List ℕ
+operatorsAt k [] = []
+operatorsAt (suc k) (w ∷ ws) = operatorsAt k ws
+operatorsAt zero (w ∷ ws) =
+    let more = operatorsAt (countIn w) ws in
+    cond (eqb w 0) [] (w ∷ more)
+
+abbrev pub Filled : List ℕ → Type 0
+Filled [] = Unit {0}
+Filled (w ∷ ws) = (0 < countIn w) × Filled ws
+
+abbrev pub NoneEmpty : Type 0
+NoneEmpty =
+    (area : List ℕ) (os : List Operation) (state : ℕ) → length area ≡ areaSize → Listed os → state ≤ length os
+    → Filled (operatorsAt 0 (drop 4 (words (written area os state))))
 
 -- The run is never empty while operations remain.
 abbrev pub NeverEmpty : Type 0
@@ -87,6 +105,7 @@ RunCases = T (all agrees runCases)
 pub record AreaClaims : Type 0 where
   pub reportable-listed : ReportableListed
   pub round-trip : RoundTrip
+  pub none-empty : NoneEmpty
   pub longest-run : LongestRun
   pub never-empty : NeverEmpty
   pub well-filled : WellFilled

@@ -121,7 +121,6 @@ fn refusal_number(r: Refusal) -> u64
         Refusal::Size => 20,
         Refusal::Reserved => 21,
         Refusal::Opcode => 22,
-        Refusal::Count => 23,
         Refusal::Past => 24,
         Refusal::Odd => 25,
         Refusal::Order => 26,

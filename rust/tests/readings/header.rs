@@ -58,7 +58,6 @@ fn refusals() {
         ("AREA_SIZE", Reason::AreaSize as i32),
         ("RESERVED", Reason::Reserved as i32),
         ("OPCODE", Reason::Opcode as i32),
-        ("NO_OPERANDS", Reason::NoOperands as i32),
         ("OPERANDS_PAST_END", Reason::OperandsPastEnd as i32),
         ("ODD_OPERANDS", Reason::OddOperands as i32),
         ("ORDER", Reason::Order as i32),

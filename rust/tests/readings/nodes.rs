@@ -131,7 +131,7 @@ fn node_areas_are_refused() {
     assert_eq!(read_nodes(&[]), refused(Reason::AreaSize, 0));
     assert_eq!(read_nodes(&area(&[0, 0, 0, 1])), refused(Reason::Reserved, 4));
     assert_eq!(read_nodes(&area(&[0, 0, 0, 0, 5])), refused(Reason::Opcode, 16));
-    assert_eq!(read_nodes(&area(&[0, 0, 0, 0, 0x01000000])), refused(Reason::NoOperands, 16));
+    assert_eq!(read_nodes(&area(&[0, 0, 0, 0, 0xff000000])), Ok(vec![]));
     assert_eq!(read_nodes(&area(&[0, 0, 0, 0, 0x010003fc])), refused(Reason::OperandsPastEnd, 16));
     assert_eq!(read_nodes(&area(&[0, 0, 0, 0, 0x03000001])), refused(Reason::OddOperands, 16));
     assert_eq!(read_nodes(&area(&[0, 0, 0, 0, 0x02000001, 9, 0x01000001])), refused(Reason::Order, 24));

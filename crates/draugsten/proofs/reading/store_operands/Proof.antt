@@ -25,9 +25,10 @@ store-singles-requires : tie.Need-store-singles-requires
 store-singles-requires c κs =
     let args = c .before .before .before .before .before .args in
     let least = c .before .least2 .ensures in
+    let other = c .before .before .if1 .left in
     let inside = words-inside (drop (args .at) (now (args .area))) in
     let behind = length-drop (args .at) (now (args .area)) in
-    (omega arith, omega arith, omega arith, omega arith)
+    (omega arith, omega arith, λ some. let range = c .before .before .before .before .before .pre .3 (omega arith) in (range .0, omega arith))
 
 returns-2 : tie.Need-returns-2
 returns-2 c =

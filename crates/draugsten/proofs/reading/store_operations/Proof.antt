@@ -2,7 +2,7 @@
 use Prim.Native.Nat.{_-_}
 use native.Mathlib.Omega.{arith}
 use lib.ListN.{length}
-use Rattle.draugsten.proofs.NodeWords.{Walking, walking-first, walking-length, walking-all, walking-fits, walking-operator, walking-inside, walking-range, walking-next}
+use Rattle.draugsten.proofs.NodeWords.{Walking, walking-first, walking-length, walking-all, walking-fits, walking-operator, walking-inside, walking-next}
 use borrow.Author.Needs.{needs}
 use Rattle.draugsten.proofs.reading.store_operations.Statement.{statement}
 use Rattle.draugsten.proofs.reading.store_operations.Tie as tie
@@ -27,8 +27,8 @@ store-operands-requires c κs =
     let s = c .before .before .before .loop .inv in
     let more = c .before .before .loop-test .taken in
     let word = c .before .read-be32 .ensures in
-    let range = walking-range s more _ word in
-    (walking-fits s more, walking-operator s more _ word .fits, omega (arith, walking-length s), range .0, range .1)
+    let operator = walking-operator s more _ word in
+    (walking-fits s more, operator .fits, omega (arith, walking-length s), operator .range)
 
 add-at : tie.Need-add-at Inv-loop μ-loop
 add-at c = omega (arith, walking-inside (c .before .before .before .before .before .before .loop .inv) (c .before .before .before .before .before .loop-test .taken) _ (c .before .before .before .before .read-be32 .ensures))

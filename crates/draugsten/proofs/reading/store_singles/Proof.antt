@@ -18,7 +18,8 @@ loop-holds c = singles-first _ _ _ _ _ _
 loop-again : tie.Need-loop-again Inv-loop μ-loop
 loop-again c =
     let pre = c .before .before .before .before .before .before .before .before .before .pre in
-    singles-next (c .before .before .before .before .before .before .loop .inv) _ _ (pre .2) (pre .3) (c .before .before .before .before .before .loop-test .taken) (pre .0) (c .before .before .before .before .read-be32 .ensures) (c .before .before .store-words .ensures)
+    let code = pre .2 (omega arith) in
+    singles-next (c .before .before .before .before .before .before .loop .inv) _ _ (code .0) (code .1) (c .before .before .before .before .before .loop-test .taken) (pre .0) (c .before .before .before .before .read-be32 .ensures) (c .before .before .store-words .ensures)
 
 same-length : tie.Need-same-length Inv-loop μ-loop
 same-length c = singles-length (c .before .loop .inv)

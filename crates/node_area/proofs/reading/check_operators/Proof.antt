@@ -6,7 +6,7 @@ use borrow.Author.Needs.{needs}
 use denote.Ref.{now}
 use Rattle.node_area.proofs.Verdicts.{Stands, stands-first, stands-out, stands-end, stands-bad, stands-fine}
 use Rattle.node_area.specs.Head.{areaSize}
-use Rattle.node_area.specs.Reading.{opcodeIn, countIn}
+use Rattle.node_area.specs.Reading.{countIn, lastAfter}
 use Rattle.node_area.proofs.reading.check_operators.Statement.{statement}
 use Rattle.node_area.proofs.reading.check_operators.Tie as tie
 
@@ -59,7 +59,7 @@ operations-in-requires c κs = search needs
 turn : (c : tie.After-operations-in Inv-loop μ-loop)
     → let l = c .before .before .before .before .before .before .before .loop in
     let w = c .before .before .before .before .before .read-be32 .result in
-    Stands (now (c .before .before .before .before .before .before .before .before .before .args .area)) (l .at + 4 + 4 * countIn w) (opcodeIn w) (l .entries + c .operations-in .result)
+    Stands (now (c .before .before .before .before .before .before .before .before .before .args .area)) (l .at + 4 + 4 * countIn w) (lastAfter (l .last) w) (l .entries + c .operations-in .result)
 turn c =
     let s = c .before .before .before .before .before .before .before .before .before in
     let l = c .before .before .before .before .before .before .before .loop in
@@ -72,20 +72,23 @@ turn c =
 add-entries : tie.Need-add-entries Inv-loop μ-loop
 add-entries c = omega (arith, turn c)
 
+last-after-requires : tie.Need-last-after-requires Inv-loop μ-loop
+last-after-requires c κs = search needs
+
 cast-at : tie.Need-cast-at Inv-loop μ-loop
 cast-at c = omega arith
 
 mul-at : tie.Need-mul-at Inv-loop μ-loop
-mul-at c = omega (arith, turn c)
+mul-at c = omega (arith, turn (c .before))
 
 add-at : tie.Need-add-at Inv-loop μ-loop
-add-at c = omega (arith, turn c)
+add-at c = omega (arith, turn (c .before))
 
 loop-less : tie.Need-loop-less Inv-loop μ-loop
 loop-less c = omega arith
 
 loop-again : tie.Need-loop-again Inv-loop μ-loop
-loop-again c = turn c
+loop-again c = rw (c .last-after .ensures) (turn (c .before))
 
 returns-3 : tie.Need-returns-3 Inv-loop μ-loop
 returns-3 c =
@@ -109,6 +112,7 @@ check-operators-spec =
     enum-told
     operations-in-requires
     add-entries
+    last-after-requires
     cast-at
     mul-at
     add-at

@@ -11,15 +11,15 @@ use Rattle.node_area.proofs.reading.fault_of.Tie as tie
 
 returns : tie.Need-returns
 unfolding faultOf
-returns c = rw (lt-leb 1 _ (c .if1 .taken))
+returns c = rw (eq-eqb _ 0 (c .if1 .taken))
 
 returns-2 : tie.Need-returns-2
 unfolding faultOf
-returns-2 c = rw (le-leb 1 _ (c .before .if1 .left), lt-leb _ 3 (c .if2 .taken))
+returns-2 c = rw (ne-eqb _ 0 (c .before .if1 .left), lt-leb 1 _ (c .if2 .taken))
 
 returns-3 : tie.Need-returns-3
 unfolding faultOf
-returns-3 c = rw (le-leb 1 _ (c .before .before .if1 .left), le-leb _ 3 (c .before .if2 .left), eq-eqb _ 0 (c .if3 .taken))
+returns-3 c = rw (ne-eqb _ 0 (c .before .before .if1 .left), le-leb 1 _ (c .before .if2 .left), lt-leb _ 3 (c .if3 .taken))
 
 is-odd-addition-requires : tie.Need-is-odd-addition-requires
 is-odd-addition-requires c κs = search needs
@@ -28,7 +28,7 @@ is-odd-addition-requires c κs = search needs
 known : (c : tie.Else3)
     → let word = c .before .before .before .args .word in
     ((leb 1 (opcodeIn word) && leb (opcodeIn word) 3) ≡ true) × (eqb (countIn word) 0 ≡ false)
-known c = (rw (le-leb 1 _ (c .before .before .if1 .left), le-leb _ 3 (c .before .if2 .left)), ne-eqb _ 0 (c .if3 .left))
+known c = (rw (le-leb 1 _ (c .before .if2 .left), le-leb _ 3 (c .if3 .left)), ne-eqb _ 0 (c .before .before .if1 .left))
 
 returns-4 : tie.Need-returns-4
 unfolding faultOf
