@@ -4,9 +4,12 @@ use mathlib.Core.List.{List, [], _∷_, _++_}
 use Prim.Native.Nat.{ℕ, zero, suc, _+_, _*_, _-_, _<_, _≤_}
 use native.Mathlib.Nat.{add-zero, mod-eq-of-lt}
 use native.Mathlib.Omega.{arith}
+use lib.Dec.{leb}
 use lib.ListN.{length, drop, length-drop}
 use lib.Seq.{drop-drop}
 use Rattle.words.specs.Numbers.{Small, be, beBytes, wordBytes, words}
+use borrow.Author.Tests.{leb-true, leb-false}
+use Rattle.words.proofs.Choice.{decide}
 use Rattle.words.proofs.Numbers.{be-drop, be-bytes}
 
 -- the first word of a list
@@ -34,29 +37,14 @@ pub words-short : (a : List ℕ) (at : ℕ) → length a - at < 4 → words (dro
 words-short a at h = short (drop at a) (omega (arith, length-drop at a))
 
 pub words-drop : (n : ℕ) (l : List ℕ) → drop n (words l) ≡ words (drop (4 * n) l)
-unfolding words
 words-drop zero l = refl
-words-drop (suc n) l = rw four (go l (words-drop n))
-  where
-    four : 4 * suc n ≡ suc (suc (suc (suc (4 * n))))
-    four = omega arith
-
-    go : (l : List ℕ) → ((m : List ℕ) → drop n (words m) ≡ words (drop (4 * n) m)) → drop (suc n) (words l) ≡ words (drop (suc (suc (suc (suc (4 * n))))) l)
-    go [] e = refl
-    go (a ∷ []) e = refl
-    go (a ∷ b ∷ []) e = refl
-    go (a ∷ b ∷ c ∷ []) e = refl
-    go (a ∷ b ∷ c ∷ d ∷ l) e = e l
+words-drop (suc n) l = decide (leb 4 (length l))
+    (λ t. let four : 4 + 4 * n ≡ 4 * suc n = omega arith in rw (front l (leb-true 4 (length l) t), words-drop n (drop 4 l), drop-drop (4 * n) 4 l, four))
+    (λ t. let h = leb-false 4 (length l) t in rw (short l h, short (drop (4 * suc n) l) (omega (arith, length-drop (4 * suc n) l))))
 
 pub length-words : (n : ℕ) (l : List ℕ) → length l ≡ 4 * n → length (words l) ≡ n
-unfolding words
-length-words zero [] h = refl
-length-words (suc n) [] h = absurd (omega arith)
-length-words n (a ∷ []) h = absurd (omega arith)
-length-words n (a ∷ b ∷ []) h = absurd (omega arith)
-length-words n (a ∷ b ∷ c ∷ []) h = absurd (omega arith)
-length-words zero (a ∷ b ∷ c ∷ d ∷ l) h = absurd (omega arith)
-length-words (suc n) (a ∷ b ∷ c ∷ d ∷ l) h = ap suc (length-words n l (omega arith))
+length-words zero l h = ap length (short l (omega arith))
+length-words (suc n) l h = ap length (front l (omega arith)) ∙ ap suc (length-words n (drop 4 l) (omega (arith, length-drop 4 l)))
 
 pub words-bytes : (ws r : List ℕ) → Small ws → words (wordBytes ws ++ r) ≡ ws ++ words r
 unfolding words wordBytes beBytes
