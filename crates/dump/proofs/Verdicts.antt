@@ -1,7 +1,7 @@
 -- What each command makes of a registration, phase by phase.
 use mathlib.Core.Path.{_≡_, refl}
 use mathlib.Core.Bool.{true, _||_, false≢true}
-use mathlib.Core.List.{List, []}
+use mathlib.Core.List.{List}
 use Prim.Native.Nat.{ℕ, zero, suc, _+_, _-_, _≤_}
 use native.Mathlib.Nat.{add-sub-cancel-left}
 use native.Mathlib.Omega.{arith}
@@ -13,10 +13,9 @@ use Rattle.dump.specs.declared.registration.Phase.{Phase}
 use Rattle.dump.specs.declared.registration.Phase.the-variants.{Unregistered, Registered, Active}
 use Rattle.dump.specs.declared.registration.Registration.{Registration}
 use Rattle.dump.specs.declared.registration.Verdict.{Verdict}
-use Rattle.dump.specs.declared.registration.Verdict.the-variants.{Parameter}
 use Rattle.dump.specs.declared.registration.Configured.{Configured}
 use Rattle.dump.specs.Structure.{headerSize}
-use Rattle.dump.specs.Registration.{copySize, isDone, padded, registered, structureAt, acceptable, verdictOf, registrationAfter, configured}
+use Rattle.dump.specs.Registration.{copySize, isDone, padded, registered, structureAt, acceptable, verdictOf, registrationAfter}
 
 -- an acceptable structure fits into a copy, and stands inside memory
 module _ (m : List ℕ) (address len : ℕ) (good : acceptable m address len ≡ true) where
@@ -40,24 +39,9 @@ pub kept-is : (x : Configured) (r : Registration) (v : Verdict) → (x .next ≡
 kept-is x r v e = rw (← e .0, ← e .1)
 
 -- a command that is none of the three fails the first test
-outside : (command : ℕ) → (command ≡ 1 → ⊥) → (command ≡ 2 → ⊥) → (command ≡ 3 → ⊥) → (ltb command 1 || ltb 3 command) ≡ true
+pub outside : (command : ℕ) → (command ≡ 1 → ⊥) → (command ≡ 2 → ⊥) → (command ≡ 3 → ⊥) → (ltb command 1 || ltb 3 command) ≡ true
 outside zero one two three = refl
 outside (suc n) one two three = rw (le-ltb (suc n) 1 (omega arith), lt-ltb 3 (suc n) (omega arith))
-
-module _ (m : List ℕ) (address len : ℕ) (r : Registration) where
-  -- commands 2 and 3 look at the registration alone
-  pub unregister-ignores : configured m 2 address len r ≡ configured [] 2 0 0 r
-  unfolding verdictOf registrationAfter
-  unregister-ignores = refl
-
-  pub complete-ignores : configured m 3 address len r ≡ configured [] 3 0 0 r
-  unfolding verdictOf registrationAfter
-  complete-ignores = refl
-
-  -- any other command
-  pub other-refused : (command : ℕ) → (command ≡ 1 → ⊥) → (command ≡ 2 → ⊥) → (command ≡ 3 → ⊥) → configured m command address len r ≡ record { next = r; verdict = Parameter }
-  unfolding verdictOf registrationAfter
-  other-refused command one two three = rw (outside command one two three)
 
 -- ---- the length of a registration
 

@@ -81,14 +81,7 @@ module _ (s : List ℕ) (at : ℕ) where
       → t ≡ framedAt (length s - at) n kind flag → zeros ≡ zeroCount (slice (at + headSize) (at + n) s) → goodHere ≡ (t && eqb zeros 0)
   good-read n kind flag zeros t p q r e z = rw (e, z, p, q, r) good-here
 
-  -- the size that the code gives
-  pub none-given : goodHere ≡ false → 0 ≡ goodSize (drop at s)
-  none-given e = rw e
-
-  pub size-given : (n : ℕ) → n ≡ size → goodHere ≡ true → n ≡ goodSize (drop at s)
-  size-given n p e = rw e p
-
-  -- where it is 0
+  -- where the size that the code gives is 0
   pub none-stands : (n : ℕ) → n ≡ goodSize (drop at s) → n ≡ 0 → goodHere ≡ false
   none-stands n e z = decide goodHere (λ t. let p = rw t at e in absurd (omega arith)) (λ t. t)
 

@@ -1,11 +1,12 @@
 -- `registration::copied` meets its contract.
-use mathlib.Core.Path.{_≡_, _∙_}
+use mathlib.Core.Path.{_≡_, refl, ap, _∙_}
 use Prim.Native.Nat.{_-_}
 use lib.ListN.{length, take}
+use lib.Seq.{take-all}
 use borrow.Author.Needs.{needs}
 use denote.Ref.{now}
 use Rattle.dump.specs.Registration.{padded}
-use Rattle.dump.proofs.Copies.{padded-none, padded-next, padded-all}
+use Rattle.dump.proofs.Copies.{padded-next}
 use Rattle.dump.proofs.registration.copied.Statement.{statement}
 use Rattle.dump.proofs.registration.copied.Tie as tie
 
@@ -16,13 +17,14 @@ abbrev μ-loop : tie.MeasureT-loop
 μ-loop s copy₀ i₀ copy i = length s - i
 
 loop-holds : tie.Need-loop-holds Inv-loop μ-loop
-loop-holds c = padded-none
+unfolding padded
+loop-holds c = refl
 
 loop-again : tie.Need-loop-again Inv-loop μ-loop
 loop-again c = rw (c .before .before .loop .inv) (padded-next (now (c .before .before .before .args .s)) (c .before .before .loop .i) (search needs) (search needs))
 
 returns : tie.Need-returns Inv-loop μ-loop
-returns c = c .before .loop .inv ∙ padded-all (now (c .before .before .args .s)) (c .before .loop .i) (search needs)
+returns c = c .before .loop .inv ∙ ap padded (take-all (c .before .loop .i) (now (c .before .before .args .s)) (search needs))
 
 pub copied-spec : {M : Type 1} → statement M
 copied-spec =

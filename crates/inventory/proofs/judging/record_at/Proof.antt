@@ -14,12 +14,12 @@ use Rattle.records.specs.declared.framing.Frame.{Frame}
 use Rattle.inventory.specs.Inventory.{codeLimit, headSize}
 use Rattle.inventory.specs.Judging.{zeroCount}
 use Rattle.inventory.proofs.Codes.{code-in-byte}
-use Rattle.inventory.proofs.RecordLaws.{goodHere, framed-bounds, good-read, short-bad, none-given, size-given}
+use Rattle.inventory.proofs.RecordLaws.{goodHere, framed-bounds, good-read, short-bad}
 use Rattle.inventory.proofs.judging.record_at.Statement.{statement}
 use Rattle.inventory.proofs.judging.record_at.Tie as tie
 
 returns : tie.Need-returns
-returns c = none-given (now (c .before .before .args .s)) (c .before .before .args .at) (short-bad (now (c .before .before .args .s)) (c .before .before .args .at) (c .if1 .taken))
+returns c = rw (short-bad (now (c .before .before .args .s)) (c .before .before .args .at) (c .if1 .taken))
 
 -- the size that was read, and the record judged by what was read
 size-is : (c : tie.After-is-framed) → c .before .before .record-size .result ≡ sizeOf (drop (c .before .before .before .before .before .before .args .at) (now (c .before .before .before .before .before .before .args .s)))
@@ -30,16 +30,16 @@ judged c zeros z =
     good-read (now (c .before .before .before .before .before .before .args .s)) (c .before .before .before .before .before .before .args .at) _ _ _ zeros _ (size-is c) (ap (λ (f : Frame). f .kind) (c .before .before .before .read-frame .ensures)) (c .before .read-le16 .ensures) (c .is-framed .ensures) z
 
 returns-2 : tie.Need-returns-2
-returns-2 c = none-given (now (c .before .before .before .before .before .before .before .args .s)) (c .before .before .before .before .before .before .before .args .at) (judged (c .before) _ refl ∙ rw (not-true (c .before .is-framed .result) (c .if2 .taken)))
+returns-2 c = rw (judged (c .before) _ refl, not-true (c .before .is-framed .result) (c .if2 .taken))
 
 fits : (c : tie.Else2) → (headSize + 1 ≤ c .before .before .before .record-size .result) × (c .before .before .before .record-size .result ≤ headSize + codeLimit) × (c .before .before .before .record-size .result ≤ length (now (c .before .before .before .before .before .before .before .args .s)) - c .before .before .before .before .before .before .before .args .at)
 fits c = framed-bounds _ _ (c .before .before .before .before .read-frame .result .kind) (c .before .before .read-le16 .result) (sym (c .before .is-framed .ensures) ∙ not-false _ (c .if2 .left))
 
 returns-3 : tie.Need-returns-3
-returns-3 c = none-given (now (c .before .before .before .before .before .before .before .before .before .args .s)) (c .before .before .before .before .before .before .before .before .before .args .at) (judged (c .before .before .before) _ (c .before .zero-bytes .ensures) ∙ rw (ne-eqb (c .before .zero-bytes .result) 0 (λ e. omega arith), and-false))
+returns-3 c = rw (judged (c .before .before .before) _ (c .before .zero-bytes .ensures), ne-eqb (c .before .zero-bytes .result) 0 (λ e. omega arith), and-false)
 
 returns-4 : tie.Need-returns-4
-returns-4 c = size-given (now (c .before .before .before .before .before .before .before .before .before .args .s)) (c .before .before .before .before .before .before .before .before .before .args .at) _ (size-is (c .before .before .before)) (judged (c .before .before .before) _ (c .before .zero-bytes .ensures) ∙ rw (not-false (c .before .before .before .is-framed .result) (c .before .before .if2 .left), eq-eqb (c .before .zero-bytes .result) 0 (omega arith)))
+returns-4 c = rw (judged (c .before .before .before) _ (c .before .zero-bytes .ensures), not-false (c .before .before .before .is-framed .result) (c .before .before .if2 .left), eq-eqb (c .before .zero-bytes .result) 0 (omega arith)) (size-is (c .before .before .before))
 
 pub record-at-spec : {M : Type 1} → statement M
 record-at-spec =

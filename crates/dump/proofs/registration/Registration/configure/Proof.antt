@@ -1,21 +1,26 @@
 -- `registration::Registration::configure` meets its contract.
-use mathlib.Core.Path.{sym, _∙_}
+use mathlib.Core.Path.{_∙_}
 use borrow.Author.Needs.{needs}
-use Rattle.dump.proofs.Verdicts.{kept-is, unregister-ignores, complete-ignores, other-refused}
+use Rattle.dump.specs.Registration.{verdictOf, registrationAfter}
+use Rattle.dump.proofs.Verdicts.{outside, kept-is}
 use Rattle.dump.proofs.registration.Registration.configure.Statement.{statement}
 use Rattle.dump.proofs.registration.Registration.configure.Tie as tie
 
 returns : tie.Need-returns
 returns c = rw (c .before .if1 .taken) (c .register .ensures)
 
+-- commands 2 and 3 look at the registration alone
 returns-2 : tie.Need-returns-2
-returns-2 c = rw (c .before .if2 .taken) (c .unregister .ensures ∙ sym (unregister-ignores _ _ _ _))
+unfolding verdictOf registrationAfter
+returns-2 c = rw (c .before .if2 .taken) (c .unregister .ensures)
 
 returns-3 : tie.Need-returns-3
-returns-3 c = rw (c .before .if3 .taken) (c .complete .ensures ∙ sym (complete-ignores _ _ _ _))
+unfolding verdictOf registrationAfter
+returns-3 c = rw (c .before .if3 .taken) (c .complete .ensures)
 
 returns-4 : tie.Need-returns-4
-returns-4 c = kept-is _ _ _ (c .kept .ensures) ∙ sym (other-refused _ _ _ _ _ (c .before .before .before .if1 .left) (c .before .before .if2 .left) (c .before .if3 .left))
+unfolding verdictOf registrationAfter
+returns-4 c = kept-is _ _ _ (c .kept .ensures) ∙ rw (outside _ (c .before .before .before .if1 .left) (c .before .before .if2 .left) (c .before .if3 .left))
 
 pub configure-spec : {M : Type 1} → statement M
 configure-spec =
