@@ -3,6 +3,7 @@ use mathlib.Core.Path.{_≡_, refl, sym, ap, _∙_}
 use mathlib.Core.Bool.{true}
 use mathlib.Core.List.{List, [], _∷_}
 use Prim.Native.Nat.{ℕ, zero, suc, _+_, _-_, _%_, _<_, _≤_}
+use native.Mathlib.Numerals.{sub-one}
 use native.Mathlib.Omega.{arith}
 use lib.Dec.{leb, ltb, eqb}
 use lib.ListN.{length, drop, getD, length-take, length-drop}
@@ -114,14 +115,16 @@ counts-more : (e : Entry) (n : ℕ) (r : Reading Entry Refusal) → checkOf r �
 counts-more e n (read es) h = let k : length es ≡ n = cc in rw k
 counts-more e n (refused b k) h = cc
 
-judged-next : (e : Entry) (at n : ℕ) (f : Fault) (r : Reading Entry Refusal) → checkOf (judgedBy f at (withEntry e r)) ≡ Entries (suc n) → (f ≡ Fine) × (checkOf r ≡ Entries n)
-judged-next e at n (Bad b) r h = (cc, cc)
-judged-next e at n Fine (read es) h = let k : suc (length es) ≡ suc n = cc in let l : length es ≡ n = omega arith in (refl, ap Entries l)
-judged-next e at n Fine (refused b k) h = (refl, cc)
+judged-next : (e : Entry) (at m : ℕ) (f : Fault) (r : Reading Entry Refusal) → checkOf (judgedBy f at (withEntry e r)) ≡ Entries m → (f ≡ Fine) × (m ≡ suc (m - 1)) × (checkOf r ≡ Entries (m - 1))
+judged-next e at m (Bad b) r h = (cc, cc, cc)
+judged-next e at m Fine (read es) h = let k : suc (length es) ≡ m = cc in let l : length es ≡ m - 1 = omega arith in (refl, omega arith, ap Entries l)
+judged-next e at m Fine (refused b k) h = (refl, cc, cc)
 
 pub reads-next : (n : ℕ) (area : List ℕ) (at : ℕ) → Reads (suc n) area at → (faultAt area at ≡ Fine) × Reads n area (at + (8 + lengthAt area at))
 unfolding readFrom
-reads-next n area at h = judged-next (entryAt area at) at n (faultAt area at) (readFrom n area (at + (8 + lengthAt area at))) h
+reads-next n area at h =
+    let next = judged-next (entryAt area at) at (suc n) (faultAt area at) (readFrom n area (at + (8 + lengthAt area at))) h in
+    (next .0, rw (sub-one (suc n)) at (next .2))
 
 reads-fewer : (k n : ℕ) (area : List ℕ) (at : ℕ) → k ≤ n → Reads n area at → Reads k area at
 unfolding readFrom
@@ -135,13 +138,9 @@ reads-fewer (suc k) (suc n) area at h r =
 reads-all : (n m : ℕ) (area : List ℕ) (at : ℕ) → checkOf (readFrom n area at) ≡ Entries m → n ≡ m
 unfolding readFrom
 reads-all zero m area at h = cc
-reads-all (suc n) zero area at h = go (faultAt area at) (readFrom n area (at + (8 + lengthAt area at))) h
-  where
-    go : (f : Fault) (r : Reading Entry Refusal) → checkOf (judgedBy f at (withEntry (entryAt area at) r)) ≡ Entries 0 → suc n ≡ 0
-    go (Bad b) r e = cc
-    go Fine (read es) e = let k : suc (length es) ≡ 0 = cc in absurd (omega arith)
-    go Fine (refused b k) e = cc
-reads-all (suc n) (suc m) area at h = ap suc (reads-all n m area (at + (8 + lengthAt area at)) (judged-next (entryAt area at) at m (faultAt area at) (readFrom n area (at + (8 + lengthAt area at))) h .1))
+reads-all (suc n) m area at h =
+    let next = judged-next (entryAt area at) at m (faultAt area at) (readFrom n area (at + (8 + lengthAt area at))) h in
+    omega (arith, next .1, reads-all n (m - 1) area (at + (8 + lengthAt area at)) (next .2))
 
 -- the first sets of an area that a check passes
 pub area-reads : (area : List ℕ) (n k : ℕ) → checkOf (reading area) ≡ Entries n → k ≤ n → Reads k area 4

@@ -9,13 +9,13 @@ use native.Mathlib.Omega.{arith}
 use lib.Dec.{leb, ltb, eqb, eqb·suc-zero}
 use lib.ListN.{length, take, drop, length-take, length-drop}
 use lib.Seq.{take-length, take-nil, drop-nil, take-take, drop-drop, slice, length-slice}
-use borrow.Author.Tests.{eq-eqb, ne-eqb, ltb-false, lt-ltb, le-ltb, le-leb, lt-leb}
+use borrow.Author.Tests.{ne-eqb, ltb-false, lt-ltb, le-ltb, le-leb, lt-leb}
 use Rattle.words.specs.Numbers.{be32, zeros}
 use Rattle.words.specs.Nul.{untilNul}
 use Rattle.words.proofs.Choice.{choose, decide}
 use Rattle.inventory.specs.Listing.{Entry}
 use Rattle.indices.specs.declared.reading.Refusal.{Refusal}
-use Rattle.indices.specs.declared.reading.Refusal.the-variants.{Short, Past, Length, Code}
+use Rattle.indices.specs.declared.reading.Refusal.the-variants.{Past, Length, Code}
 use Rattle.indices.specs.declared.reading.Fault.{Fault}
 use Rattle.indices.specs.declared.reading.Fault.the-variants.{Fine, Bad}
 use Rattle.indices.specs.declared.reading.Check.{Check}
@@ -141,10 +141,6 @@ pub record Stands (area : List ℕ) (count at passed : ℕ) : Type 0 where
   pub few : passed ≤ count
   pub finds : checkOf (reading area) ≡ counted passed (readFrom (count - passed) area at)
 
-pub short-area : (area : List ℕ) → length area < 4 → Refused Short 0 ≡ checkOf (reading area)
-unfolding reading
-short-area area h = rw (lt-ltb (length area) 4 h)
-
 pub stands-first : (area : List ℕ) (count : ℕ) → 4 ≤ length area → count ≡ be32 area 0 → Stands area count 4 0
 unfolding reading
 stands-first area count h e =
@@ -179,10 +175,6 @@ module _ (area : List ℕ) (count at passed : ℕ) (s : Stands area count at pas
 -- ---- the step of a cursor
 
 module _ (area : List ℕ) (c : Cursor) where
-  pub next-none : c .left ≡ 0 → End ≡ nextOf area c
-  unfolding nextOf
-  next-none h = rw (eq-eqb (c .left) 0 h)
-
   pub next-short : length area - c .at < 8 → End ≡ nextOf area c
   unfolding nextOf
   next-short h = rw (lt-ltb (length area - c .at) 8 h, or-true (eqb (c .left) 0))

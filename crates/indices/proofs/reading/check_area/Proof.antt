@@ -3,11 +3,12 @@ use mathlib.Core.Path.{_≡_, sym, _∙_}
 use Prim.Native.Nat.{_-_}
 use native.Mathlib.Omega.{arith}
 use borrow.Author.Needs.{needs}
+use borrow.Author.Tests.{lt-ltb}
 use denote.Ref.{now}
 use Rattle.indices.proofs.Claims.{area-claims}
-use Rattle.indices.proofs.IndexLaws.{fine-inside, Stands, short-area, stands-first, stands-end, stands-bad, stands-fine}
+use Rattle.indices.proofs.IndexLaws.{fine-inside, Stands, stands-first, stands-end, stands-bad, stands-fine}
 use Rattle.indices.specs.declared.reading.Fault.the-variants.{Fine}
-use Rattle.indices.specs.Reading.{faultAt}
+use Rattle.indices.specs.Reading.{faultAt, reading}
 use Rattle.indices.proofs.reading.check_area.Statement.{statement}
 use Rattle.indices.proofs.reading.check_area.Tie as tie
 
@@ -18,7 +19,8 @@ abbrev μ-loop : tie.MeasureT-loop
 μ-loop area count at₀ passed₀ at passed = count - passed
 
 returns : tie.Need-returns Inv-loop μ-loop
-returns c = (short-area _ (c .if1 .taken), area-claims)
+unfolding reading
+returns c = (rw (lt-ltb _ 4 (c .if1 .taken)), area-claims)
 
 loop-holds : tie.Need-loop-holds Inv-loop μ-loop
 loop-holds c = stands-first (now (c .before .before .before .args .area)) (c .read-be32 .result) (c .before .if1 .left) (c .read-be32 .ensures)

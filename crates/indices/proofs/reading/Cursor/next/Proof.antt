@@ -2,12 +2,15 @@
 use native.Mathlib.Omega.{arith}
 use borrow.Author.Needs.{needs}
 use denote.Ref.{now}
-use Rattle.indices.proofs.IndexLaws.{next-none, next-short, next-found, steps-give}
+use borrow.Author.Tests.{eq-eqb}
+use Rattle.indices.specs.Cursor.{nextOf}
+use Rattle.indices.proofs.IndexLaws.{next-short, next-found, steps-give}
 use Rattle.indices.proofs.reading.Cursor.next.Statement.{statement}
 use Rattle.indices.proofs.reading.Cursor.next.Tie as tie
 
 returns : tie.Need-returns
-returns c = (next-none _ _ (c .if1 .taken), steps-give)
+unfolding nextOf
+returns c = (rw (eq-eqb _ 0 (c .if1 .taken)), steps-give)
 
 returns-2 : tie.Need-returns-2
 returns-2 c = (next-short _ _ (omega arith), steps-give)
