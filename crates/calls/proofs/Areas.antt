@@ -30,25 +30,12 @@ abbrev pub Left : Selection → List ℕ → List ℕ → Status → List ℕ �
 Left selection j area s after = (s ≡ areaStatus selection j area) × (after ≡ areaAfter selection j area)
 
 module _ (selection : Selection) (j area : List ℕ) where
-  pub left-malformed : wellFormed j ≡ false → Left selection j area status.Malformed area
+  -- an answer, by whether anything remains behind it
+  pub left-answered : wellFormed j ≡ true → isReserved area ≡ true → goodState selection j area ≡ true → (more : Bool) → remains (reportable selection j) (be32 area 0) ≡ more
+      → Left selection j area (cond more status.Again status.Done) (written area (reportable selection j) (be32 area 0))
   unfolding areaStatus areaAfter
-  left-malformed w = rw w (refl, refl)
-
-  module _ (w : wellFormed j ≡ true) where
-    pub left-reserved : isReserved area ≡ false → Left selection j area status.Parameter area
-    unfolding areaStatus areaAfter
-    left-reserved e = rw (w, e) (refl, refl)
-
-    module _ (z : isReserved area ≡ true) where
-      pub left-state : goodState selection j area ≡ false → Left selection j area status.Parameter area
-      unfolding areaStatus areaAfter
-      left-state e = rw (w, z, e) (refl, refl)
-
-      -- an answer, by whether anything remains behind it
-      pub left-answered : goodState selection j area ≡ true → (more : Bool) → remains (reportable selection j) (be32 area 0) ≡ more → Left selection j area (cond more status.Again status.Done) (written area (reportable selection j) (be32 area 0))
-      unfolding areaStatus areaAfter
-      left-answered e true f = rw (w, z, e, f) (refl, refl)
-      left-answered e false f = rw (w, z, e, f) (refl, refl)
+  left-answered w z e true f = rw (w, z, e, f) (refl, refl)
+  left-answered w z e false f = rw (w, z, e, f) (refl, refl)
 
 -- the code's test of the state
 pub state-is : (selection : Selection) (j area : List ℕ) (state : ℕ) (c : Counts) → state ≡ be32 area 0 → c ≡ countsOf selection j → (eqb state 0 || ltb state (total c)) ≡ goodState selection j area
@@ -80,15 +67,7 @@ unfolding placed
 placed-inside m address e = leb-true (address + 4096) (length m) (and-right (eqb (address % 4096) 0) _ e)
 
 module _ (m : List ℕ) (address scope : ℕ) (j : List ℕ) where
-  pub left-unplaced : placed m address ≡ false → LeftAll m address scope j status.Parameter m
-  unfolding nodesStatus nodesMemory
-  left-unplaced e = rw e (refl, refl)
-
   module _ (p : placed m address ≡ true) where
-    pub left-invalid : valid scope ≡ false → LeftAll m address scope j status.Parameter m
-    unfolding nodesStatus nodesMemory
-    left-invalid e = rw (p, e) (refl, refl)
-
     -- past the checks of address and scope the area decides
     pub nodes-checked : valid scope ≡ true → nodesStatus m address scope j ≡ areaStatus (selectionOf scope) j (areaAt m address)
     unfolding nodesStatus

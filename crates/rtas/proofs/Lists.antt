@@ -2,7 +2,7 @@
 use mathlib.Core.Path.{_≡_, refl, sym, ap, _∙_}
 use mathlib.Core.Bool.{true, false, cond, _&&_, and-false}
 use mathlib.Core.List.{List, [], _∷_, _++_}
-use Prim.Native.Nat.{ℕ, _+_, _-_, _<_, _≤_}
+use Prim.Native.Nat.{ℕ, suc, _+_, _-_, _<_, _≤_}
 use native.Mathlib.Omega.{arith}
 use lib.Dec.{leb, ltb}
 use lib.ListN.{length, take, drop, length-drop}
@@ -49,16 +49,11 @@ run-few : (size number : ℕ) (es : List Entry) → length (run size number es) 
 unfolding run
 run-few size number es = omega (arith, fitting-few (size - 4) (drop (number - 1) es), length-drop (number - 1) es)
 
--- the area without an entry, and with some
-after-none : (area : List ℕ) (es : List Entry) → length es ≡ 0 → areaAfter area es ≡ area
+-- the area with some entries, and without any
+after-is : (area : List ℕ) (es : List Entry) → areaAfter area es ≡ cond (leb 1 (length es)) (written area es) area
 unfolding areaAfter
-after-none area [] h = refl
-after-none area (e ∷ es) h = absurd (omega arith)
-
-after-some : (area : List ℕ) (es : List Entry) → 1 ≤ length es → areaAfter area es ≡ written area es
-unfolding areaAfter
-after-some area [] h = absurd (omega arith)
-after-some area (e ∷ es) h = refl
+after-is area [] = refl
+after-is area (e ∷ es) = rw (le-leb 1 (suc (length es)) (omega arith))
 
 -- ---- the checks of the list
 
@@ -118,11 +113,11 @@ module _ {i : List ℕ} {q : Request} {area : List ℕ} {handed : ℕ} {after : 
   pub left-unfit : (r : Listed) → handed ≡ 0 → Refused q r Parameter → Left i q area (r .status) (r .next .0) after
   left-unfit r h e =
       let l = left-refused i q area r Parameter (ran-status ∙ rw h) refl e in
-      (l .0, t .stored ∙ after-none area (runFor i q) (sym (t .counted) ∙ h) ∙ l .1)
+      (l .0, t .stored ∙ after-is area (runFor i q) ∙ rw (← t .counted, h) (l .1))
 
   module _ (some : 1 ≤ handed) where
     given : after ≡ written area (runFor i q)
-    given = t .stored ∙ after-some area (runFor i q) (omega arith)
+    given = t .stored ∙ after-is area (runFor i q) ∙ rw (le-leb 1 (length (runFor i q)) (omega arith))
 
     -- entries remain behind the run, or none
     pub left-again : numberIn q - 1 + handed < length (entriesFor i q) → Left i q area Again (numberIn q + handed) after
@@ -152,36 +147,25 @@ module _ (m i : List ℕ) (q : Request) where
   LeftAll s next after = ((s ≡ indicesStatus m i q) × (next ≡ numberGiven (indicesStatus m i q) i q)) × (after ≡ indicesMemory m i q)
 
   -- a request that is refused before the list is looked at
-  all-refused : (r : Listed) → indicesStatus m i q ≡ Parameter → Refused q r Parameter → LeftAll (r .status) (r .next .0) m
+  pub all-refused : (r : Listed) → indicesStatus m i q ≡ Parameter → Refused q r Parameter → LeftAll (r .status) (r .next .0) m
   unfolding numberGiven indicesMemory
   all-refused r e h = rw (e, h .0, h .1) ((refl, refl), refl)
 
-  -- a type that may not be asked for
-  pub left-unasked : (r : Listed) → askable (q .flag) (q .«item_type») ≡ false → Refused q r Parameter → LeftAll (r .status) (r .next .0) m
-  unfolding indicesStatus
-  left-unasked r e h = all-refused r (rw e) h
-
-  module _ (asked : askable (q .flag) (q .«item_type») ≡ true) where
-    -- a part that may not be lent
-    pub left-unlent : (r : Listed) → lendable m (q .address) (q .size) ≡ false → Refused q r Parameter → LeftAll (r .status) (r .next .0) m
+  module _ (asked : askable (q .flag) (q .«item_type») ≡ true) (lent : lendable m (q .address) (q .size) ≡ true) where
+    -- past the checks of the request the list decides
+    indices-checked : indicesStatus m i q ≡ listStatus i q
     unfolding indicesStatus
-    left-unlent r e h = all-refused r (rw (asked, e)) h
+    indices-checked = rw (asked, lent)
 
-    module _ (lent : lendable m (q .address) (q .size) ≡ true) where
-      -- past the checks of the request the list decides
-      indices-checked : indicesStatus m i q ≡ listStatus i q
-      unfolding indicesStatus
-      indices-checked = rw (asked, lent)
+    -- the area back in memory
+    area-back : withPart m (q .address) (q .size) (listArea i q (partAt m (q .address) (q .size))) ≡ indicesMemory m i q
+    unfolding listArea indicesMemory
+    area-back = rw indices-checked (decide (isAnswer (listStatus i q)) (λ e. rw e) (λ e. rw e (part-same m (q .address) (q .size))))
 
-      -- the area back in memory
-      area-back : withPart m (q .address) (q .size) (listArea i q (partAt m (q .address) (q .size))) ≡ indicesMemory m i q
-      unfolding listArea indicesMemory
-      area-back = rw indices-checked (decide (isAnswer (listStatus i q)) (λ e. rw e) (λ e. rw e (part-same m (q .address) (q .size))))
-
-      -- the area is answered, and comes back as v into memory
-      pub left-list : (s : Status) (next : ℕ) (v : List ℕ) → length v ≡ length (take (q .address + q .size - q .address) (drop (q .address) m)) → Left i q (take (q .address + q .size - q .address) (drop (q .address) m)) s next v
-          → LeftAll s next (take (q .address) m ++ (v ++ drop (q .address + q .size - q .address) (drop (q .address) m)))
-      left-list s next v n l =
-          let inside = lent-size m (q .address) (q .size) lent .2 in
-          let back = part-back m (q .address) (q .size) inside v (n ∙ sym (lent-area m (q .address) (q .size) lent .1)) in
-          rw (back, indices-checked) (l .0, ap (withPart m (q .address) (q .size)) (l .1 ∙ ap (listArea i q) (part-lent m (q .address) (q .size) inside)) ∙ area-back)
+    -- the area is answered, and comes back as v into memory
+    pub left-list : (s : Status) (next : ℕ) (v : List ℕ) → length v ≡ length (take (q .address + q .size - q .address) (drop (q .address) m)) → Left i q (take (q .address + q .size - q .address) (drop (q .address) m)) s next v
+        → LeftAll s next (take (q .address) m ++ (v ++ drop (q .address + q .size - q .address) (drop (q .address) m)))
+    left-list s next v n l =
+        let inside = lent-size m (q .address) (q .size) lent .2 in
+        let back = part-back m (q .address) (q .size) inside v (n ∙ sym (lent-area m (q .address) (q .size) lent .1)) in
+        rw (back, indices-checked) (l .0, ap (withPart m (q .address) (q .size)) (l .1 ∙ ap (listArea i q) (part-lent m (q .address) (q .size) inside)) ∙ area-back)

@@ -4,21 +4,23 @@ use mathlib.Core.Path.{_≡_, sym, _∙_}
 use borrow.Author.Needs.{needs}
 use borrow.Author.Tests.{not-true, not-false}
 use denote.Ref.{now}
-use Rattle.calls.specs.GetIndices.{askable, lendable}
+use Rattle.calls.specs.GetIndices.{askable, lendable, indicesStatus}
 use Rattle.calls.proofs.Requests.{lent-size}
-use Rattle.rtas.proofs.Lists.{lent-area, left-unasked, left-unlent, left-list}
+use Rattle.rtas.proofs.Lists.{lent-area, all-refused, left-list}
 use Rattle.rtas.proofs.indices_call.get_indices.Statement.{statement}
 use Rattle.rtas.proofs.indices_call.get_indices.Tie as tie
 
 returns : tie.Need-returns
-returns c = left-unasked (now (c .before .before .before .before .before .args .memory)) (now (c .before .before .before .before .before .args .inventory)) (c .before .before .before .before .before .args .request) (c .refused .result) (sym (c .before .before .is-askable .ensures) ∙ not-true _ (c .before .if1 .taken)) (c .refused .ensures)
+unfolding indicesStatus
+returns c = all-refused (now (c .before .before .before .before .before .args .memory)) (now (c .before .before .before .before .before .args .inventory)) (c .before .before .before .before .before .args .request) (c .refused .result) (rw (← c .before .before .is-askable .ensures, not-true (c .before .before .is-askable .result) (c .before .if1 .taken))) (c .refused .ensures)
 
 -- the tests of the request are those of the definition
 asked : (c : tie.Else1) → askable (c .before .before .before .before .args .request .flag) (c .before .before .before .before .args .request .«item_type») ≡ true
 asked c = sym (c .before .is-askable .ensures) ∙ not-false _ (c .if1 .left)
 
 returns-2 : tie.Need-returns-2
-returns-2 c = left-unlent (now (c .before .before .before .before .before .before .before .before .before .before .args .memory)) (now (c .before .before .before .before .before .before .before .before .before .before .args .inventory)) (c .before .before .before .before .before .before .before .before .before .before .args .request) (asked (c .before .before .before .before .before .before)) (c .refused2 .result) (sym (c .before .before .is-lendable .ensures) ∙ not-true _ (c .before .if2 .taken)) (c .refused2 .ensures)
+unfolding indicesStatus
+returns-2 c = all-refused (now (c .before .before .before .before .before .before .before .before .before .before .args .memory)) (now (c .before .before .before .before .before .before .before .before .before .before .args .inventory)) (c .before .before .before .before .before .before .before .before .before .before .args .request) (c .refused2 .result) (rw (asked (c .before .before .before .before .before .before), ← c .before .before .is-lendable .ensures, not-true (c .before .before .is-lendable .result) (c .before .if2 .taken))) (c .refused2 .ensures)
 
 lent : (c : tie.Else2) → lendable (now (c .before .before .before .before .before .before .before .before .before .args .memory)) (c .before .before .before .before .before .before .before .before .before .args .request .address) (c .before .before .before .before .before .before .before .before .before .args .request .size) ≡ true
 lent c = sym (c .before .is-lendable .ensures) ∙ not-false _ (c .if2 .left)

@@ -1,8 +1,10 @@
 -- `nodes_call::answer_area` meets its contract.
+use mathlib.Core.Path.{refl}
 use borrow.Author.Needs.{needs}
 use denote.Ref.{now}
 use Rattle.journal.specs.Scope.{byRow}
-use Rattle.calls.proofs.Areas.{left-malformed, scanned-malformed, scanned-counted}
+use Rattle.calls.proofs.Areas.{scanned-malformed, scanned-counted}
+use Rattle.calls.specs.UpdateNodes.{areaStatus, areaAfter}
 use Rattle.rtas.proofs.nodes_call.answer_area.Statement.{statement}
 use Rattle.rtas.proofs.nodes_call.answer_area.Tie as tie
 
@@ -11,7 +13,8 @@ answer-counted-requires c κs = let s = scanned-counted (byRow (now (c .before .
     (c .before .before .before .before .before .before .before .before .before .pre, record { good = s .0; counted = s .1; marked = c .before .before .before .before .before .before .scan .ensures .0 .1 })
 
 returns : tie.Need-returns
-returns c = left-malformed (byRow (now (c .before .before .before .before .before .before .args .row))) (now (c .before .before .before .before .before .before .args .j)) (now (c .before .before .before .before .before .before .args .area)) (scanned-malformed (byRow (now (c .before .before .before .before .before .before .args .row))) (now (c .before .before .before .before .before .before .args .j)) _ (c .enum-told .given .1) (c .before .before .before .scan .ensures .0 .0))
+unfolding areaStatus areaAfter
+returns c = rw (scanned-malformed (byRow (now (c .before .before .before .before .before .before .args .row))) (now (c .before .before .before .before .before .before .args .j)) _ (c .enum-told .given .1) (c .before .before .before .scan .ensures .0 .0)) (refl, refl)
 
 pub answer-area-spec : {M : Type 1} → statement M
 answer-area-spec =

@@ -1,6 +1,6 @@
 -- `nodes_call::answer_counted` meets its contract.
 use mathlib.Core.Bool.{Bool, true, false, cond}
-use mathlib.Core.Path.{_≡_, sym, ap, _∙_}
+use mathlib.Core.Path.{_≡_, sym, ap, _∙_, refl}
 use Prim.Native.Nat.{_≤_}
 use native.Mathlib.Omega.{arith}
 use borrow.Author.Needs.{needs}
@@ -13,16 +13,15 @@ use Rattle.nodes.proofs.Listed.{total-is}
 use Rattle.nodes.specs.Area.{written}
 use Rattle.node_area.specs.Head.{isReserved}
 use Rattle.node_area.specs.State.{total}
-use Rattle.calls.proofs.Areas.{left-reserved, left-state, left-answered, Left, state-is, state-within}
+use Rattle.calls.proofs.Areas.{left-answered, Left, state-is, state-within}
 use Rattle.calls.specs.declared.status.Status.the-variants.{Done, Again}
-use Rattle.calls.specs.UpdateNodes.{goodState}
+use Rattle.calls.specs.UpdateNodes.{goodState, areaStatus, areaAfter}
 use Rattle.rtas.proofs.nodes_call.answer_counted.Statement.{statement}
 use Rattle.rtas.proofs.nodes_call.answer_counted.Tie as tie
 
 returns : tie.Need-returns
-returns c =
-    let s = c .before .before .before .before .before in
-    left-reserved (byRow (now (s .args .row))) (now (s .args .j)) (now (s .args .area)) (s .pre .1 .good) (sym (c .before .is-reserved .ensures) ∙ not-true _ (c .if1 .taken))
+unfolding areaStatus areaAfter
+returns c = rw (c .before .before .before .before .before .pre .1 .good, ← c .before .is-reserved .ensures, not-true (c .before .is-reserved .result) (c .if1 .taken)) (refl, refl)
 
 is-within-requires : tie.Need-is-within-requires
 is-within-requires c κs = let s = c .before .before .before .before .before .before .before in omega (arith, counts-small (byRow (now (s .args .row))) (now (s .args .j)) (s .args .counts) (s .pre .1 .good) (s .pre .1 .counted))
@@ -43,9 +42,8 @@ within c =
     rw (c .before .before .read .ensures, s .pre .1 .counted) (rw (← total-is (byRow (now (s .args .row))) (now (s .args .j))) at (state-within (byRow (now (s .args .row))) (now (s .args .j)) (now (s .args .area)) (good-yes c)))
 
 returns-2 : tie.Need-returns-2
-returns-2 c =
-    let s = c .before .before .before .before .before .before .before .before .before in
-    left-state (byRow (now (s .args .row))) (now (s .args .j)) (now (s .args .area)) (s .pre .1 .good) (reserved-yes (c .before .before .before .before)) (sym (good-is (c .before)) ∙ not-true _ (c .if2 .taken))
+unfolding areaStatus areaAfter
+returns-2 c = rw (c .before .before .before .before .before .before .before .before .before .pre .1 .good, reserved-yes (c .before .before .before .before), ← good-is (c .before), not-true (c .before .is-within .result) (c .if2 .taken)) (refl, refl)
 
 write-answer-requires : tie.Need-write-answer-requires
 write-answer-requires c κs = let p = c .before .before .before .before .before .before .before .before .before .before .pre in (p .0, p .1, within (c .before))

@@ -1,27 +1,32 @@
 -- `nodes_call::update_nodes` meets its contract.
-use mathlib.Core.Bool.{true}
+use mathlib.Core.Bool.{true, false}
 use mathlib.Core.List.{List}
-use mathlib.Core.Path.{_≡_, sym, ap, _∙_}
+use mathlib.Core.Path.{_≡_, sym, ap, _∙_, refl}
 use Prim.Native.Nat.{ℕ}
 use lib.ListN.{length}
 use borrow.Author.Needs.{needs}
 use borrow.Author.Tests.{not-true, not-false}
 use denote.Ref.{now}
 use Rattle.journal.specs.declared.scope.Row.{Row}
-use Rattle.calls.proofs.Areas.{placed-inside, left-unplaced, left-invalid, left-area}
+use Rattle.journal.specs.Scope.{valid}
+use Rattle.calls.proofs.Areas.{placed-inside, left-area}
 use Rattle.calls.proofs.Memory.{part-lent, part-length}
-use Rattle.calls.specs.UpdateNodes.{placed}
+use Rattle.calls.specs.UpdateNodes.{placed, nodesStatus, nodesMemory}
 use Rattle.rtas.proofs.nodes_call.update_nodes.Statement.{statement}
 use Rattle.rtas.proofs.nodes_call.update_nodes.Tie as tie
 
 returns : tie.Need-returns
-returns c = left-unplaced (now (c .before .before .before .before .before .args .memory)) (c .before .before .before .before .before .args .address) (c .before .before .before .before .before .args .scope) (now (c .before .before .before .before .before .args .j)) (sym (c .before .is-placed .ensures) ∙ not-true _ (c .if1 .taken))
+unfolding nodesStatus nodesMemory
+returns c = rw (← c .before .is-placed .ensures, not-true (c .before .is-placed .result) (c .if1 .taken)) (refl, refl)
 
 placed-yes : (c : tie.Else1) → placed (now (c .before .before .before .before .before .args .memory)) (c .before .before .before .before .before .args .address) ≡ true
 placed-yes c = sym (c .before .is-placed .ensures) ∙ not-false _ (c .if1 .left)
 
 returns-2 : tie.Need-returns-2
-returns-2 c = left-invalid (now (c .before .before .before .before .before .before .before .before .args .memory)) (c .before .before .before .before .before .before .before .before .args .address) (c .before .before .before .before .before .before .before .before .args .scope) (now (c .before .before .before .before .before .before .before .before .args .j)) (placed-yes (c .before .before .before)) (ap (λ (r : Row). r .valid) (sym (c .before .before .scope-row .ensures .0)) ∙ not-true _ (c .if2 .taken))
+unfolding nodesStatus nodesMemory
+returns-2 c =
+    let invalid : valid (c .before .before .before .before .before .before .before .before .args .scope) ≡ false = ap (λ (r : Row). r .valid) (sym (c .before .before .scope-row .ensures .0)) ∙ not-true _ (c .if2 .taken) in
+    rw (placed-yes (c .before .before .before), invalid) (refl, refl)
 
 part-answer-area-end : tie.Need-part-answer-area-end
 part-answer-area-end c = let h = placed-inside (now (c .before .before .before .before .before .before .before .before .before .args .memory)) (c .before .before .before .before .before .before .before .before .before .args .address) (placed-yes (c .before .before .before .before)) in search needs
