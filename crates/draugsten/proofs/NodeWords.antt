@@ -3,7 +3,7 @@ use mathlib.Core.Path.{_≡_, refl, sym, ap, _∙_}
 use mathlib.Core.Bool.{Bool, true, false, cond, not}
 use mathlib.Core.List.{List, [], _∷_, _++_, append-assoc}
 use Prim.Native.Nat.{ℕ, zero, suc, _+_, _*_, _-_, _/_, _<_, _≤_, min}
-use native.Mathlib.Nat.{add-zero, sub-zero, min-zero, suc-min-suc}
+use native.Mathlib.Nat.{add-zero, mul-zero, sub-zero, min-zero, suc-min-suc}
 use native.Mathlib.Omega.{arith}
 use lib.Dec.{eqb}
 use lib.ListN.{length, take, drop, length-append, length-drop}
@@ -55,6 +55,34 @@ module _ (l m : List ℕ) (i : ℕ) where
   unfolding operationsWords
   stored-one o os e = rw e (sets-behind l i (i + 3) (operationWords o) (operationsWords os) (rw length-operation))
 
+-- Operations of one opcode stand at a place of an area, each in so many bytes; `count` tells the operand words of so many of them.
+module _ (area start : List ℕ) (size : ℕ) (count : ℕ → ℕ) (at code n to : ℕ) where
+  -- i of n operations are stored: storing the others gives the whole
+  pub record Partly (l : List ℕ) (i : ℕ) : Type 0 where
+    pub rest : sets l (to + 3 * i) (operationsWords (take (n - i) (operationsAt (words (drop (at + size * i) area)) code (count (n - i)))))
+        ≡ sets start to (operationsWords (take n (operationsAt (words (drop at area)) code (count n))))
+
+  pub partly-first : Partly start 0
+  partly-first = record { rest = simp (sub-zero, mul-zero, add-zero) }
+
+module _ {area start l : List ℕ} {size : ℕ} {count : ℕ → ℕ} {at code n to i : ℕ} (s : Partly area start size count at code n to l i) where
+  pub partly-length : length l ≡ length start
+  partly-length = simp length-sets at (ap length (s .rest))
+
+  pub partly-all : n ≤ i → l ≡ sets start to (operationsWords (take n (operationsAt (words (drop at area)) code (count n))))
+  unfolding operationsWords
+  partly-all h = let none : n - i ≡ 0 = omega arith in rw none at (s .rest)
+
+  -- one more is stored
+  partly-next : (m : List ℕ) (o : Operation) → i < n
+      → operationsAt (words (drop (at + size * i) area)) code (count (n - i)) ≡ o ∷ operationsAt (words (drop (at + size * (i + 1)) area)) code (count (n - (i + 1)))
+      → m ≡ sets l (to + 3 * i) (operationWords o) → Partly area start size count at code n to m (i + 1)
+  partly-next m o more one stored =
+      let left : n - i ≡ suc (n - (i + 1)) = omega arith in
+      let place : to + 3 * (i + 1) ≡ to + 3 * i + 3 = omega arith in
+      let others = operationsAt (words (drop (at + size * (i + 1)) area)) code (count (n - (i + 1))) in
+      record { rest = rw place (stored-one l m (to + 3 * i) o (take (n - (i + 1)) others) stored ∙ (rw left at (rw one at (s .rest)))) }
+
 -- ---- operations of one operand word
 
 single-words : (code w : ℕ) → 1 ≤ code → code < 3 → operationWords (single code w) ≡ code ∷ w ∷ 0 ∷ []
@@ -63,64 +91,28 @@ single-words (suc zero) w h l = refl
 single-words (suc (suc zero)) w h l = refl
 single-words (suc (suc (suc n))) w h l = absurd (omega arith)
 
-module _ (area start : List ℕ) (at code n to : ℕ) where
-  -- i operations are stored: storing the others gives the whole
-  pub record Singles (l : List ℕ) (i : ℕ) : Type 0 where
-    pub rest : sets l (to + 3 * i) (operationsWords (take (n - i) (operationsAt (words (drop (at + 4 * i) area)) code (n - i)))) ≡ sets start to (operationsWords (take n (operationsAt (words (drop at area)) code n)))
-
-  pub singles-first : Singles start 0
-  singles-first = record { rest = simp (sub-zero, add-zero) }
-
-module _ {area start l : List ℕ} {at code n to i : ℕ} (s : Singles area start at code n to l i) where
-  pub singles-length : length l ≡ length start
-  singles-length = simp length-sets at (ap length (s .rest))
-
-  pub singles-all : n ≤ i → l ≡ sets start to (operationsWords (take n (operationsAt (words (drop at area)) code n)))
-  unfolding operationsWords
-  singles-all h = let none : n - i ≡ 0 = omega arith in rw none at (s .rest)
-
-  pub singles-next : (m : List ℕ) (w : ℕ) → 1 ≤ code → code < 3 → i < n → at + 4 * n ≤ length area → w ≡ be 4 area (at + 4 * i) → m ≡ sets l (to + 3 * i) (code ∷ w ∷ 0 ∷ []) → Singles area start at code n to m (i + 1)
-  singles-next m w low high more fits word stored =
-      let ws = words (drop (at + 4 * (i + 1)) area) in
-      let left : n - i ≡ suc (n - (i + 1)) = omega arith in
-      let less : n - i - 1 ≡ n - (i + 1) = omega arith in
-      let behind : at + 4 * i + 4 ≡ at + 4 * (i + 1) = omega arith in
-      let place : to + 3 * (i + 1) ≡ to + 3 * i + 3 = omega arith in
-      let here : words (drop (at + 4 * i) area) ≡ w ∷ ws = rw (behind, ← word) at (words-step area (at + 4 * i) (omega arith)) in
-      let one : operationsAt (words (drop (at + 4 * i) area)) code (n - i) ≡ single code w ∷ operationsAt ws code (n - (i + 1)) = rw here (rw less at (operations-single code w ws (n - i) (λ e. omega arith) (omega arith))) in
-      let told = stored-one l m (to + 3 * i) (single code w) (take (n - (i + 1)) (operationsAt ws code (n - (i + 1)))) (stored ∙ ap (sets l (to + 3 * i)) (sym (single-words code w low high))) in
-      record { rest = rw place (told ∙ (rw (one, left) at (s .rest))) }
+pub singles-next : {area start l : List ℕ} {at code n to i : ℕ} → Partly area start 4 (λ k. k) at code n to l i → (m : List ℕ) (w : ℕ) → 1 ≤ code → code < 3 → i < n → at + 4 * n ≤ length area
+    → w ≡ be 4 area (at + 4 * i) → m ≡ sets l (to + 3 * i) (code ∷ w ∷ 0 ∷ []) → Partly area start 4 (λ k. k) at code n to m (i + 1)
+singles-next {area} {l = l} {at} {code} {n} {to} {i} s m w low high more fits word stored =
+    let ws = words (drop (at + 4 * (i + 1)) area) in
+    let less : n - i - 1 ≡ n - (i + 1) = omega arith in
+    let behind : at + 4 * i + 4 ≡ at + 4 * (i + 1) = omega arith in
+    let here : words (drop (at + 4 * i) area) ≡ w ∷ ws = rw (behind, ← word) at (words-step area (at + 4 * i) (omega arith)) in
+    partly-next s m (single code w) more (rw here (rw less at (operations-single code w ws (n - i) (λ e. omega arith) (omega arith))))
+    (stored ∙ ap (sets l (to + 3 * i)) (sym (single-words code w low high)))
 
 -- ---- additions
 
-module _ (area start : List ℕ) (at n to : ℕ) where
-  pub record Pairs (l : List ℕ) (i : ℕ) : Type 0 where
-    pub rest : sets l (to + 3 * i) (operationsWords (take (n - i) (operationsAt (words (drop (at + 8 * i) area)) 3 (n - i + (n - i))))) ≡ sets start to (operationsWords (take n (operationsAt (words (drop at area)) 3 (n + n))))
-
-  pub pairs-first : Pairs start 0
-  pairs-first = record { rest = simp (sub-zero, add-zero) }
-
-module _ {area start l : List ℕ} {at n to i : ℕ} (s : Pairs area start at n to l i) where
-  pub pairs-length : length l ≡ length start
-  pairs-length = simp length-sets at (ap length (s .rest))
-
-  pub pairs-all : n ≤ i → l ≡ sets start to (operationsWords (take n (operationsAt (words (drop at area)) 3 (n + n))))
-  unfolding operationsWords
-  pairs-all h = let none : n - i ≡ 0 = omega arith in rw none at (s .rest)
-
-  pub pairs-next : (m : List ℕ) (w v : ℕ) → i < n → at + 8 * n ≤ length area → w ≡ be 4 area (at + 8 * i) → v ≡ be 4 area (at + 8 * i + 4) → m ≡ sets l (to + 3 * i) (operationWords (Add w v)) → Pairs area start at n to m (i + 1)
-  pairs-next m w v more fits first second stored =
-      let ws = words (drop (at + 8 * (i + 1)) area) in
-      let k = n - (i + 1) in
-      let left : n - i ≡ suc k = omega arith in
-      let less : n - i + (n - i) - 1 - 1 ≡ k + k = omega arith in
-      let behind : at + 8 * i + 4 + 4 ≡ at + 8 * (i + 1) = omega arith in
-      let place : to + 3 * (i + 1) ≡ to + 3 * i + 3 = omega arith in
-      let later : words (drop (at + 8 * i + 4) area) ≡ v ∷ ws = rw (behind, ← second) at (words-step area (at + 8 * i + 4) (omega arith)) in
-      let here : words (drop (at + 8 * i) area) ≡ w ∷ v ∷ ws = rw (later, ← first) at (words-step area (at + 8 * i) (omega arith)) in
-      let one : operationsAt (words (drop (at + 8 * i) area)) 3 (n - i + (n - i)) ≡ Add w v ∷ operationsAt ws 3 (k + k) = rw here (rw less at (operations-pair 3 w v ws (n - i + (n - i)) refl (omega arith))) in
-      let told = stored-one l m (to + 3 * i) (Add w v) (take k (operationsAt ws 3 (k + k))) stored in
-      record { rest = rw place (told ∙ (rw (one, left) at (s .rest))) }
+pub pairs-next : {area start l : List ℕ} {at n to i : ℕ} → Partly area start 8 (λ k. k + k) at 3 n to l i → (m : List ℕ) (w v : ℕ) → i < n → at + 8 * n ≤ length area
+    → w ≡ be 4 area (at + 8 * i) → v ≡ be 4 area (at + 8 * i + 4) → m ≡ sets l (to + 3 * i) (operationWords (Add w v)) → Partly area start 8 (λ k. k + k) at 3 n to m (i + 1)
+pairs-next {area} {at = at} {n} {to} {i} s m w v more fits first second stored =
+    let ws = words (drop (at + 8 * (i + 1)) area) in
+    let k = n - (i + 1) in
+    let less : n - i + (n - i) - 1 - 1 ≡ k + k = omega arith in
+    let behind : at + 8 * i + 4 + 4 ≡ at + 8 * (i + 1) = omega arith in
+    let later : words (drop (at + 8 * i + 4) area) ≡ v ∷ ws = rw (behind, ← second) at (words-step area (at + 8 * i + 4) (omega arith)) in
+    let here : words (drop (at + 8 * i) area) ≡ w ∷ v ∷ ws = rw (later, ← first) at (words-step area (at + 8 * i) (omega arith)) in
+    partly-next s m (Add w v) more (rw here (rw less at (operations-pair 3 w v ws (n - i + (n - i)) refl (omega arith)))) stored
 
 -- ---- the operations of an operator
 

@@ -1,28 +1,28 @@
 -- `reading::store_pairs` meets its contract.
-use Prim.Native.Nat.{_-_}
+use Prim.Native.Nat.{_+_, _-_}
 use native.Mathlib.Omega.{arith}
-use Rattle.draugsten.proofs.NodeWords.{Pairs, pairs-first, pairs-length, pairs-all, pairs-next}
+use Rattle.draugsten.proofs.NodeWords.{Partly, partly-first, partly-length, partly-all, pairs-next}
 use borrow.Author.Needs.{needs}
 use Rattle.draugsten.proofs.reading.store_pairs.Statement.{statement}
 use Rattle.draugsten.proofs.reading.store_pairs.Tie as tie
 
 abbrev Inv-loop : tie.InvT-loop
-Inv-loop area at n out₀ to i₀ out i = Pairs area out₀ at n to out i
+Inv-loop area at n out₀ to i₀ out i = Partly area out₀ 8 (λ k. k + k) at 3 n to out i
 
 abbrev μ-loop : tie.MeasureT-loop
 μ-loop area at n out₀ to i₀ out i = n - i
 
 loop-holds : tie.Need-loop-holds Inv-loop μ-loop
-loop-holds c = pairs-first _ _ _ _ _
+loop-holds c = partly-first _ _ _ _ _ _ _ _
 
 loop-again : tie.Need-loop-again Inv-loop μ-loop
 loop-again c = pairs-next (c .before .before .before .before .before .before .before .loop .inv) _ _ _ (c .before .before .before .before .before .before .loop-test .taken) (c .before .before .before .before .before .before .before .before .before .before .pre .0) (c .before .before .before .before .before .read-be32 .ensures) (c .before .before .before .before .read-be322 .ensures) (c .before .before .store-words .ensures)
 
 same-length : tie.Need-same-length Inv-loop μ-loop
-same-length c = pairs-length (c .before .loop .inv)
+same-length c = partly-length (c .before .loop .inv)
 
 returns : tie.Need-returns Inv-loop μ-loop
-returns c = pairs-all (c .before .loop .inv) (c .loop-test .left)
+returns c = partly-all (c .before .loop .inv) (c .loop-test .left)
 
 pub store-pairs-spec : {M : Type 1} → statement M
 store-pairs-spec =
@@ -40,7 +40,7 @@ store-pairs-spec =
     (λ c κs. search needs)
     (λ c. search needs)
     (λ c. search needs)
-    (λ c κs. omega (arith, pairs-length (c .before .before .before .before .loop .inv)))
+    (λ c κs. omega (arith, partly-length (c .before .before .before .before .loop .inv)))
     (λ c. search needs)
     (λ c. search needs)
     loop-again

@@ -1,19 +1,19 @@
 -- `reading::store_singles` meets its contract.
 use Prim.Native.Nat.{_-_}
 use native.Mathlib.Omega.{arith}
-use Rattle.draugsten.proofs.NodeWords.{Singles, singles-first, singles-length, singles-all, singles-next}
+use Rattle.draugsten.proofs.NodeWords.{Partly, partly-first, partly-length, partly-all, singles-next}
 use borrow.Author.Needs.{needs}
 use Rattle.draugsten.proofs.reading.store_singles.Statement.{statement}
 use Rattle.draugsten.proofs.reading.store_singles.Tie as tie
 
 abbrev Inv-loop : tie.InvT-loop
-Inv-loop area at code n out₀ to i₀ out i = Singles area out₀ at code n to out i
+Inv-loop area at code n out₀ to i₀ out i = Partly area out₀ 4 (λ k. k) at code n to out i
 
 abbrev μ-loop : tie.MeasureT-loop
 μ-loop area at code n out₀ to i₀ out i = n - i
 
 loop-holds : tie.Need-loop-holds Inv-loop μ-loop
-loop-holds c = singles-first _ _ _ _ _ _
+loop-holds c = partly-first _ _ _ _ _ _ _ _
 
 loop-again : tie.Need-loop-again Inv-loop μ-loop
 loop-again c =
@@ -22,10 +22,10 @@ loop-again c =
     singles-next (c .before .before .before .before .before .before .loop .inv) _ _ (code .0) (code .1) (c .before .before .before .before .before .loop-test .taken) (pre .0) (c .before .before .before .before .read-be32 .ensures) (c .before .before .store-words .ensures)
 
 same-length : tie.Need-same-length Inv-loop μ-loop
-same-length c = singles-length (c .before .loop .inv)
+same-length c = partly-length (c .before .loop .inv)
 
 returns : tie.Need-returns Inv-loop μ-loop
-returns c = singles-all (c .before .loop .inv) (c .loop-test .left)
+returns c = partly-all (c .before .loop .inv) (c .loop-test .left)
 
 pub store-singles-spec : {M : Type 1} → statement M
 store-singles-spec =
@@ -39,7 +39,7 @@ store-singles-spec =
     (λ c κs. search needs)
     (λ c. search needs)
     (λ c. search needs)
-    (λ c κs. omega (arith, singles-length (c .before .before .before .loop .inv)))
+    (λ c κs. omega (arith, partly-length (c .before .before .before .loop .inv)))
     (λ c. search needs)
     (λ c. search needs)
     loop-again
