@@ -72,7 +72,8 @@ pub front-behind : (front area : List ℕ) (k : ℕ) → length front ≤ k → 
 front-behind front area k h =
     let d = k - length front in
     let there : k ≡ length front + d = omega arith in
-    ap (λ (n : ℕ). getD (front ++ drop (length front) area) n 0) there ∙ getD-append-add front (drop (length front) area) d 0 ∙ getD-drop (length front) area d 0 ∙ ap (λ (n : ℕ). getD area n 0) (sym there)
+    ap (λ (n : ℕ). getD (front ++ drop (length front) area) n 0) there
+    ∙ getD-append-add front (drop (length front) area) d 0 ∙ getD-drop (length front) area d 0 ∙ ap (λ (n : ℕ). getD area n 0) (sym there)
 
 -- an answer leaves the length of an area as it was
 pub written-length : (area : List ℕ) (os : List Operation) (k : ℕ) → length area ≡ 4096 → k ≤ length os → length (written area os k) ≡ 4096

@@ -163,7 +163,8 @@ module _ (m i : List ℕ) (q : Request) where
     area-back = rw indices-checked (decide (isAnswer (listStatus i q)) (λ e. rw e) (λ e. rw e (part-same m (q .address) (q .size))))
 
     -- the area is answered, and comes back as v into memory
-    pub left-list : (s : Status) (next : ℕ) (v : List ℕ) → length v ≡ length (take (q .address + q .size - q .address) (drop (q .address) m)) → Left i q (take (q .address + q .size - q .address) (drop (q .address) m)) s next v
+    pub left-list : (s : Status) (next : ℕ) (v : List ℕ) → length v ≡ length (take (q .address + q .size - q .address) (drop (q .address) m))
+        → Left i q (take (q .address + q .size - q .address) (drop (q .address) m)) s next v
         → LeftAll s next (take (q .address) m ++ (v ++ drop (q .address + q .size - q .address) (drop (q .address) m)))
     left-list s next v n l =
         let inside = lent-size m (q .address) (q .size) lent .2 in

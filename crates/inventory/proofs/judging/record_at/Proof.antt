@@ -39,7 +39,9 @@ returns-3 : tie.Need-returns-3
 returns-3 c = rw (judged (c .before .before .before) _ (c .before .zero-bytes .ensures), ne-eqb (c .before .zero-bytes .result) 0 (λ e. omega arith), and-false)
 
 returns-4 : tie.Need-returns-4
-returns-4 c = rw (judged (c .before .before .before) _ (c .before .zero-bytes .ensures), not-false (c .before .before .before .is-framed .result) (c .before .before .if2 .left), eq-eqb (c .before .zero-bytes .result) 0 (omega arith)) (size-is (c .before .before .before))
+returns-4 c =
+    let good = judged (c .before .before .before) _ (c .before .zero-bytes .ensures) in
+    rw (good, not-false (c .before .before .before .is-framed .result) (c .before .before .if2 .left), eq-eqb (c .before .zero-bytes .result) 0 (omega arith)) (size-is (c .before .before .before))
 
 pub record-at-spec : {M : Type 1} → statement M
 record-at-spec =

@@ -12,7 +12,10 @@ use Rattle.rtas.proofs.indices_call.get_indices.Tie as tie
 
 returns : tie.Need-returns
 unfolding indicesStatus
-returns c = all-refused (now (c .before .before .before .before .before .args .memory)) (now (c .before .before .before .before .before .args .inventory)) (c .before .before .before .before .before .args .request) (c .refused .result) (rw (← c .before .before .is-askable .ensures, not-true (c .before .before .is-askable .result) (c .before .if1 .taken))) (c .refused .ensures)
+returns c =
+    let s = c .before .before .before .before .before in
+    all-refused (now (s .args .memory)) (now (s .args .inventory)) (s .args .request) (c .refused .result)
+    (rw (← c .before .before .is-askable .ensures, not-true (c .before .before .is-askable .result) (c .before .if1 .taken))) (c .refused .ensures)
 
 -- the tests of the request are those of the definition
 asked : (c : tie.Else1) → askable (c .before .before .before .before .args .request .flag) (c .before .before .before .before .args .request .«item_type») ≡ true
@@ -20,7 +23,11 @@ asked c = sym (c .before .is-askable .ensures) ∙ not-false _ (c .if1 .left)
 
 returns-2 : tie.Need-returns-2
 unfolding indicesStatus
-returns-2 c = all-refused (now (c .before .before .before .before .before .before .before .before .before .before .args .memory)) (now (c .before .before .before .before .before .before .before .before .before .before .args .inventory)) (c .before .before .before .before .before .before .before .before .before .before .args .request) (c .refused2 .result) (rw (asked (c .before .before .before .before .before .before), ← c .before .before .is-lendable .ensures, not-true (c .before .before .is-lendable .result) (c .before .if2 .taken))) (c .refused2 .ensures)
+returns-2 c =
+    let s = c .before .before .before .before .before .before .before .before .before .before in
+    all-refused (now (s .args .memory)) (now (s .args .inventory)) (s .args .request) (c .refused2 .result)
+    (rw (asked (c .before .before .before .before .before .before), ← c .before .before .is-lendable .ensures, not-true (c .before .before .is-lendable .result) (c .before .if2 .taken)))
+    (c .refused2 .ensures)
 
 lent : (c : tie.Else2) → lendable (now (c .before .before .before .before .before .before .before .before .before .args .memory)) (c .before .before .before .before .before .before .before .before .before .args .request .address) (c .before .before .before .before .before .before .before .before .before .args .request .size) ≡ true
 lent c = sym (c .before .is-lendable .ensures) ∙ not-false _ (c .if2 .left)

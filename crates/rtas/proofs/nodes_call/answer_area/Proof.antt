@@ -14,7 +14,9 @@ answer-counted-requires c κs = let s = scanned-counted (byRow (now (c .before .
 
 returns : tie.Need-returns
 unfolding areaStatus areaAfter
-returns c = rw (scanned-malformed (byRow (now (c .before .before .before .before .before .before .args .row))) (now (c .before .before .before .before .before .before .args .j)) _ (c .enum-told .given .1) (c .before .before .before .scan .ensures .0 .0)) (refl, refl)
+returns c =
+    let s = c .before .before .before .before .before .before in
+    rw (scanned-malformed (byRow (now (s .args .row))) (now (s .args .j)) _ (c .enum-told .given .1) (c .before .before .before .scan .ensures .0 .0)) (refl, refl)
 
 pub answer-area-spec : {M : Type 1} → statement M
 answer-area-spec =

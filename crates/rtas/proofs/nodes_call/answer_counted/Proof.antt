@@ -43,17 +43,23 @@ within c =
 
 returns-2 : tie.Need-returns-2
 unfolding areaStatus areaAfter
-returns-2 c = rw (c .before .before .before .before .before .before .before .before .before .pre .1 .good, reserved-yes (c .before .before .before .before), ← good-is (c .before), not-true (c .before .is-within .result) (c .if2 .taken)) (refl, refl)
+returns-2 c =
+    let formed = c .before .before .before .before .before .before .before .before .before .pre .1 .good in
+    rw (formed, reserved-yes (c .before .before .before .before), ← good-is (c .before), not-true (c .before .is-within .result) (c .if2 .taken)) (refl, refl)
 
 write-answer-requires : tie.Need-write-answer-requires
 write-answer-requires c κs = let p = c .before .before .before .before .before .before .before .before .before .before .pre in (p .0, p .1, within (c .before))
 
 -- what the writer leaves, with the status that its result tells
-answered : (c : tie.After-write-answer) (more : Bool) → c .write-answer .result ≡ more → Left (byRow (now (c .before .before .before .before .before .before .before .before .before .before .before .args .row))) (now (c .before .before .before .before .before .before .before .before .before .before .before .args .j)) (now (c .before .before .before .before .before .before .before .before .before .before .before .args .area)) (cond more Again Done) (c .write-answer .last .0)
+answered : (c : tie.After-write-answer) (more : Bool) → c .write-answer .result ≡ more
+    → let s = c .before .before .before .before .before .before .before .before .before .before .before in
+    Left (byRow (now (s .args .row))) (now (s .args .j)) (now (s .args .area)) (cond more Again Done) (c .write-answer .last .0)
 answered c more told =
     let s = c .before .before .before .before .before .before .before .before .before .before .before in
     let e = c .before .before .before .before .read .ensures in
-    let l = left-answered (byRow (now (s .args .row))) (now (s .args .j)) (now (s .args .area)) (s .pre .1 .good) (reserved-yes (c .before .before .before .before .before .before)) (good-yes (c .before .before)) more (rw e at (sym (c .write-answer .ensures .0) ∙ told)) in
+    let more-is = rw e at (sym (c .write-answer .ensures .0) ∙ told) in
+    let l = left-answered (byRow (now (s .args .row))) (now (s .args .j)) (now (s .args .area)) (s .pre .1 .good)
+    (reserved-yes (c .before .before .before .before .before .before)) (good-yes (c .before .before)) more more-is in
     (l .0, c .write-answer .ensures .1 .0 ∙ ap (written (now (s .args .area)) (reportable (byRow (now (s .args .row))) (now (s .args .j)))) e ∙ l .1)
 
 returns-3 : tie.Need-returns-3

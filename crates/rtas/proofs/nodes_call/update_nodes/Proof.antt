@@ -25,7 +25,8 @@ placed-yes c = sym (c .before .is-placed .ensures) ∙ not-false _ (c .if1 .left
 returns-2 : tie.Need-returns-2
 unfolding nodesStatus nodesMemory
 returns-2 c =
-    let invalid : valid (c .before .before .before .before .before .before .before .before .args .scope) ≡ false = ap (λ (r : Row). r .valid) (sym (c .before .before .scope-row .ensures .0)) ∙ not-true _ (c .if2 .taken) in
+    let invalid : valid (c .before .before .before .before .before .before .before .before .args .scope) ≡ false =
+    ap (λ (r : Row). r .valid) (sym (c .before .before .scope-row .ensures .0)) ∙ not-true _ (c .if2 .taken) in
     rw (placed-yes (c .before .before .before), invalid) (refl, refl)
 
 part-answer-area-end : tie.Need-part-answer-area-end

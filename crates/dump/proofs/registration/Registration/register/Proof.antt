@@ -11,7 +11,8 @@ use Rattle.dump.proofs.registration.Registration.register.Tie as tie
 
 returns : tie.Need-returns
 unfolding verdictOf registrationAfter
-returns c = kept-is _ _ _ (c .kept3 .ensures) ∙ rw (c .before .before .before .enum-told3 .given .1, ← c .before .before .is-acceptable .ensures, not-true (c .before .before .is-acceptable .result) (c .before .if1 .taken))
+returns c = kept-is _ _ _ (c .kept3 .ensures)
+    ∙ rw (c .before .before .before .enum-told3 .given .1, ← c .before .before .is-acceptable .ensures, not-true (c .before .before .is-acceptable .result) (c .before .if1 .taken))
 
 good : (c : tie.Else1) → acceptable (now (c .before .before .before .before .before .args .memory)) (c .before .before .before .before .before .args .address) (c .before .before .before .before .before .args .len) ≡ true
 good c = sym (c .before .is-acceptable .ensures) ∙ not-false _ (c .if1 .left)
