@@ -5,8 +5,8 @@ ghost use lib.ListN.{length};
 ghost use lib.Seq.{slice};
 ghost use Rattle.words.specs.Nul.{untilNul};
 
-// The place of the first NUL from one place up to another, or the end.
-pub fn find_nul(s: &[u8], from: usize, to: usize) -> usize
+// The place of the first NUL from one place up to another, or the end: byte by byte, for the few that are left behind the fours.
+fn find_near(s: &[u8], from: usize, to: usize) -> usize
     requires { ⌜ (from ≤ to) × (to ≤ length (now s)) ⌝ }
     ensures { λ r. ⌜ r ≡ from + length (untilNul (slice from to (now (s .entry)))) ⌝ }
 {
@@ -19,6 +19,33 @@ pub fn find_nul(s: &[u8], from: usize, to: usize) -> usize
             break i;
         }
         i += 1;
+    };
+    end
+}
+
+// The place of the first NUL from one place up to another, or the end. A turn tests four bytes.
+pub fn find_nul(s: &[u8], from: usize, to: usize) -> usize
+    requires { ⌜ (from ≤ to) × (to ≤ length (now s)) ⌝ }
+    ensures { λ r. ⌜ r ≡ from + length (untilNul (slice from to (now (s .entry)))) ⌝ }
+{
+    let mut i = from;
+    let end = loop {
+        if to - i < 4 {
+            break find_near(s, i, to);
+        }
+        if s[i] == 0 {
+            break i;
+        }
+        if s[i + 1] == 0 {
+            break i + 1;
+        }
+        if s[i + 2] == 0 {
+            break i + 2;
+        }
+        if s[i + 3] == 0 {
+            break i + 3;
+        }
+        i += 4;
     };
     end
 }

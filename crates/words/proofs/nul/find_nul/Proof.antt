@@ -1,26 +1,57 @@
 -- `nul::find_nul` meets its contract.
-use mathlib.Core.Path.{_≡_, refl, sym, _∙_}
-use Prim.Native.Nat.{_+_, _-_, _≤_}
-use lib.ListN.{length}
-use lib.Seq.{slice}
+use mathlib.Core.Path.{refl, _∙_, sym}
+use Prim.Native.Nat.{_+_, _-_}
+use native.Mathlib.Omega.{arith}
 use borrow.Author.Needs.{needs}
 use denote.Ref.{now}
-use Rattle.words.proofs.Ends.{nul-later, nul-here, nul-none}
-use Rattle.words.specs.Nul.{untilNul}
+use Rattle.words.proofs.Ends.{Reached, nul-later, nul-here}
 use Rattle.words.proofs.nul.find_nul.Statement.{statement}
 use Rattle.words.proofs.nul.find_nul.Tie as tie
 
 abbrev Inv-loop : tie.InvT-loop
-Inv-loop s from to i₀ i = (i ≤ to) × (from + length (untilNul (slice from to s)) ≡ i + length (untilNul (slice i to s)))
+Inv-loop s from to i₀ i = Reached s from to i
 
 abbrev μ-loop : tie.MeasureT-loop
 μ-loop s from to i₀ i = to - i
 
 loop-holds : tie.Need-loop-holds Inv-loop μ-loop
-loop-holds c = (search needs, refl)
+loop-holds c = record { within = search needs; fits = search needs; same = refl }
+
+sub-if1 : tie.Need-sub-if1 Inv-loop μ-loop
+sub-if1 c = search needs
+
+find-near-requires : tie.Need-find-near-requires Inv-loop μ-loop
+find-near-requires c κs = search needs
 
 shared-slice-read-if2 : tie.Need-shared-slice-read-if2 Inv-loop μ-loop
 shared-slice-read-if2 c = search needs
+
+add-if3 : tie.Need-add-if3 Inv-loop μ-loop
+add-if3 c = search needs
+
+shared-slice-read-if3 : tie.Need-shared-slice-read-if3 Inv-loop μ-loop
+shared-slice-read-if3 c = search needs
+
+add-end : tie.Need-add-end Inv-loop μ-loop
+add-end c = search needs
+
+add-if4 : tie.Need-add-if4 Inv-loop μ-loop
+add-if4 c = search needs
+
+shared-slice-read-if4 : tie.Need-shared-slice-read-if4 Inv-loop μ-loop
+shared-slice-read-if4 c = search needs
+
+add-end-2 : tie.Need-add-end-2 Inv-loop μ-loop
+add-end-2 c = search needs
+
+add-if5 : tie.Need-add-if5 Inv-loop μ-loop
+add-if5 c = search needs
+
+shared-slice-read-if5 : tie.Need-shared-slice-read-if5 Inv-loop μ-loop
+shared-slice-read-if5 c = search needs
+
+add-end-3 : tie.Need-add-end-3 Inv-loop μ-loop
+add-end-3 c = search needs
 
 add-i : tie.Need-add-i Inv-loop μ-loop
 add-i c = search needs
@@ -28,14 +59,32 @@ add-i c = search needs
 loop-less : tie.Need-loop-less Inv-loop μ-loop
 loop-less c = search needs
 
+past-1 : (c : tie.Else2 Inv-loop μ-loop) → Reached (now (c .before .before .before .before .before .args .s)) (c .before .before .before .before .before .args .from) (c .before .before .before .before .before .args .to) (c .before .before .before .loop .i + 1)
+past-1 c = nul-later (c .before .before .before .loop .inv) _ refl (search needs) (c .if2 .left)
+
+past-2 : (c : tie.Else3 Inv-loop μ-loop) → Reached (now (c .before .before .before .before .before .before .before .args .s)) (c .before .before .before .before .before .before .before .args .from) (c .before .before .before .before .before .before .before .args .to) (c .before .before .before .before .before .loop .i + 2)
+past-2 c = nul-later (past-1 (c .before .before)) _ (omega arith) (search needs) (c .if3 .left)
+
+past-3 : (c : tie.Else4 Inv-loop μ-loop) → Reached (now (c .before .before .before .before .before .before .before .before .before .args .s)) (c .before .before .before .before .before .before .before .before .before .args .from) (c .before .before .before .before .before .before .before .before .before .args .to) (c .before .before .before .before .before .before .before .loop .i + 3)
+past-3 c = nul-later (past-2 (c .before .before)) _ (omega arith) (search needs) (c .if4 .left)
+
 loop-again : tie.Need-loop-again Inv-loop μ-loop
-loop-again c = (search needs, c .before .before .before .loop .inv .1 ∙ nul-later (now (c .before .before .before .before .args .s)) (c .before .before .before .loop .i) (c .before .before .before .before .args .to) (search needs) (search needs) (c .if2 .left))
+loop-again c = nul-later (past-3 (c .before .before)) _ (omega arith) (search needs) (c .if5 .left)
 
 returns : tie.Need-returns Inv-loop μ-loop
-returns c = sym (c .before .loop .inv .1 ∙ nul-none (now (c .before .before .args .s)) (c .before .loop .i) (c .before .before .args .to) (search needs))
+returns c = c .find-near .ensures ∙ sym (c .before .before .loop .inv .same)
 
 returns-2 : tie.Need-returns-2 Inv-loop μ-loop
-returns-2 c = sym (c .before .before .before .loop .inv .1 ∙ nul-here (now (c .before .before .before .before .args .s)) (c .before .before .before .loop .i) (c .before .before .before .before .args .to) (search needs) (search needs) (c .if2 .taken))
+returns-2 c = nul-here (c .before .before .before .loop .inv) (search needs) (c .if2 .taken)
+
+returns-3 : tie.Need-returns-3 Inv-loop μ-loop
+returns-3 c = nul-here (past-1 (c .before .before)) (search needs) (c .if3 .taken)
+
+returns-4 : tie.Need-returns-4 Inv-loop μ-loop
+returns-4 c = nul-here (past-2 (c .before .before)) (search needs) (c .if4 .taken)
+
+returns-5 : tie.Need-returns-5 Inv-loop μ-loop
+returns-5 c = nul-here (past-3 (c .before .before)) (search needs) (c .if5 .taken)
 
 pub find-nul-spec : {M : Type 1} → statement M
 find-nul-spec =
@@ -44,9 +93,23 @@ find-nul-spec =
     Inv-loop
     μ-loop
     loop-holds
+    sub-if1
+    find-near-requires
     shared-slice-read-if2
+    add-if3
+    shared-slice-read-if3
+    add-end
+    add-if4
+    shared-slice-read-if4
+    add-end-2
+    add-if5
+    shared-slice-read-if5
+    add-end-3
     add-i
     loop-less
     loop-again
     returns
-    returns-2)
+    returns-2
+    returns-3
+    returns-4
+    returns-5)
