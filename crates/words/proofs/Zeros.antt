@@ -1,26 +1,33 @@
 -- The test of a range for zero, one byte after the other.
-use mathlib.Core.Path.{_≡_, ap, _∙_}
+use mathlib.Core.Path.{_≡_, sym, ap, _∙_}
 use mathlib.Core.Bool.{true, false, _&&_}
 use mathlib.Core.List.{List}
 use Prim.Native.Nat.{ℕ, suc, _+_, _<_, _≤_}
 use native.Mathlib.Numerals.{add-one}
+use native.Mathlib.Omega.{arith}
 use lib.Dec.{eqb}
 use lib.ListN.{length, getD}
 use lib.Seq.{slice, slice-cons, slice-empty}
 use borrow.Author.Tests.{eq-eqb, ne-eqb}
 use Rattle.words.specs.Numbers.{zeros}
 
-module _ (s : List ℕ) (i to : ℕ) where
-  zeros-step : i < to → to ≤ length s → zeros (slice i to s) ≡ (eqb (getD s i 0) 0 && zeros (slice (suc i) to s))
+-- A test that has come to a place finds there what it finds from its start.
+pub record Blank (s : List ℕ) (from to i : ℕ) : Type 0 where
+  pub within : i ≤ to
+  pub fits : to ≤ length s
+  pub same : zeros (slice from to s) ≡ zeros (slice i to s)
+
+module _ {s : List ℕ} {from to i : ℕ} (b : Blank s from to i) where
+  zeros-step : i < to → zeros (slice from to s) ≡ (eqb (getD s i 0) 0 && zeros (slice (suc i) to s))
   unfolding zeros
-  zeros-step h l = ap zeros (slice-cons i to s 0 h l)
+  zeros-step h = b .same ∙ ap zeros (slice-cons i to s 0 h (b .fits))
 
-  pub zeros-next : i < to → to ≤ length s → getD s i 0 ≡ 0 → zeros (slice i to s) ≡ zeros (slice (i + 1) to s)
-  zeros-next h l e = zeros-step h l ∙ rw (eq-eqb (getD s i 0) 0 e, add-one i)
+  pub zeros-next : (j : ℕ) → j ≡ i + 1 → i < to → getD s i 0 ≡ 0 → Blank s from to j
+  zeros-next j next h e = record { within = omega arith; fits = b .fits; same = zeros-step h ∙ rw (eq-eqb (getD s i 0) 0 e, next, add-one i) }
 
-  pub zeros-not : i < to → to ≤ length s → (getD s i 0 ≡ 0 → ⊥) → zeros (slice i to s) ≡ false
-  zeros-not h l e = zeros-step h l ∙ rw (ne-eqb (getD s i 0) 0 e)
+  pub zeros-not : i < to → (getD s i 0 ≡ 0 → ⊥) → false ≡ zeros (slice from to s)
+  zeros-not h e = sym (zeros-step h ∙ rw (ne-eqb (getD s i 0) 0 e))
 
-  pub zeros-end : i ≡ to → zeros (slice i to s) ≡ true
+  pub zeros-end : to ≤ i → true ≡ zeros (slice from to s)
   unfolding zeros
-  zeros-end e = rw (e, slice-empty to s)
+  zeros-end h = let e : i ≡ to = omega arith in sym (b .same ∙ rw (e, slice-empty to s))

@@ -5,7 +5,7 @@ ghost use lib.ListN.{length};
 ghost use lib.Seq.{slice};
 ghost use Rattle.words.specs.Nul.{untilNul};
 
-// The place of the first NUL from one place up to another, or the end: byte by byte, for the few that are left behind the fours.
+// The place of the first NUL from one place up to another, or the end: byte by byte, for the few that are left.
 fn find_near(s: &[u8], from: usize, to: usize) -> usize
     requires { ⌜ (from ≤ to) × (to ≤ length (now s)) ⌝ }
     ensures { λ r. ⌜ r ≡ from + length (untilNul (slice from to (now (s .entry)))) ⌝ }
@@ -23,14 +23,14 @@ fn find_near(s: &[u8], from: usize, to: usize) -> usize
     end
 }
 
-// The place of the first NUL from one place up to another, or the end. A turn tests four bytes.
+// The place of the first NUL from one place up to another, or the end. A turn tests six bytes: of those tried the quickest.
 pub fn find_nul(s: &[u8], from: usize, to: usize) -> usize
     requires { ⌜ (from ≤ to) × (to ≤ length (now s)) ⌝ }
     ensures { λ r. ⌜ r ≡ from + length (untilNul (slice from to (now (s .entry)))) ⌝ }
 {
     let mut i = from;
     let end = loop {
-        if to - i < 4 {
+        if to - i < 6 {
             break find_near(s, i, to);
         }
         if s[i] == 0 {
@@ -45,7 +45,13 @@ pub fn find_nul(s: &[u8], from: usize, to: usize) -> usize
         if s[i + 3] == 0 {
             break i + 3;
         }
-        i += 4;
+        if s[i + 4] == 0 {
+            break i + 4;
+        }
+        if s[i + 5] == 0 {
+            break i + 5;
+        }
+        i += 6;
     };
     end
 }

@@ -53,12 +53,31 @@ shared-slice-read-if5 c = search needs
 add-end-3 : tie.Need-add-end-3 Inv-loop μ-loop
 add-end-3 c = search needs
 
+add-if6 : tie.Need-add-if6 Inv-loop μ-loop
+add-if6 c = search needs
+
+shared-slice-read-if6 : tie.Need-shared-slice-read-if6 Inv-loop μ-loop
+shared-slice-read-if6 c = search needs
+
+add-end-4 : tie.Need-add-end-4 Inv-loop μ-loop
+add-end-4 c = search needs
+
+add-if7 : tie.Need-add-if7 Inv-loop μ-loop
+add-if7 c = search needs
+
+shared-slice-read-if7 : tie.Need-shared-slice-read-if7 Inv-loop μ-loop
+shared-slice-read-if7 c = search needs
+
+add-end-5 : tie.Need-add-end-5 Inv-loop μ-loop
+add-end-5 c = search needs
+
 add-i : tie.Need-add-i Inv-loop μ-loop
 add-i c = search needs
 
 loop-less : tie.Need-loop-less Inv-loop μ-loop
 loop-less c = search needs
 
+-- so many bytes are passed
 past-1 : (c : tie.Else2 Inv-loop μ-loop) → Reached (now (c .before .before .before .before .before .args .s)) (c .before .before .before .before .before .args .from) (c .before .before .before .before .before .args .to) (c .before .before .before .loop .i + 1)
 past-1 c = nul-later (c .before .before .before .loop .inv) _ refl (search needs) (c .if2 .left)
 
@@ -68,8 +87,14 @@ past-2 c = nul-later (past-1 (c .before .before)) _ (omega arith) (search needs)
 past-3 : (c : tie.Else4 Inv-loop μ-loop) → Reached (now (c .before .before .before .before .before .before .before .before .before .args .s)) (c .before .before .before .before .before .before .before .before .before .args .from) (c .before .before .before .before .before .before .before .before .before .args .to) (c .before .before .before .before .before .before .before .loop .i + 3)
 past-3 c = nul-later (past-2 (c .before .before)) _ (omega arith) (search needs) (c .if4 .left)
 
+past-4 : (c : tie.Else5 Inv-loop μ-loop) → Reached (now (c .before .before .before .before .before .before .before .before .before .before .before .args .s)) (c .before .before .before .before .before .before .before .before .before .before .before .args .from) (c .before .before .before .before .before .before .before .before .before .before .before .args .to) (c .before .before .before .before .before .before .before .before .before .loop .i + 4)
+past-4 c = nul-later (past-3 (c .before .before)) _ (omega arith) (search needs) (c .if5 .left)
+
+past-5 : (c : tie.Else6 Inv-loop μ-loop) → Reached (now (c .before .before .before .before .before .before .before .before .before .before .before .before .before .args .s)) (c .before .before .before .before .before .before .before .before .before .before .before .before .before .args .from) (c .before .before .before .before .before .before .before .before .before .before .before .before .before .args .to) (c .before .before .before .before .before .before .before .before .before .before .before .loop .i + 5)
+past-5 c = nul-later (past-4 (c .before .before)) _ (omega arith) (search needs) (c .if6 .left)
+
 loop-again : tie.Need-loop-again Inv-loop μ-loop
-loop-again c = nul-later (past-3 (c .before .before)) _ (omega arith) (search needs) (c .if5 .left)
+loop-again c = nul-later (past-5 (c .before .before)) _ (omega arith) (search needs) (c .if7 .left)
 
 returns : tie.Need-returns Inv-loop μ-loop
 returns c = c .find-near .ensures ∙ sym (c .before .before .loop .inv .same)
@@ -85,6 +110,12 @@ returns-4 c = nul-here (past-2 (c .before .before)) (search needs) (c .if4 .take
 
 returns-5 : tie.Need-returns-5 Inv-loop μ-loop
 returns-5 c = nul-here (past-3 (c .before .before)) (search needs) (c .if5 .taken)
+
+returns-6 : tie.Need-returns-6 Inv-loop μ-loop
+returns-6 c = nul-here (past-4 (c .before .before)) (search needs) (c .if6 .taken)
+
+returns-7 : tie.Need-returns-7 Inv-loop μ-loop
+returns-7 c = nul-here (past-5 (c .before .before)) (search needs) (c .if7 .taken)
 
 pub find-nul-spec : {M : Type 1} → statement M
 find-nul-spec =
@@ -105,6 +136,12 @@ find-nul-spec =
     add-if5
     shared-slice-read-if5
     add-end-3
+    add-if6
+    shared-slice-read-if6
+    add-end-4
+    add-if7
+    shared-slice-read-if7
+    add-end-5
     add-i
     loop-less
     loop-again
@@ -112,4 +149,6 @@ find-nul-spec =
     returns-2
     returns-3
     returns-4
-    returns-5)
+    returns-5
+    returns-6
+    returns-7)
