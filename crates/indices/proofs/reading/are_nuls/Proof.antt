@@ -24,53 +24,23 @@ three c = zeros-next (two (c .before .before .before)) _ (omega arith) (search n
 four : (c : tie.Else7) → Blank (now (c .before .before .before .before .before .before .before .before .before .before .before .args .s)) (c .before .before .before .before .before .before .before .before .before .before .before .args .from) (c .before .before .before .before .before .before .before .before .before .before .before .args .to) (c .before .before .before .before .before .before .before .before .before .before .before .args .from + 4)
 four c = zeros-next (three (c .before .before .before)) _ (omega arith) (search needs) (c .if7 .left)
 
-shared-slice-read-if1 : tie.Need-shared-slice-read-if1
-shared-slice-read-if1 c = search needs
-
 returns : tie.Need-returns
 returns c = zeros-not (none (c .before)) (search needs) (c .if1 .taken)
-
-add-if2 : tie.Need-add-if2
-add-if2 c = search needs
 
 returns-2 : tie.Need-returns-2
 returns-2 c = zeros-end (one (c .before)) (c .if2 .taken)
 
-add-if3 : tie.Need-add-if3
-add-if3 c = search needs
-
-shared-slice-read-if3 : tie.Need-shared-slice-read-if3
-shared-slice-read-if3 c = search needs
-
 returns-3 : tie.Need-returns-3
 returns-3 c = zeros-not (one (c .before .before .before)) (search needs) (c .if3 .taken)
-
-add-if4 : tie.Need-add-if4
-add-if4 c = search needs
 
 returns-4 : tie.Need-returns-4
 returns-4 c = zeros-end (two (c .before)) (c .if4 .taken)
 
-add-if5 : tie.Need-add-if5
-add-if5 c = search needs
-
-shared-slice-read-if5 : tie.Need-shared-slice-read-if5
-shared-slice-read-if5 c = search needs
-
 returns-5 : tie.Need-returns-5
 returns-5 c = zeros-not (two (c .before .before .before)) (search needs) (c .if5 .taken)
 
-add-if6 : tie.Need-add-if6
-add-if6 c = search needs
-
 returns-6 : tie.Need-returns-6
 returns-6 c = zeros-end (three (c .before)) (c .if6 .taken)
-
-add-if7 : tie.Need-add-if7
-add-if7 c = search needs
-
-shared-slice-read-if7 : tie.Need-shared-slice-read-if7
-shared-slice-read-if7 c = search needs
 
 returns-7 : tie.Need-returns-7
 returns-7 c = zeros-not (three (c .before .before .before)) (search needs) (c .if7 .taken)
@@ -82,21 +52,21 @@ pub are-nuls-spec : {M : Type 1} → statement M
 are-nuls-spec =
     tie.close
     (tie.spec
-    shared-slice-read-if1
+    (λ c. search needs)
     returns
-    add-if2
+    (λ c. search needs)
     returns-2
-    add-if3
-    shared-slice-read-if3
+    (λ c. search needs)
+    (λ c. search needs)
     returns-3
-    add-if4
+    (λ c. search needs)
     returns-4
-    add-if5
-    shared-slice-read-if5
+    (λ c. search needs)
+    (λ c. search needs)
     returns-5
-    add-if6
+    (λ c. search needs)
     returns-6
-    add-if7
-    shared-slice-read-if7
+    (λ c. search needs)
+    (λ c. search needs)
     returns-7
     returns-8)

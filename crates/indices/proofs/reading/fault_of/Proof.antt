@@ -27,34 +27,13 @@ known c = (le-ltb _ 8 (c .before .before .before .pre .0), sym (length-told (c .
 inside : (c : tie.Else2) → ltb (length (now (c .before .before .before .before .args .area)) - c .before .before .before .before .args .at) (8 + lengthAt (now (c .before .before .before .before .args .area)) (c .before .before .before .before .args .at)) ≡ false
 inside c = rw (← c .before .before .before .before .pre .1) (le-ltb _ _ (c .if2 .left))
 
-is-length-requires : tie.Need-is-length-requires
-is-length-requires c κs = search needs
-
 returns : tie.Need-returns
 unfolding faultAt
 returns c = rw (le-ltb _ 8 (c .before .before .before .pre .0), ← length-told (c .before), c .if1 .taken)
 
-sub-if2 : tie.Need-sub-if2
-sub-if2 c = search needs
-
-add-if2 : tie.Need-add-if2
-add-if2 c = search needs
-
 returns-2 : tie.Need-returns-2
 unfolding faultAt
 returns-2 c = rw (known (c .before) .0, known (c .before) .1, ← c .before .before .before .before .pre .1, lt-ltb _ _ (c .if2 .taken))
-
-add-is-field : tie.Need-add-is-field
-add-is-field c = search needs
-
-add-is-field-2 : tie.Need-add-is-field-2
-add-is-field-2 c = search needs
-
-add-is-field-3 : tie.Need-add-is-field-3
-add-is-field-3 c = search needs
-
-is-field-requires : tie.Need-is-field-requires
-is-field-requires c κs = search needs
 
 returns-3 : tie.Need-returns-3
 unfolding faultAt
@@ -68,14 +47,14 @@ pub fault-of-spec : {M : Type 1} → statement M
 fault-of-spec =
     tie.close
     (tie.spec
-    is-length-requires
+    (λ c κs. search needs)
     returns
-    sub-if2
-    add-if2
+    (λ c. search needs)
+    (λ c. search needs)
     returns-2
-    add-is-field
-    add-is-field-2
-    add-is-field-3
-    is-field-requires
+    (λ c. search needs)
+    (λ c. search needs)
+    (λ c. search needs)
+    (λ c κs. search needs)
     returns-3
     returns-4)

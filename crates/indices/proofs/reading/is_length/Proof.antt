@@ -18,12 +18,6 @@ beyond n h true true l m = absurd (omega (arith, leb-true n 80 l, eqb-true (n % 
 beyond n h true false l m = refl
 beyond n h false b l m = refl
 
-mul-turned : tie.Need-mul-turned
-mul-turned c = search needs
-
-add-turned : tie.Need-add-turned
-add-turned c = search needs
-
 returns : tie.Need-returns
 unfolding goodLength
 returns c = rw (lt-leb 1 (c .before .args .n) (omega arith))
@@ -37,4 +31,4 @@ unfolding goodLength codeLimit
 returns-3 c = rw (le-leb 1 (c .before .before .args .n) (omega arith), le-leb (c .before .before .args .n) fieldLimit (omega arith), eq-eqb (c .before .before .args .n % 4) 0 (omega arith))
 
 pub is-length-spec : {M : Type 1} → statement M
-is-length-spec = tie.close (tie.spec mul-turned add-turned returns returns-2 returns-3)
+is-length-spec = tie.close (tie.spec (λ c. search needs) (λ c. search needs) returns returns-2 returns-3)

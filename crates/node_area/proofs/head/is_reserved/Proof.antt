@@ -4,12 +4,9 @@ use Rattle.node_area.specs.Head.{isReserved}
 use Rattle.node_area.proofs.head.is_reserved.Statement.{statement}
 use Rattle.node_area.proofs.head.is_reserved.Tie as tie
 
-is-zero-requires : tie.Need-is-zero-requires
-is-zero-requires c κs = search needs
-
 returns : tie.Need-returns
 unfolding isReserved
 returns c = c .is-zero .ensures
 
 pub is-reserved-spec : {M : Type 1} → statement M
-is-reserved-spec = tie.close (tie.spec is-zero-requires returns)
+is-reserved-spec = tie.close (tie.spec (λ c κs. search needs) returns)

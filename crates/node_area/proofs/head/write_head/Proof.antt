@@ -7,21 +7,6 @@ use Rattle.words.proofs.Stores.{store-next}
 use Rattle.node_area.proofs.head.write_head.Statement.{statement}
 use Rattle.node_area.proofs.head.write_head.Tie as tie
 
-store-requires : tie.Need-store-requires
-store-requires c κs = search needs
-
-store-be32-requires : tie.Need-store-be32-requires
-store-be32-requires c κs = search needs
-
-store-be32-requires-2 : tie.Need-store-be32-requires-2
-store-be32-requires-2 c κs = search needs
-
-store-be32-requires-3 : tie.Need-store-be32-requires-3
-store-be32-requires-3 c κs = search needs
-
-same-length : tie.Need-same-length
-same-length c = search needs
-
 returns : tie.Need-returns
 returns c =
     let a = c .before .before .before .before .before .before .before .before .before .before .before .before .before .before .before .before .before .args in
@@ -40,9 +25,9 @@ pub write-head-spec : {M : Type 1} → statement M
 write-head-spec =
     tie.close
     (tie.spec
-    store-requires
-    store-be32-requires
-    store-be32-requires-2
-    store-be32-requires-3
-    same-length
+    (λ c κs. search needs)
+    (λ c κs. search needs)
+    (λ c κs. search needs)
+    (λ c κs. search needs)
+    (λ c. search needs)
     returns)

@@ -12,15 +12,9 @@ returns : tie.Need-returns
 unfolding reading
 returns c = (rw (ne-eqb _ areaSize (c .if1 .taken)), reading-cases)
 
-is-reserved-requires : tie.Need-is-reserved-requires
-is-reserved-requires c κs = search needs
-
 returns-2 : tie.Need-returns-2
 unfolding reading
 returns-2 c = (rw (eq-eqb _ areaSize (c .before .before .if1 .left), ← c .before .is-reserved .ensures, c .if2 .taken), reading-cases)
-
-check-operators-requires : tie.Need-check-operators-requires
-check-operators-requires c κs = search needs
 
 returns-3 : tie.Need-returns-3
 unfolding reading
@@ -28,4 +22,4 @@ returns-3 c = (rw (eq-eqb _ areaSize (c .before .before .before .if1 .left), ←
 
 pub check-area-spec : {M : Type 1} → statement M
 check-area-spec =
-    tie.close (tie.spec returns is-reserved-requires returns-2 check-operators-requires returns-3)
+    tie.close (tie.spec returns (λ c κs. search needs) returns-2 (λ c κs. search needs) returns-3)

@@ -34,12 +34,6 @@ add-behind c = omega arith
 sub-fault-of : tie.Need-sub-fault-of Inv-loop μ-loop
 sub-fault-of c = omega (arith, c .before .before .before .loop .inv .place)
 
-fault-of-requires : tie.Need-fault-of-requires Inv-loop μ-loop
-fault-of-requires c κs = search needs
-
-enum-known-found : tie.Need-enum-known-found Inv-loop μ-loop
-enum-known-found c = search needs
-
 returns-2 : tie.Need-returns-2 Inv-loop μ-loop
 returns-2 c =
     let s = c .before .before .before .before .before .before .before .before .before in
@@ -48,12 +42,6 @@ returns-2 c =
     let word = c .before .before .before .before .before .read-be32 .ensures in
     let some = c .before .before .before .before .if1 .left in
     stands-bad (now (s .args .area)) (l .at) (l .last) (l .entries) (l .inv) _ (s .pre) more word _ some (sym (c .before .before .before .fault-of .ensures) ∙ c .before .found .given .1)
-
-enum-told : tie.Need-enum-told Inv-loop μ-loop
-enum-told c = search needs
-
-operations-in-requires : tie.Need-operations-in-requires Inv-loop μ-loop
-operations-in-requires c κs = search needs
 
 -- past an operator and its operands
 turn : (c : tie.After-operations-in Inv-loop μ-loop)
@@ -71,9 +59,6 @@ turn c =
 
 add-entries : tie.Need-add-entries Inv-loop μ-loop
 add-entries c = omega (arith, turn c)
-
-last-after-requires : tie.Need-last-after-requires Inv-loop μ-loop
-last-after-requires c κs = search needs
 
 cast-at : tie.Need-cast-at Inv-loop μ-loop
 cast-at c = omega arith
@@ -106,13 +91,13 @@ check-operators-spec =
     returns
     add-behind
     sub-fault-of
-    fault-of-requires
-    enum-known-found
+    (λ c κs. search needs)
+    (λ c. search needs)
     returns-2
-    enum-told
-    operations-in-requires
+    (λ c. search needs)
+    (λ c κs. search needs)
     add-entries
-    last-after-requires
+    (λ c κs. search needs)
     cast-at
     mul-at
     add-at

@@ -21,9 +21,6 @@ returns-3 : tie.Need-returns-3
 unfolding faultOf
 returns-3 c = rw (ne-eqb _ 0 (c .before .before .if1 .left), le-leb 1 _ (c .before .if2 .left), lt-leb _ 3 (c .if3 .taken))
 
-is-odd-addition-requires : tie.Need-is-odd-addition-requires
-is-odd-addition-requires c κs = search needs
-
 -- the opcode is one of the three, and there are operands
 known : (c : tie.Else3)
     → let word = c .before .before .before .args .word in
@@ -41,9 +38,6 @@ returns-5 : tie.Need-returns-5
 unfolding faultOf
 returns-5 c = rw (known (c .before .before .before) .0, known (c .before .before .before) .1, even (c .before), lt-ltb _ _ (c .if5 .taken))
 
-cast-if6 : tie.Need-cast-if6
-cast-if6 c = search needs
-
 returns-6 : tie.Need-returns-6
 unfolding faultOf
 returns-6 c = rw (known (c .before .before .before .before) .0, known (c .before .before .before .before) .1, even (c .before .before), le-ltb _ _ (c .before .if5 .left), lt-ltb _ _ (c .if6 .taken))
@@ -59,9 +53,9 @@ fault-of-spec =
     returns
     returns-2
     returns-3
-    is-odd-addition-requires
+    (λ c κs. search needs)
     returns-4
     returns-5
-    cast-if6
+    (λ c. search needs)
     returns-6
     returns-7)

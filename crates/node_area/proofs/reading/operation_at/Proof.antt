@@ -8,9 +8,6 @@ use Rattle.node_area.proofs.Steps.{room, no-room, ends-out, ends-half, 
 use Rattle.node_area.proofs.reading.operation_at.Statement.{statement}
 use Rattle.node_area.proofs.reading.operation_at.Tie as tie
 
-has-word-requires : tie.Need-has-word-requires
-has-word-requires c κs = search needs
-
 returns : tie.Need-returns
 returns c =
     let a = c .before .before .before .args in
@@ -25,9 +22,6 @@ read-be32-requires c κs = fits c
 
 add-behind : tie.Need-add-behind
 add-behind c = omega (arith, fits (c .before))
-
-has-word-requires-2 : tie.Need-has-word-requires-2
-has-word-requires-2 c κs = search needs
 
 returns-2 : tie.Need-returns-2
 returns-2 c =
@@ -46,24 +40,12 @@ read-be32-requires-2 c κs = fits-two c
 add-t13 : tie.Need-add-t13
 add-t13 c = omega (arith, fits-two (c .before))
 
-sub-saturating-sub : tie.Need-sub-saturating-sub
-sub-saturating-sub c = search needs
-
-saturating-sub-requires : tie.Need-saturating-sub-requires
-saturating-sub-requires c κs = search needs
-
 returns-3 : tie.Need-returns-3
 returns-3 c =
     let s = c .before .before .before .before .before .before .before .before .before in
     let a = s .args in
     rw (c .saturating-sub .ensures, c .before .read-be322 .ensures, c .before .before .before .before .before .read-be32 .ensures)
     (gives-pair (now (a .area)) (a .at) (a .code) (a .left) (fits (c .before .before .before .before .before .before)) (s .pre) (c .before .before .before .before .if2 .taken) (fits-two (c .before .before)))
-
-single-of-requires : tie.Need-single-of-requires
-single-of-requires c κs = search needs
-
-sub-t18 : tie.Need-sub-t18
-sub-t18 c = search needs
 
 returns-4 : tie.Need-returns-4
 returns-4 c =
@@ -76,17 +58,17 @@ pub operation-at-spec : {M : Type 1} → statement M
 operation-at-spec =
     tie.close
     (tie.spec
-    has-word-requires
+    (λ c κs. search needs)
     returns
     read-be32-requires
     add-behind
-    has-word-requires-2
+    (λ c κs. search needs)
     returns-2
     read-be32-requires-2
     add-t13
-    sub-saturating-sub
-    saturating-sub-requires
+    (λ c. search needs)
+    (λ c κs. search needs)
     returns-3
-    single-of-requires
-    sub-t18
+    (λ c κs. search needs)
+    (λ c. search needs)
     returns-4)

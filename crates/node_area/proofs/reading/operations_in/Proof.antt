@@ -4,9 +4,6 @@ use borrow.Author.Tests.{eq-eqb, ne-eqb}
 use Rattle.node_area.proofs.reading.operations_in.Statement.{statement}
 use Rattle.node_area.proofs.reading.operations_in.Tie as tie
 
-cast-count : tie.Need-cast-count
-cast-count c = search needs
-
 returns : tie.Need-returns
 returns c = rw (eq-eqb _ _ (c .if1 .taken))
 
@@ -14,4 +11,4 @@ returns-2 : tie.Need-returns-2
 returns-2 c = rw (ne-eqb _ _ (c .if1 .left))
 
 pub operations-in-spec : {M : Type 1} → statement M
-operations-in-spec = tie.close (tie.spec cast-count returns returns-2)
+operations-in-spec = tie.close (tie.spec (λ c. search needs) returns returns-2)

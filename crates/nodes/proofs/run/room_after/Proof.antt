@@ -8,14 +8,8 @@ use Rattle.nodes.proofs.run.room_after.Tie as tie
 returns : tie.Need-returns
 returns c = omega (arith, operator-zero _ (c .if1 .taken))
 
-saturating-sub-requires : tie.Need-saturating-sub-requires
-saturating-sub-requires c κs = search needs
-
-saturating-sub-requires-2 : tie.Need-saturating-sub-requires-2
-saturating-sub-requires-2 c κs = search needs
-
 returns-2 : tie.Need-returns-2
 returns-2 c = omega (arith, operator-pos (c .before .before .before .args .n) (omega arith))
 
 pub room-after-spec : {M : Type 1} → statement M
-room-after-spec = tie.close (tie.spec returns saturating-sub-requires saturating-sub-requires-2 returns-2)
+room-after-spec = tie.close (tie.spec returns (λ c κs. search needs) (λ c κs. search needs) returns-2)

@@ -16,25 +16,16 @@ first-operand-requires c κs = first-inside (c .before .before .before .args .co
 store-be32-requires : tie.Need-store-be32-requires
 store-be32-requires c κs = omega (arith, c .before .before .before .before .pre, width-some (c .before .before .before .before .args .code))
 
-add-store-be32 : tie.Need-add-store-be32
-add-store-be32 c = search needs
-
 second-operand-requires : tie.Need-second-operand-requires
 second-operand-requires c κs = second-inside (c .before .before .before .before .before .before .before .before .before .args .code) (c .before .before .before .before .before .before .before .before .before .args .at) _ (c .before .if1 .taken) (c .before .before .before .before .before .before .before .before .before .pre .1)
 
 store-be32-requires-2 : tie.Need-store-be32-requires-2
 store-be32-requires-2 c κs = omega (arith, c .before .before .before .before .before .before .before .before .before .before .pre, width-three (c .before .before .before .before .before .before .before .before .before .before .args .code) (c .before .before .if1 .taken), c .before .before .before .before .before .store-be32 .kept .0)
 
-same-length : tie.Need-same-length
-same-length c = search needs
-
 returns : tie.Need-returns
 returns c = store-next (now (c .before .before .before .before .before .before .before .before .before .before .before .before .before .args .area)) (c .before .before .before .before .before .before .before .before .store-be32 .last .0) (c .before .before .before .before .before .before .before .before .before .before .before .before .before .args .to) (c .before .before .before .second-operand .result) (c .before .before .store-be322 .last .0) _ (c .before .before .before .before .before .before .before .before .before .first-operand .result ∷ [])
     (store-first (now (c .before .before .before .before .before .before .before .before .before .before .before .before .before .args .area)) (c .before .before .before .before .before .before .before .before .store-be32 .last .0) (c .before .before .before .before .before .before .before .before .before .before .before .before .before .args .to) (c .before .before .before .before .before .before .before .before .before .first-operand .result) (c .before .before .before .before .before .before .before .before .store-be32 .ensures)) (c .before .before .store-be322 .ensures) refl
     ∙ rw (operands-three (now (c .before .before .before .before .before .before .before .before .before .before .before .before .before .args .j)) (c .before .before .before .before .before .before .before .before .before .before .before .before .before .args .code) (c .before .before .before .before .before .before .before .before .before .before .before .before .before .args .at) (c .before .before .before .before .before .if1 .taken), c .before .before .before .before .before .before .before .before .before .first-operand .ensures, c .before .before .before .second-operand .ensures)
-
-same-length-2 : tie.Need-same-length-2
-same-length-2 c = search needs
 
 returns-2 : tie.Need-returns-2
 returns-2 c = store-first (now (c .before .before .before .before .before .before .before .before .args .area)) (c .before .before .before .store-be32 .last .0) (c .before .before .before .before .before .before .before .before .args .to) (c .before .before .before .before .first-operand .result) (c .before .before .before .store-be32 .ensures)
@@ -46,10 +37,10 @@ store-operands-spec =
     (tie.spec
     first-operand-requires
     store-be32-requires
-    add-store-be32
+    (λ c. search needs)
     second-operand-requires
     store-be32-requires-2
-    same-length
+    (λ c. search needs)
     returns
-    same-length-2
+    (λ c. search needs)
     returns-2)

@@ -15,12 +15,6 @@ use Rattle.node_area.specs.State.{total, remainingOf}
 use Rattle.nodes.proofs.writing.write_answer.Statement.{statement}
 use Rattle.nodes.proofs.writing.write_answer.Tie as tie
 
-remaining-requires : tie.Need-remaining-requires
-remaining-requires c κs = search needs
-
-longest-run-requires : tie.Need-longest-run-requires
-longest-run-requires c κs = search needs
-
 fitting : (c : tie.After-longest-run) → let a = c .before .before .before .before .args in c .longest-run .result ≡ cut (remainingOf (a .counts) (a .state .0))
 fitting c = c .longest-run .ensures .0 ∙ ap cut (c .before .remaining .ensures)
 
@@ -41,15 +35,6 @@ after-requires c κs = omega (arith, sums c)
 has-more-requires : tie.Need-has-more-requires
 has-more-requires c κs = omega (arith, sums (c .before))
 
-carried-requires : tie.Need-carried-requires
-carried-requires c κs = search needs
-
-write-head-requires : tie.Need-write-head-requires
-write-head-requires c κs = search needs
-
-passed-requires : tie.Need-passed-requires
-passed-requires c κs = search needs
-
 write-body-requires : tie.Need-write-body-requires
 write-body-requires c κs =
     let s = c .before .before .before .before .before .before .before .before .before .before .before .before .before in
@@ -57,9 +42,6 @@ write-body-requires c κs =
     let f = fitting (c .before .before .before .before .before .before .before .before .before) in
     let h = handed (byRow (now (s .args .row))) (now (s .args .j)) (s .args .counts) (s .args .state .0) (p .1 .counted) (p .2) _ f in
     (c .before .before .before .before .write-head .kept .0 ∙ p .0, p .1 .good, p .1 .marked, rw (c .passed .ensures) h)
-
-same-length : tie.Need-same-length
-same-length c = search needs
 
 returns : tie.Need-returns
 returns c =
@@ -88,13 +70,13 @@ pub write-answer-spec : {M : Type 1} → statement M
 write-answer-spec =
     tie.close
     (tie.spec
-    remaining-requires
-    longest-run-requires
+    (λ c κs. search needs)
+    (λ c κs. search needs)
     after-requires
     has-more-requires
-    carried-requires
-    write-head-requires
-    passed-requires
+    (λ c κs. search needs)
+    (λ c κs. search needs)
+    (λ c κs. search needs)
     write-body-requires
-    same-length
+    (λ c. search needs)
     returns)

@@ -40,9 +40,6 @@ store-be32-requires c κs =
     let u = c .before .before .before .write-part3 in
     omega (arith, p .3 .room, p .0, w .ensures .0, w .kept .0, v .ensures .0, v .kept .0, u .ensures .0, u .kept .0)
 
-same-length : tie.Need-same-length
-same-length c = search needs
-
 returns : tie.Need-returns
 unfolding bodyFrom
 returns c =
@@ -70,5 +67,5 @@ write-body-spec =
     write-part-requires-2
     write-part-requires-3
     store-be32-requires
-    same-length
+    (λ c. search needs)
     returns)

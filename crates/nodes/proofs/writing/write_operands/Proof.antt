@@ -26,9 +26,6 @@ Inv-loop area₀ j row code from count start step at₀ to₀ due₀ area at to 
 abbrev μ-loop : tie.MeasureT-loop
 μ-loop area₀ j row code from count start step at₀ to₀ due₀ area at to due = length j - at
 
-width-of-requires : tie.Need-width-of-requires Inv-loop μ-loop
-width-of-requires c κs = search needs
-
 mul-step : tie.Need-mul-step Inv-loop μ-loop
 mul-step c = omega (arith, c .width-of .ensures, width-some (c .before .before .before .args .code))
 
@@ -127,7 +124,7 @@ write-operands-spec =
     (tie.spec
     Inv-loop
     μ-loop
-    width-of-requires
+    (λ c κs. search needs)
     mul-step
     loop-holds
     visit-requires

@@ -24,9 +24,6 @@ returns c =
 find-requires : tie.Need-find-requires
 find-requires c κs = let p = c .before .before .before .pre in (p .0, p .1, p .2, omega (arith, p .3, c .if1 .left))
 
-width-of-requires : tie.Need-width-of-requires
-width-of-requires c κs = search needs
-
 sizes : (c : tie.After-width-of) → let a = c .before .before .before .before .before .args in Sized (width (a .part .code)) (c .width-of .result) (a .part .count)
 sizes c =
     let s = c .before .before .before .before .before in
@@ -46,9 +43,6 @@ due c =
 mul-operands : tie.Need-mul-operands
 mul-operands c = omega (arith, sizes c)
 
-mul-store-be32 : tie.Need-mul-store-be32
-mul-store-be32 c = search needs
-
 add-store-be32 : tie.Need-add-store-be32
 add-store-be32 c = omega (arith, sizes (c .before), c .before .before .before .before .before .before .pre .2)
 
@@ -57,9 +51,6 @@ cast-store-be32 c = omega (arith, sizes (c .before), c .before .before .before .
 
 store-be32-requires : tie.Need-store-be32-requires
 store-be32-requires c κs = omega (arith, room (c .before))
-
-add-write-operands : tie.Need-add-write-operands
-add-write-operands c = search needs
 
 write-operands-requires : tie.Need-write-operands-requires
 write-operands-requires c κs =
@@ -74,9 +65,6 @@ mul-result c = omega (arith, sizes (c .before .before .before .before .before .b
 
 add-result-2 : tie.Need-add-result-2
 add-result-2 c = omega (arith, sizes (c .before .before .before .before .before .before .before .before), room (c .before .before .before .before .before .before .before .before))
-
-same-length : tie.Need-same-length
-same-length c = search needs
 
 returns-2 : tie.Need-returns-2
 returns-2 c =
@@ -100,16 +88,16 @@ write-part-spec =
     (tie.spec
     returns
     find-requires
-    width-of-requires
+    (λ c κs. search needs)
     mul-operands
-    mul-store-be32
+    (λ c. search needs)
     add-store-be32
     cast-store-be32
     store-be32-requires
-    add-write-operands
+    (λ c. search needs)
     write-operands-requires
     add-result
     mul-result
     add-result-2
-    same-length
+    (λ c. search needs)
     returns-2)

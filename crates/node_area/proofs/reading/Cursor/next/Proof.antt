@@ -20,9 +20,6 @@ abbrev μ-loop : tie.MeasureT-loop
 loop-holds : tie.Need-loop-holds Inv-loop μ-loop
 loop-holds c = refl
 
-has-word-requires : tie.Need-has-word-requires Inv-loop μ-loop
-has-word-requires c κs = search needs
-
 returns : tie.Need-returns Inv-loop μ-loop
 unfolding nextOf
 returns c =
@@ -45,9 +42,6 @@ returns-2 c =
     let zero = sym (c .before .read-be32 .ensures) ∙ c .if2 .taken in
     (ends-zero area (l .at) (l .code) (l .left) (fits (c .before .before)) (c .before .before .before .before .loop-test .taken) zero ∙ sym (l .inv), steps-give)
 
-cast-left : tie.Need-cast-left Inv-loop μ-loop
-cast-left c = search needs
-
 add-at : tie.Need-add-at Inv-loop μ-loop
 add-at c = omega (arith, fits (c .before .before))
 
@@ -61,9 +55,6 @@ loop-again c =
     let word = c .before .read-be32 .ensures in
     rw word (l .inv ∙ goes-on area (l .at) (l .code) (l .left) (fits (c .before .before)) (c .before .before .before .before .loop-test .taken) (λ e. c .if2 .left (word ∙ e)))
 
-operation-at-requires : tie.Need-operation-at-requires Inv-loop μ-loop
-operation-at-requires c κs = search needs
-
 returns-3 : tie.Need-returns-3 Inv-loop μ-loop
 unfolding nextOf
 returns-3 c = (c .operation-at .ensures ∙ sym (c .before .before .loop .inv), steps-give)
@@ -75,13 +66,13 @@ next-spec =
     Inv-loop
     μ-loop
     loop-holds
-    has-word-requires
+    (λ c κs. search needs)
     returns
     read-be32-requires
     returns-2
-    cast-left
+    (λ c. search needs)
     add-at
     loop-less
     loop-again
-    operation-at-requires
+    (λ c κs. search needs)
     returns-3)

@@ -4,9 +4,6 @@ use borrow.Author.Tests.{eq-eqb, ne-eqb}
 use Rattle.node_area.proofs.state.StateVariable.is_within.Statement.{statement}
 use Rattle.node_area.proofs.state.StateVariable.is_within.Tie as tie
 
-has-more-requires : tie.Need-has-more-requires
-has-more-requires c κs = search needs
-
 returns : tie.Need-returns
 returns c = rw (eq-eqb _ _ (c .if1 .taken))
 
@@ -14,4 +11,4 @@ returns-2 : tie.Need-returns-2
 returns-2 c = rw (ne-eqb _ _ (c .before .if1 .left)) (c .has-more .ensures)
 
 pub is-within-spec : {M : Type 1} → statement M
-is-within-spec = tie.close (tie.spec has-more-requires returns returns-2)
+is-within-spec = tie.close (tie.spec (λ c κs. search needs) returns returns-2)
