@@ -12,10 +12,11 @@ use Rattle.words.proofs.Numbers.{length-beBytes}
 use Rattle.words.proofs.Stores.{sets-behind, sets-swap}
 use Rattle.records.specs.Records.{sizeLimit}
 use Rattle.inventory.specs.Listing.{Entry, listed}
-use Rattle.inventory.specs.Scanning.{ahead, GoodFrom, NextMatch}
+use Rattle.inventory.specs.Scanning.{ahead, GoodFrom}
 use Rattle.inventory.specs.declared.locating.Located.{Located}
 use Rattle.inventory.specs.Located.{locatedAt, entryIn}
 use Rattle.inventory.proofs.Located.{code-sized, located-entry, located-inside}
+use Rattle.inventory.proofs.Search.{NextMatch}
 use Rattle.indices.specs.Area.{filled, entrySize, codeField, entryBytes, entriesBytes, fitting, run, answer, written, areaAfter}
 use Rattle.indices.specs.Writing.{DueEntries}
 use Rattle.indices.proofs.Written.{fitting-few}
@@ -53,14 +54,14 @@ module _ (room n : ℕ) (e : Entry) (es : List Entry) (sized : length (e .code) 
 -- The writer has handed out so many entries of a run and stands at a place of the inventory and of the area:
 -- the entries from there on that fit, stored from there on, give the run.
 pub record Writing (start : List ℕ) (whole : List Entry) (flag type count : ℕ) (inventory area : List ℕ) (at to handed : ℕ) : Type 0 where
-  pub onward : GoodFrom inventory at
+  pub onward : GoodFrom flag type inventory at
   pub due : count ≡ handed + length (ahead flag type inventory at)
   pub inside : to ≤ length area
   pub same : length area ≡ length start
   pub number : handed + length (fitting (length area - to) (ahead flag type inventory at)) ≡ length whole
   pub stored : sets area to (entriesBytes (fitting (length area - to) (ahead flag type inventory at))) ≡ sets start 4 (entriesBytes whole)
 
-pub writing-start : (flag type count : ℕ) (inventory area : List ℕ) (from : ℕ) → 4 ≤ length area → GoodFrom inventory from → count ≡ length (ahead flag type inventory from)
+pub writing-start : (flag type count : ℕ) (inventory area : List ℕ) (from : ℕ) → 4 ≤ length area → GoodFrom flag type inventory from → count ≡ length (ahead flag type inventory from)
     → Writing area (fitting (length area - 4) (ahead flag type inventory from)) flag type count inventory area from 4 0
 writing-start flag type count inventory area from h o e = record { onward = o; due = omega arith; inside = h; same = refl; number = zero-add _; stored = refl }
 

@@ -9,7 +9,7 @@ use Rattle.inventory.specs.Scanning.{ahead, GoodFrom}
 
 -- The place where the search for the entry due begins, and the number of entries from that one on.
 pub record DueEntries (flag type number : ℕ) (inventory : List ℕ) (from count : ℕ) : Type 0 where
-  pub onward : GoodFrom inventory from
+  pub onward : GoodFrom flag type inventory from
   pub rest : drop (number - 1) (listed flag type inventory) ≡ ahead flag type inventory from
   pub counted : count ≡ length (ahead flag type inventory from)
   pub few : count ≤ sizeLimit

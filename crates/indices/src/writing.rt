@@ -43,7 +43,7 @@ fn write_entries(
     from: usize,
     count: usize,
 ) -> usize
-    requires { ⌜ (4 ≤ length (now area)) × GoodFrom (now inventory) from × (count ≡ length (ahead flag «item_type» (now inventory) from)) ⌝ }
+    requires { ⌜ (4 ≤ length (now area)) × GoodFrom flag «item_type» (now inventory) from × (count ≡ length (ahead flag «item_type» (now inventory) from)) ⌝ }
     ensures { λ r. ⌜ r ≡ length (fitting (length (now (area .entry)) - 4) (ahead flag «item_type» (now (inventory .entry)) from)) ⌝ }
     ensures { λ _. ⌜ now (area .exit) ≡ sets (now (area .entry)) 4 (entriesBytes (fitting (length (now (area .entry)) - 4) (ahead flag «item_type» (now (inventory .entry)) from))) ⌝ }
 {

@@ -4,4 +4,5 @@ pub mod Located
 pub mod Entries
 pub mod Listed
 pub mod Search
+pub mod OtherCodes
 pub mod Claims

@@ -54,11 +54,17 @@ module _ (s : List ℕ) (at : ℕ) where
       let b = framed-bounds (length s - at) size (kindOf (drop at s)) (le 2 s (at + 4)) e in
       record { large = b .0; small = b .1; inside = omega arith }
 
-  -- its code
+  pub head-readable : (b : Bool) → (whole here && (goodHead here && b)) ≡ true → Readable s at
+  head-readable b e = framed-readable (sym head-here ∙ and-left _ b (and-assoc (whole here) (goodHead here) b ∙ e))
+
+  -- its length and its code
   module _ (r : Readable s at) where
+    pub record-size : length here ≡ size
+    record-size = length-take-le size (drop at s) (rw length-drop (omega arith))
+
     pub code-length : length (codeOf here) ≡ size - headSize
     unfolding codeOf
-    code-length = length-drop headSize here ∙ ap (λ (n : ℕ). n - headSize) (length-take-le size (drop at s) (rw length-drop (omega arith)))
+    code-length = length-drop headSize here ∙ ap (λ (n : ℕ). n - headSize) record-size
 
     code-is : codeOf here ≡ slice (at + headSize) (at + size) s
     unfolding codeOf

@@ -1,16 +1,15 @@
--- What a scan of an inventory tells, and what the search for the next entry finds.
+-- What a scan of an inventory tells, and what the search for the next entry asks.
 use Prim.Native.Nat.{ℕ, _+_, _-_, _≤_}
 use mathlib.Core.Path.{_≡_}
 use mathlib.Core.Bool.{true, false}
-use mathlib.Core.List.{List, _∷_}
+use mathlib.Core.List.{List}
 use lib.ListN.{length, drop}
-use Rattle.records.specs.Records.{firstRecord, records, allGood}
+use Rattle.records.specs.Records.{records, allGood}
 use Rattle.inventory.specs.declared.scanning.Judgement.{Judgement}
 use Rattle.inventory.specs.declared.scanning.Judgement.the-variants.{Malformed, Counted}
 use Rattle.inventory.specs.Inventory.{goodRecord, wellFormed}
-use Rattle.inventory.specs.Judging.{Readable}
-use Rattle.inventory.specs.Listing.{Entry, entryOf, matches, chosen, listed}
-use Rattle.inventory.specs.Located.{locatedAt}
+use Rattle.inventory.specs.Listing.{Entry, chosen, listed}
+use Rattle.inventory.specs.Search.{goodFor}
 
 -- the entries of the flag and type from a place on
 abbrev pub ahead : ℕ → ℕ → List ℕ → ℕ → List Entry
@@ -29,14 +28,7 @@ ScanFinds flag type number inventory Malformed = wellFormed inventory ≡ false
 ScanFinds flag type number inventory (Counted count at) =
     (wellFormed inventory ≡ true) × (count ≡ length (listed flag type inventory)) × (1 ≤ number → number ≤ count → ResumesAt flag type inventory (number - 1) at)
 
--- The bytes from this place on, which may be the end, are good records.
-pub record GoodFrom (inventory : List ℕ) (at : ℕ) : Type 0 where
+-- The bytes from this place on, which may be the end, are records that are good for the search.
+pub record GoodFrom (flag type : ℕ) (inventory : List ℕ) (at : ℕ) : Type 0 where
   pub inside : at ≤ length inventory
-  pub good : allGood goodRecord (records (drop at inventory)) ≡ true
-
--- The record here is the next one of the flag and type from a place on: it can be read, the good records behind it, and the entries from that place on, its own first.
-pub record NextMatch (flag type : ℕ) (inventory : List ℕ) (from at : ℕ) : Type 0 where
-  pub of-type : matches flag type (firstRecord (drop at inventory)) ≡ true
-  pub readable : Readable inventory at
-  pub onward : GoodFrom inventory (at + locatedAt inventory at .size)
-  pub first : ahead flag type inventory from ≡ entryOf (firstRecord (drop at inventory)) ∷ ahead flag type inventory (at + locatedAt inventory at .size)
+  pub good : allGood (goodFor flag type) (records (drop at inventory)) ≡ true

@@ -16,6 +16,7 @@ use Rattle.inventory.specs.Scanning.{ResumesAt}
 use Rattle.indices.specs.Area.{run, written, areaAfter}
 use Rattle.indices.specs.Writing.{DueEntries}
 use Rattle.inventory.proofs.Listed.{listed-few}
+use Rattle.inventory.proofs.Search.{all-good-for}
 use Rattle.indices.proofs.Written.{fitting-few}
 use Rattle.rtas.specs.declared.indices_call.Listed.{Listed}
 use Rattle.calls.specs.declared.request.Request.{Request}
@@ -36,7 +37,7 @@ among-is number count e = (leb-true 1 number (and-left _ _ e), leb-true number c
 pub due-is : {flag type count from : ℕ} {i : List ℕ} (number : ℕ) → wellFormed i ≡ true → count ≡ length (listed flag type i) → ResumesAt flag type i (number - 1) from → DueEntries flag type number i from (count - (number - 1))
 unfolding wellFormed
 due-is {flag} {type} {i = i} number w n f = record {
-  onward = record { inside = f .inside; good = sym (f .sound) ∙ formed-good sizeLimit goodRecord i w };
+  onward = record { inside = f .inside; good = all-good-for flag type _ (sym (f .sound) ∙ formed-good sizeLimit goodRecord i w) };
   rest = f .rest;
   counted = omega arith;
   few = omega (arith, listed-few flag type i w);

@@ -1,5 +1,5 @@
 -- `searching::next_entry` meets its contract.
-use mathlib.Core.Path.{_≡_, refl, sym, ap, _∙_}
+use mathlib.Core.Path.{_≡_, sym, ap, _∙_}
 use Prim.Native.Nat.{_+_, _-_}
 use native.Mathlib.Omega.{arith}
 use lib.ListN.{length, drop}
@@ -8,8 +8,8 @@ use borrow.Author.Tests.{not-true, not-false}
 use denote.Ref.{now}
 use Rattle.records.specs.Records.{sizeOf}
 use Rattle.records.specs.declared.framing.Frame.{Frame}
-use Rattle.inventory.proofs.RecordLaws.{readable}
-use Rattle.inventory.proofs.Search.{Sought, record-sought, sought-step, sought-found}
+use Rattle.inventory.proofs.OtherCodes.{search-agrees, search-witness}
+use Rattle.inventory.proofs.Search.{Sought, sought-start, record-sought, sought-step, sought-place}
 use Rattle.inventory.proofs.searching.next_entry.Statement.{statement}
 use Rattle.inventory.proofs.searching.next_entry.Tie as tie
 
@@ -20,10 +20,7 @@ abbrev μ-loop : tie.MeasureT-loop
 μ-loop inventory flag type from at₀ at = length inventory - at
 
 loop-holds : tie.Need-loop-holds Inv-loop μ-loop
-loop-holds c = record { onward = c .before .pre .0; some = c .before .pre .1; same = refl }
-
-has-type-requires : tie.Need-has-type-requires Inv-loop μ-loop
-has-type-requires c κs = readable (record-sought (c .loop .inv))
+loop-holds c = sought-start (c .before .pre .0) (c .before .pre .1)
 
 -- the size that was read
 size-is : (c : tie.After-record-size Inv-loop μ-loop) → c .record-size .result ≡ sizeOf (drop (c .before .before .before .before .loop .at) (now (c .before .before .before .before .before .before .args .inventory)))
@@ -39,7 +36,7 @@ loop-again : tie.Need-loop-again Inv-loop μ-loop
 loop-again c = sought-step (c .before .before .before .before .loop .inv) _ (size-is c) (sym (c .before .before .before .has-type .ensures) ∙ not-true _ (c .before .before .if1 .taken))
 
 returns : tie.Need-returns Inv-loop μ-loop
-returns c = sought-found (c .before .before .loop .inv) (sym (c .before .has-type .ensures) ∙ not-false _ (c .if1 .left))
+returns c = (sought-place (c .before .before .loop .inv) (sym (c .before .has-type .ensures) ∙ not-false _ (c .if1 .left)), (search-agrees, search-witness))
 
 pub next-entry-spec : {M : Type 1} → statement M
 next-entry-spec =
@@ -48,7 +45,7 @@ next-entry-spec =
     Inv-loop
     μ-loop
     loop-holds
-    has-type-requires
+    (λ c κs. record-sought (c .loop .inv))
     (λ c κs. omega (arith, record-sought (c .before .before .loop .inv)))
     (λ c κs. search needs)
     add-at
