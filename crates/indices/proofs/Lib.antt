@@ -3,4 +3,5 @@ pub mod Fine
 pub mod Written
 pub mod Longest
 pub mod Writes
+pub mod OtherCodes
 pub mod Claims
