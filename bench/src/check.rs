@@ -1,6 +1,6 @@
 //! Holds the three sides to each other before they are measured: every answer and every byte.
 
-use crate::interface::{Asked, Side, MALFORMED, SIDES};
+use crate::interface::{Asked, Judged, Side, MALFORMED, SIDES};
 use crate::partition::{Partition, AREA_SIZE, SCOPE};
 use std::fmt::Debug;
 
@@ -43,6 +43,14 @@ pub fn inventory_scan(inventory: &[u8], asked: Asked) {
             let asked = Asked { flag, kind, ..asked };
             same("scan", |side| (side.scan_inventory)(inventory, asked));
         }
+    }
+}
+
+/// The search in a judged inventory, and for a type that has no entry.
+pub fn search(inventory: &[u8], asked: Asked) {
+    for kind in [asked.kind, 0] {
+        let judged = Judged::new(inventory, Asked { kind, ..asked });
+        same("search", |side| (side.search)(judged));
     }
 }
 

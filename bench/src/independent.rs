@@ -1,10 +1,10 @@
 //! The independent side: document 01 written out plainly (compare/src/paper), which is not meant to be fast.
 
-use crate::interface::{Answer, Asked, IndexReading, NodeReading, Registration, Side, MALFORMED};
+use crate::interface::{Answer, Asked, IndexReading, Judged, NodeReading, Registration, Side, MALFORMED};
 use draugsten_compare::paper::{self, readers, records, scope, Phase};
 
 pub const SIDE: Side =
-    Side { name: "independent", scan_journal, scan_inventory, no_registration, call, read_nodes, read_indices };
+    Side { name: "independent", scan_journal, scan_inventory, search, no_registration, call, read_nodes, read_indices };
 
 fn scan_journal(journal: &[u8], scope: u32) -> u64 {
     let Ok(changes) = records::journal(journal) else {
@@ -21,6 +21,14 @@ fn scan_inventory(inventory: &[u8], asked: Asked) -> u64 {
     let (flag, kind) = (u64::from(asked.flag), u64::from(asked.kind));
     let wanted = entries.iter().filter(|entry| entry.flag == flag && entry.kind == kind);
     wanted.count() as u64
+}
+
+/// It has no search of its own: the records are read and judged once more.
+fn search(judged: Judged) -> u32 {
+    let entries = records::inventory(judged.inventory()).unwrap_or_default();
+    let (flag, kind) = (u64::from(judged.asked().flag), u64::from(judged.asked().kind));
+    let last = entries.iter().rfind(|entry| entry.flag == flag && entry.kind == kind);
+    last.map_or(0, |entry| entry.index)
 }
 
 /// The registration that a partition starts with.

@@ -6,9 +6,26 @@ use crate::{inventory, journal};
 
 pub struct Inputs {
     pub journals: Vec<(&'static str, Vec<u8>)>,
-    pub inventories: Vec<(String, Vec<u8>, Asked)>,
+    /// Measured by scans, calls and sessions.
+    pub inventories: Vec<Inventory>,
+    /// Of several types, measured by the search and by one call alone.
+    pub listings: Vec<Inventory>,
     pub node_areas: Vec<(&'static str, Vec<u8>)>,
     pub index_areas: Vec<(String, Vec<u8>)>,
+}
+
+/// An inventory with its name, and the entries that are asked for.
+pub type Inventory = (String, Vec<u8>, Asked);
+
+impl Inputs {
+    pub fn all_inventories(&self) -> impl Iterator<Item = &Inventory> {
+        self.inventories.iter().chain(&self.listings)
+    }
+
+    /// Those of several types, of which the last is asked for.
+    pub fn of_several_types(&self) -> impl Iterator<Item = &Inventory> {
+        self.all_inventories().filter(|(_, _, asked)| asked.kind > 1)
+    }
 }
 
 pub fn inputs() -> Inputs {
@@ -19,6 +36,7 @@ pub fn inputs() -> Inputs {
         ("mixed", journal::mixed(57_600)),
     ];
     let inventories: Vec<_> = [(79, 1), (79, 16), (20, 1), (8, 1)].map(full_inventory).into();
+    let listings = [(79, 2), (8, 16), (8, 2)].map(full_inventory).into();
     let node_areas =
         vec![("deletes", node_area(&journal::uniform(LIMIT))), ("all three opcodes", node_area(&journal::mixed(14_000)))];
     let index_areas = [&inventories[0], &inventories[3]].map(|(name, bytes, asked)| {
@@ -26,12 +44,12 @@ pub fn inputs() -> Inputs {
         partition.answered_call(&SIDES[0], asked.number);
         (name.clone(), partition.area().to_vec())
     });
-    Inputs { journals, inventories, node_areas, index_areas: index_areas.into() }
+    Inputs { journals, inventories, listings, node_areas, index_areas: index_areas.into() }
 }
 
 /// A full inventory with codes of this length and so many types. The last type is asked for, and of its list the entry
 /// in the middle.
-fn full_inventory((length, kinds): (usize, u32)) -> (String, Vec<u8>, Asked) {
+fn full_inventory((length, kinds): (usize, u32)) -> Inventory {
     let inventory = inventory::sensors(length, u64::from(kinds));
     let mut asked = Asked { flag: u32::from(inventory::FLAG), kind: kinds, number: 1 };
     asked.number = (SIDES[0].scan_inventory)(&inventory, asked) as u32 / 2;

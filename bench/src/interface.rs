@@ -53,6 +53,35 @@ pub struct Asked {
     pub number: u32,
 }
 
+/// An inventory that the proved scan has judged, with the number of the entries asked for. The search asks for both.
+#[derive(Clone, Copy)]
+pub struct Judged<'a> {
+    inventory: &'a [u8],
+    asked: Asked,
+    count: u64,
+}
+
+impl<'a> Judged<'a> {
+    /// Judges the inventory; panics where it is malformed.
+    pub fn new(inventory: &'a [u8], asked: Asked) -> Judged<'a> {
+        let count = (crate::library::SIDE.scan_inventory)(inventory, asked);
+        assert_ne!(count, MALFORMED);
+        Judged { inventory, asked, count }
+    }
+
+    pub fn inventory(&self) -> &'a [u8] {
+        self.inventory
+    }
+
+    pub fn asked(&self) -> Asked {
+        self.asked
+    }
+
+    pub fn count(&self) -> u64 {
+        self.count
+    }
+}
+
 /// A call with its argument buffer, memory, journal, inventory and registration.
 pub type Call = fn(&mut [u8], &mut [u8], &[u8], &[u8], Registration) -> Answer;
 
@@ -61,6 +90,8 @@ pub struct Side {
     pub name: &'static str,
     pub scan_journal: fn(&[u8], u32) -> u64,
     pub scan_inventory: fn(&[u8], Asked) -> u64,
+    /// The index of the last entry asked for, or 0 where there is none.
+    pub search: fn(Judged) -> u32,
     /// The registration that a partition starts with.
     pub no_registration: fn() -> Registration,
     pub call: Call,

@@ -1,7 +1,7 @@
 //! The proved side: the two archives over their C interface. With the feature `stand-in` there is no libdraugsten.a,
-//! and the independent program answers in its place, but for the scans.
+//! and the independent program answers in its place, but for the scans and the search.
 
-use crate::interface::{Asked, Side};
+use crate::interface::{Asked, Judged, Side};
 
 #[cfg(feature = "stand-in")]
 use crate::independent::{call, no_registration, read_indices, read_nodes};
@@ -15,6 +15,7 @@ pub const SIDE: Side = Side {
     name: if REAL { "proved" } else { "stand-in" },
     scan_journal,
     scan_inventory,
+    search,
     no_registration,
     call,
     read_nodes,
@@ -24,6 +25,7 @@ pub const SIDE: Side = Side {
 extern "C" {
     fn draugsten_bench_scan(journal: *const u8, length: usize, scope: u32) -> u64;
     fn draugsten_bench_inventory(inventory: *const u8, length: usize, flag: u32, kind: u32, number: u32) -> u64;
+    fn draugsten_bench_search(inventory: *const u8, length: usize, flag: u32, kind: u32, count: u64) -> u32;
 }
 
 fn scan_journal(journal: &[u8], scope: u32) -> u64 {
@@ -35,6 +37,12 @@ fn scan_inventory(inventory: &[u8], asked: Asked) -> u64 {
     let (bytes, length) = (inventory.as_ptr(), inventory.len());
     // SAFETY: as above.
     unsafe { draugsten_bench_inventory(bytes, length, asked.flag, asked.kind, asked.number) }
+}
+
+fn search(judged: Judged) -> u32 {
+    let (bytes, length) = (judged.inventory().as_ptr(), judged.inventory().len());
+    // SAFETY: as above; and the scan has judged the inventory and counted its entries, as the function requires.
+    unsafe { draugsten_bench_search(bytes, length, judged.asked().flag, judged.asked().kind, judged.count()) }
 }
 
 #[cfg(not(feature = "stand-in"))]

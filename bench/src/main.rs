@@ -63,15 +63,19 @@ fn rows(inputs: &Inputs, effort: Effort, mut tell: impl FnMut(Row)) {
     for (name, inventory, asked) in &inputs.inventories {
         tell(scans::inventory(name, inventory, *asked, effort));
     }
+    for (name, inventory, asked) in inputs.of_several_types() {
+        tell(scans::search(name, inventory, *asked, effort));
+    }
     for measure in [update_nodes::one_call, update_nodes::session] {
         for (name, journal) in &inputs.journals {
             tell(measure(name, journal, effort));
         }
     }
-    for measure in [get_indices::one_call, get_indices::session] {
-        for (name, inventory, asked) in &inputs.inventories {
-            tell(measure(name, inventory, *asked, effort));
-        }
+    for (name, inventory, asked) in inputs.all_inventories() {
+        tell(get_indices::one_call(name, inventory, *asked, effort));
+    }
+    for (name, inventory, asked) in &inputs.inventories {
+        tell(get_indices::session(name, inventory, *asked, effort));
     }
     for (name, area) in &inputs.node_areas {
         tell(readers::nodes(name, area, effort));
@@ -88,8 +92,9 @@ fn check_sides(inputs: &Inputs) {
         check::journal_scan(journal);
         check::update_nodes(journal);
     }
-    for (_, inventory, asked) in &inputs.inventories {
+    for (_, inventory, asked) in inputs.all_inventories() {
         check::inventory_scan(inventory, *asked);
+        check::search(inventory, *asked);
         check::get_indices(inventory, *asked);
     }
     for (_, area) in &inputs.node_areas {

@@ -1,7 +1,7 @@
-//! The inventory: its records, and the scan.
+//! The inventory: its records, the scan, and the search alone.
 
 use super::words::{le16, le32};
-use crate::interface::{Asked, LIMIT, MALFORMED};
+use crate::interface::{Asked, Judged, LIMIT, MALFORMED};
 
 /// The size of the record that the bytes begin with, if it is a good one.
 fn good_size(rest: &[u8]) -> Option<usize> {
@@ -46,4 +46,18 @@ pub fn counted(inventory: &[u8], asked: Asked) -> Option<(usize, usize)> {
 /// How many entries there are. As in the proved scan that is measured, the place of the one due is not handed on.
 pub fn scan(inventory: &[u8], asked: Asked) -> u64 {
     counted(inventory, asked).map_or(MALFORMED, |(count, _due)| count as u64)
+}
+
+/// The index of the last entry asked for, or 0 where there is none. The inventory was judged before: nothing is judged here.
+pub fn search(judged: Judged) -> u32 {
+    let mut rest = judged.inventory();
+    let mut last = 0;
+    while !rest.is_empty() {
+        let (record, behind) = rest.split_at(2 + usize::from(le16(rest, 0)));
+        rest = behind;
+        if is_asked(record, judged.asked()) {
+            last = le32(record, 10);
+        }
+    }
+    last
 }

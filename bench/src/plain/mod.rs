@@ -1,4 +1,4 @@
-//! Straightforward safe Rust, as one writes it first for release: the scans, the calls through the argument buffer, and
+//! Straightforward safe Rust, as one writes it first for release: the scans, the search, the calls through the argument buffer, and
 //! the readers. configure-kernel-dump is not measured and not written here: its token is answered as an unknown one.
 
 mod get_indices;
@@ -18,6 +18,7 @@ pub const SIDE: Side = Side {
     name: "Rust",
     scan_journal: journal::scan,
     scan_inventory: inventory::scan,
+    search: inventory::search,
     no_registration,
     call,
     read_nodes: read_nodes::read_nodes,

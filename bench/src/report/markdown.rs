@@ -119,6 +119,8 @@ fn method(effort: Effort) -> String {
         *independent* the rules written out plainly and not for speed (`compare/src/paper`); `cargo build --release` \
         builds both, and `rt staticlib` the proved archives. The scope is 1, and of an inventory's types the last is \
         asked for. One call of update-nodes begins at state 0, one of get-indices in the middle of the list; every \
-        work area has 4,096 bytes. The scan of an inventory does not hand on the entry due, on any side."
+        work area has 4,096 bytes. The scan of an inventory does not hand on the entry due, on any side. The search \
+        goes from the first entry of the type to the last, over an inventory that was judged before; the independent \
+        program has none, and reads and judges the records once more."
     )
 }

@@ -47,7 +47,7 @@ impl Measured {
     fn summary(&self) -> String {
         let (others, readings) = (range(self.all_ratios(false), ratio_text), range(self.all_ratios(true), ratio_text));
         let runs = if self.runs == 1 { String::from("In one run") } else { format!("Over {} runs", self.runs) };
-        format!("{runs} the ratios to Rust are {others} for scans, calls and sessions, and {readings} for readings.")
+        format!("{runs} the ratios to Rust are {others} for scans, searches, calls and sessions, and {readings} for readings.")
     }
 }
 

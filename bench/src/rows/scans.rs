@@ -1,8 +1,8 @@
-//! The scans of a journal and of an inventory.
+//! The scans of a journal and of an inventory, and the search in one that was judged.
 
 use super::{Row, Subject};
 use crate::bare;
-use crate::interface::Asked;
+use crate::interface::{Asked, Judged};
 use crate::partition::SCOPE;
 use crate::timing::Effort;
 use std::hint::black_box;
@@ -17,4 +17,12 @@ pub fn inventory(over: &str, inventory: &[u8], asked: Asked, effort: Effort) -> 
     let stepping = bare::stepping_records;
     let subject = Subject { what: "inventory scan", over, bytes: inventory, passes: 1, stepping };
     subject.measure(effort, |side| Box::new(move || (side.scan_inventory)(black_box(inventory), black_box(asked))))
+}
+
+/// The search alone, from the first entry asked for to the last.
+pub fn search(over: &str, inventory: &[u8], asked: Asked, effort: Effort) -> Row {
+    let judged = Judged::new(inventory, asked);
+    let stepping = bare::stepping_records;
+    let subject = Subject { what: "search for one type", over, bytes: inventory, passes: 1, stepping };
+    subject.measure(effort, |side| Box::new(move || (side.search)(black_box(judged)).into()))
 }
