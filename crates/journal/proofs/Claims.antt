@@ -26,4 +26,4 @@ size-limit j g = (λ h. formed sizeLimit goodRecord j h g, too-large j)
 
 pub scope-rows : ScopeRows
 unfolding rowOf negative
-scope-rows = (λ scope h. rw (le-leb 2147483648 scope h), refl, refl)
+scope-rows = (λ scope h. rw (le-leb 2147483648 scope h), refl, refl, refl)

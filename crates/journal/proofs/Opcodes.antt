@@ -1,7 +1,8 @@
--- The three opcodes.
+-- The three opcodes, and the four kinds of records.
 use Prim.Native.Nat.{ℕ, zero, suc}
 use native.Mathlib.Omega.{arith}
 use Rattle.journal.specs.Journal.{IsOpcode}
+use Rattle.journal.specs.Scanning.{IsKind, opcodeFor}
 
 pub code-1 : IsOpcode 1
 code-1 = record { low = omega arith; high = omega arith }
@@ -19,3 +20,28 @@ each-code P x y z (suc zero) o = x
 each-code P x y z (suc (suc zero)) o = y
 each-code P x y z (suc (suc (suc zero))) o = z
 each-code P x y z (suc (suc (suc (suc k)))) o = absurd (omega arith)
+
+pub kind-1 : IsKind 1
+kind-1 = record { low = omega arith; high = omega arith }
+
+pub kind-2 : IsKind 2
+kind-2 = record { low = omega arith; high = omega arith }
+
+pub kind-3 : IsKind 3
+kind-3 = record { low = omega arith; high = omega arith }
+
+pub kind-4 : IsKind 4
+kind-4 = record { low = omega arith; high = omega arith }
+
+-- a statement about every kind
+pub each-kind : (P : ℕ → Type 0) → P 1 → P 2 → P 3 → P 4 → (kind : ℕ) → IsKind kind → P kind
+each-kind P x y z w zero k = absurd (omega arith)
+each-kind P x y z w (suc zero) k = x
+each-kind P x y z w (suc (suc zero)) k = y
+each-kind P x y z w (suc (suc (suc zero))) k = z
+each-kind P x y z w (suc (suc (suc (suc zero)))) k = w
+each-kind P x y z w (suc (suc (suc (suc (suc n))))) k = absurd (omega arith)
+
+-- the opcode of a kind is one
+pub kind-opcode : (kind : ℕ) → IsKind kind → IsOpcode (opcodeFor kind)
+kind-opcode = each-kind (λ (k : ℕ). IsOpcode (opcodeFor k)) code-1 code-2 code-3 code-2

@@ -1,4 +1,4 @@
--- The operands of a record are inside where all of its opcode are, and those of the entries of a journal of bytes fit 32-bit words.
+-- The operands of the entries of a journal of bytes fit 32-bit words.
 use mathlib.Core.Path.{_≡_}
 use mathlib.Core.Bool.{Bool, true, false, cond}
 use mathlib.Core.List.{List, [], _∷_, map}
@@ -12,19 +12,7 @@ use Rattle.records.proofs.Steps.{EachBytes, records-bytes}
 use Rattle.journal.specs.declared.operation.Operation.{Operation}
 use Rattle.journal.specs.declared.operation.Operation.the-variants.{Delete, Update, Add}
 use Rattle.journal.specs.Journal.{Entry, operands, operationOf, entryOf, entries}
-use Rattle.journal.specs.Marks.{operandsEnd}
 use Rattle.words.proofs.Choice.{choose}
-
--- where the operands of a record of an opcode's kind are inside, so is the first, and for an addition the second
-pub first-inside : (code at n : ℕ) → operandsEnd code at ≤ n → operandsEnd 1 at ≤ n
-first-inside code at n = go (eqb code 3)
-  where
-    go : (t : Bool) → at + cond t 14 10 ≤ n → at + 10 ≤ n
-    go true h = omega arith
-    go false h = h
-
-pub second-inside : (code at n : ℕ) → code ≡ 3 → operandsEnd code at ≤ n → operandsEnd 3 at ≤ n
-second-inside code at n e h = rw e at h
 
 abbrev SmallOne : Operation → Type 0
 SmallOne o = Small (operands o)
@@ -35,7 +23,8 @@ operation-small r h =
     let first = le 4 r 6 in
     let small : (at : ℕ) → le 4 r at < 4294967296 = le-below r h 4 in
     choose (eqb (kindOf r) 1) SmallOne {x = Delete first} (λ _. (small 6, tt))
-    (λ _. choose (eqb (kindOf r) 2) SmallOne {x = Update first} {y = Add first (le 4 r 10)} (λ _. (small 6, tt)) (λ _. (small 6, (small 10, tt))))
+    (λ _. choose (eqb (kindOf r) 2) SmallOne {x = Update first} (λ _. (small 6, tt))
+    (λ _. choose (eqb (kindOf r) 3) SmallOne {x = Add first (le 4 r 10)} {y = Update (le 4 r 14)} (λ _. (small 6, (small 10, tt))) (λ _. (small 14, tt))))
 
 -- the operands of every entry fit
 abbrev pub SmallEntries : List Entry → Type 0

@@ -1,27 +1,30 @@
 -- A scan going on: past a record, past four of the same header, at a bad record, at the end.
 use mathlib.Core.Path.{_≡_, refl, sym, ap, _∙_}
-use mathlib.Core.Bool.{true, false}
+use mathlib.Core.Bool.{true, false, cond}
 use mathlib.Core.List.{List}
 use Prim.Native.Nat.{ℕ, _+_, _*_, _/_, _%_, _<_, _≤_}
 use native.Mathlib.Nat.{div-one, div-div-eq-div-mul, mod-eq-of-lt}
 use native.Mathlib.Omega.{arith}
+use lib.Dec.{eqb}
 use lib.ListN.{length, drop}
 use Rattle.words.specs.Numbers.{le}
 use Rattle.records.specs.Records.{records, allGood, sizeLimit}
 use Rattle.records.proofs.Choosing.{before-step, before-none, before-all}
 use Rattle.records.proofs.Steps.{good-step, bad-step, none-good, formed, not-formed}
-use Rattle.journal.specs.Scope.{Selection}
+use Rattle.journal.specs.Scope.{Selection, asking}
+use Rattle.journal.specs.declared.scope.Units.the-variants.{One}
 use Rattle.journal.specs.declared.scanning.Judgement.the-variants.{Malformed, Counted}
 use Rattle.journal.specs.declared.stride.Position.{Position}
+use Rattle.journal.specs.declared.stride.Same.{Same}
 use Rattle.journal.specs.declared.stride.Step.{Step}
 use Rattle.journal.specs.declared.stride.Step.the-variants.{Bad, Upto}
 use Rattle.journal.specs.Journal.{goodRecord, wellFormed, IsOpcode, entries}
 use Rattle.journal.specs.Reportable.{operation, reports, chosen, judgementOf}
 use Rattle.journal.specs.Marks.{countLimit, count}
-use Rattle.journal.specs.Scanning.{goodHere, packedLimit, largestWeight, Before, Reached, Advanced, Weighed, fourHeaded, Known, unpacked}
+use Rattle.journal.specs.Scanning.{goodHere, packedLimit, largestWeight, asked, Before, Reached, Advanced, Weighed, fourHeaded, Known, AllAsked, unpacked}
 use Rattle.journal.proofs.Opcodes.{code-1, code-2, code-3, each-code}
 use Rattle.journal.proofs.Entries.{each-entry}
-use Rattle.journal.proofs.RecordLaws.{four-equal, weighed-size, weighed-fits, weighed-light, weighed-adds}
+use Rattle.journal.proofs.RecordLaws.{unit-size, asked-unit, four-equal, weighed-size, weighed-fits, weighed-light, weighed-adds}
 
 -- ---- packed counts
 
@@ -113,23 +116,40 @@ pub malformed : (sel : Selection) (j : List ℕ) → wellFormed j ≡ false → 
 unfolding judgementOf
 malformed sel j h = rw h
 
--- past four records of a known header
-module _ (sel : Selection) (j : List ℕ) (header size weight : ℕ) (small : length j ≤ sizeLimit) (k : Known sel j header size weight) where
-  reached-same : (at counts : ℕ) → at + size ≤ length j → le 6 j at ≡ header → Reached sel j (position at counts) → Reached sel j (position (at + size) (counts + weight))
-  reached-same at counts r e t = reached-step sel j at counts small t size weight (omega (arith, k .large)) (k .here at r e)
+-- past a record of a known header, and past four whose units are asked for
+module _ (sel : Selection) (j : List ℕ) (s : Same) (small : length j ≤ sizeLimit) (k : Known sel j s) where
+  abbrev size : ℕ
+  size = s .size
 
-  pub reached-four : (at counts : ℕ) → at + 4 * size ≤ length j → fourHeaded j header size at ≡ true → Reached sel j (position at counts) → Reached sel j (position (at + 4 * size) (counts + 4 * weight))
-  reached-four at counts r e t =
-      let q = four-equal (le 6 j at) (le 6 j (at + size)) (le 6 j (at + 2 * size)) (le 6 j (at + 3 * size)) header e in
+  abbrev weight : ℕ
+  weight = s .weight
+
+  pub reached-known : (at counts : ℕ) → at + size ≤ length j → le 6 j at ≡ s .header → Reached sel j (position at counts) → Reached sel j (position (at + size) (counts + asked (sel .units) j at weight))
+  reached-known at counts r e t = reached-step sel j at counts small t size _ (omega (arith, k .large)) (k .here at r e)
+
+  reached-same : AllAsked sel j s → (at counts : ℕ) → at + size ≤ length j → le 6 j at ≡ s .header → Reached sel j (position at counts) → Reached sel j (position (at + size) (counts + weight))
+  reached-same a at counts r e t = rw (a at r e) at (reached-known at counts r e t)
+
+  pub reached-four : AllAsked sel j s → (at counts : ℕ) → at + 4 * size ≤ length j → fourHeaded j (s .header) size at ≡ true → Reached sel j (position at counts) → Reached sel j (position (at + 4 * size) (counts + 4 * weight))
+  reached-four a at counts r e t =
+      let q = four-equal (le 6 j at) (le 6 j (at + size)) (le 6 j (at + 2 * size)) (le 6 j (at + 3 * size)) (s .header) e in
       let s₂ : at + size + size ≡ at + 2 * size = omega arith in
       let s₃ : at + size + size + size ≡ at + 3 * size = omega arith in
       let s₄ : at + size + size + size + size ≡ at + 4 * size = omega arith in
       let w₄ : counts + weight + weight + weight + weight ≡ counts + 4 * weight = omega arith in
-      let t₁ = reached-same at counts (omega arith) (q .0) t in
-      let t₂ = reached-same (at + size) _ (omega arith) (q .1) t₁ in
-      let t₃ = reached-same (at + size + size) _ (omega arith) (ap (le 6 j) s₂ ∙ q .2) t₂ in
-      let t₄ = reached-same (at + size + size + size) _ (omega arith) (ap (le 6 j) s₃ ∙ q .3) t₃ in
+      let t₁ = reached-same a at counts (omega arith) (q .0) t in
+      let t₂ = reached-same a (at + size) _ (omega arith) (q .1) t₁ in
+      let t₃ = reached-same a (at + size + size) _ (omega arith) (ap (le 6 j) s₂ ∙ q .2) t₂ in
+      let t₄ = reached-same a (at + size + size + size) _ (omega arith) (ap (le 6 j) s₃ ∙ q .3) t₃ in
       rw (s₄, w₄) at t₄
+
+-- past a record of a known header of kind 4, where one unit is wanted
+pub reached-unit : (row j : List ℕ) (wanted : ℕ) (s : Same) → length j ≤ sizeLimit → Known (asking row (One wanted)) j s → s .size ≡ 18 → (at counts : ℕ) → at + 18 ≤ length j → le 6 j at ≡ s .header
+    → Reached (asking row (One wanted)) j (position at counts) → Reached (asking row (One wanted)) j (position (at + 18) (counts + cond (eqb (le 8 j (at + 6)) wanted) (s .weight) 0))
+reached-unit row j wanted s small k size at counts fits e t =
+    let g = k .here at (omega arith) e in
+    let asks-unit = asked-unit j at (g .good) (One wanted) (s .weight) (unit-size j at (g .good) (g .size-is ∙ size)) in
+    rw (size, asks-unit) at (reached-known (asking row (One wanted)) j s small k at counts (omega arith) e t)
 
 -- what a step gave
 pub advanced-lower : (sel : Selection) (j : List ℕ) (a b : ℕ) (s : Step) → a ≤ b → Advanced sel j b s → Advanced sel j a s

@@ -1,73 +1,102 @@
 -- What is known of the record at a place by its length, kind and node type, what it adds, and that its header tells as much.
 use mathlib.Core.Path.{_≡_, refl, sym, ap, _∙_}
-use mathlib.Core.Bool.{Bool, true, false, cond, _&&_, _||_, and-false, or-false}
+use mathlib.Core.Bool.{Bool, true, false, cond, _&&_, _||_, and-true, and-false, or-false}
 use mathlib.Core.List.{List}
-use mathlib.Core.Logic.{_⊎_, inl, inr, ⊎-elim}
 use Prim.Native.Nat.{ℕ, _+_, _-_, _*_, _/_, _^_, _<_, _≤_}
 use native.Mathlib.Nat.{add-assoc}
 use native.Mathlib.Omega.{arith}
 use lib.Dec.{leb, eqb}
 use lib.ListN.{length, getD, drop}
-use borrow.Author.Tests.{le-leb, lt-leb, ne-eqb, leb-true, leb-false, eqb-true}
+use borrow.Author.Tests.{le-leb, lt-leb, ne-eqb, leb-true, leb-false, eqb-true, eqb-false}
 use Rattle.words.specs.Numbers.{Bytes, le}
 use Rattle.words.proofs.Numbers.{le-split, le-below}
 use Rattle.records.specs.Records.{lengthOf, kindOf, sizeOf, firstRecord, whole}
 use Rattle.records.proofs.Choosing.{one-if}
 use Rattle.records.proofs.Steps.{field-at, length-at, kind-at, record-length, record-kind, whole-at}
+use Rattle.journal.specs.declared.scope.Units.{Units}
+use Rattle.journal.specs.declared.scope.Units.the-variants.{All, One}
+use Rattle.journal.specs.declared.stride.Same.{Same}
 use Rattle.journal.specs.declared.judging.Shape.{Shape}
 use Rattle.journal.specs.declared.judging.Verdict.{Verdict}
 use Rattle.journal.specs.declared.judging.Verdict.the-variants.{Bad, Good}
-use Rattle.journal.specs.Journal.{within, largestType, goodFrame, goodType, nodeType, goodRecord, opcode, IsOpcode, operationOf, entryOf}
-use Rattle.journal.specs.Scope.{holds, Selection}
-use Rattle.journal.specs.Reportable.{reports}
+use Rattle.journal.specs.Journal.{within, largestType, goodFrame, goodType, nodeType, goodRecord, opcode, IsOpcode, operationOf, unitOf, entryOf}
+use Rattle.journal.specs.Scope.{holds, asking, Selection}
+use Rattle.journal.specs.Reportable.{asks, reports}
 use Rattle.journal.specs.Marks.{countLimit, count}
-use Rattle.journal.specs.Scanning.{lengthFor, goodAt, goodHere, shapeAt, verdictAt, largestWeight, weightOf, Weighed, Known}
+use Rattle.journal.specs.Scanning.{IsKind, opcodeFor, lengthFor, goodAt, goodHere, shapeAt, verdictAt, largestWeight, weightOf, isUnit, asked, Weighed, Known, AllAsked}
 use Rattle.words.proofs.Choice.{choose, and-left, and-right}
-use Rattle.journal.proofs.Opcodes.{code-1, code-2, code-3, each-code}
+use Rattle.journal.proofs.Opcodes.{each-code, kind-1, kind-2, kind-3, kind-4, each-kind, kind-opcode}
 
 -- ---- length and kind
 
 -- the length that a kind has
-pub frame-is : (len kind : ℕ) → IsOpcode kind → goodFrame len kind ≡ eqb len (lengthFor kind)
+pub frame-is : (len kind : ℕ) → IsKind kind → goodFrame len kind ≡ eqb len (lengthFor kind)
 unfolding goodFrame
-frame-is len = each-code (λ (k : ℕ). ((eqb k 1 && eqb len 8) || ((eqb k 2 && eqb len 8) || (eqb k 3 && eqb len 12))) ≡ eqb len (lengthFor k))
-    (or-false (eqb len 8)) (or-false (eqb len 8)) refl
+frame-is len = each-kind (λ (k : ℕ). ((eqb k 1 && eqb len 8) || ((eqb k 2 && eqb len 8) || ((eqb k 3 && eqb len 12) || (eqb k 4 && eqb len 16)))) ≡ eqb len (lengthFor k))
+    (or-false (eqb len 8)) (or-false (eqb len 8)) (or-false (eqb len 12)) refl
 
 -- and the code's arithmetic of it
-pub length-is : (kind : ℕ) → IsOpcode kind → 8 + (kind + 1) / 4 * 4 ≡ lengthFor kind
-length-is = each-code (λ (k : ℕ). 8 + (k + 1) / 4 * 4 ≡ lengthFor k) refl refl refl
+pub length-one : (kind : ℕ) → IsKind kind → kind < 2 → 8 ≡ lengthFor kind
+length-one = each-kind (λ (k : ℕ). k < 2 → 8 ≡ lengthFor k) (λ h. refl) (λ h. refl) (λ h. absurd (omega arith)) (λ h. absurd (omega arith))
 
-pub frame-none : (len kind : ℕ) → (IsOpcode kind → ⊥) → goodFrame len kind ≡ false
+pub length-more : (kind : ℕ) → IsKind kind → 2 ≤ kind → 4 * kind ≡ lengthFor kind
+length-more = each-kind (λ (k : ℕ). 2 ≤ k → 4 * k ≡ lengthFor k) (λ h. absurd (omega arith)) (λ h. refl) (λ h. refl) (λ h. refl)
+
+pub frame-none : (len kind : ℕ) → (IsKind kind → ⊥) → goodFrame len kind ≡ false
 unfolding goodFrame
 frame-none len kind h =
-    rw (ne-eqb kind 1 (λ e. h (rw e code-1)), ne-eqb kind 2 (λ e. h (rw e code-2)), ne-eqb kind 3 (λ e. h (rw e code-3)))
+    let other : (k : ℕ) → IsKind k → eqb kind k ≡ false = λ k o. ne-eqb kind k (λ e. h (rw e o)) in
+    rw (other 1 kind-1, other 2 kind-2, other 3 kind-3, other 4 kind-4)
 
 frame-short : (len kind : ℕ) → len < 6 → goodFrame len kind ≡ false
 unfolding goodFrame
 frame-short len kind h =
     let p : (len ≡ 8 → ⊥) = λ e. omega arith in
     let q : (len ≡ 12 → ⊥) = λ e. omega arith in
-    simp (ne-eqb len 8 p, ne-eqb len 12 q, and-false)
+    let r : (len ≡ 16 → ⊥) = λ e. omega arith in
+    simp (ne-eqb len 8 p, ne-eqb len 12 q, ne-eqb len 16 r, and-false)
 
--- the bounds of a good frame
+-- what a good frame is: one of the four kinds, with its length
 pub record Framed (len kind : ℕ) : Type 0 where
-  pub of : IsOpcode kind
+  pub of : IsKind kind
+  pub length-is : len ≡ lengthFor kind
   pub large : 8 ≤ len
-  pub small : len ≤ 12
+  pub small : len ≤ 16
 
 pub framed : (len kind : ℕ) → goodFrame len kind ≡ true → Framed len kind
-unfolding goodFrame
-framed len kind h = ⊎-elim (one 1 8 code-1 (omega arith)) (λ s. ⊎-elim (one 2 8 code-2 (omega arith)) (one 3 12 code-3 (omega arith)) (either _ _ s)) (either _ _ h)
+framed len kind h = go (leb 1 kind) (leb kind 4) refl refl
   where
-    either : (a b : Bool) → (a || b) ≡ true → (a ≡ true) ⊎ (b ≡ true)
-    either true b e = inl refl
-    either false b e = inr e
+    no : (IsKind kind → ⊥) → Framed len kind
+    no n = let f = frame-none len kind n in let z : _≡_ {A = ℕ} 0 1 = cc in absurd (omega arith)
 
-    one : (k l : ℕ) → IsOpcode k → (8 ≤ l) × (l ≤ 12) → (eqb kind k && eqb len l) ≡ true → Framed len kind
-    one k l p q e =
-        let a = eqb-true kind k (and-left (eqb kind k) (eqb len l) e) in
-        let b = eqb-true len l (and-right (eqb kind k) (eqb len l) e) in
-        record { of = rw a p; large = omega arith; small = omega arith }
+    bounds : (k : ℕ) → IsKind k → (8 ≤ lengthFor k) × (lengthFor k ≤ 16)
+    bounds = each-kind (λ (k : ℕ). (8 ≤ lengthFor k) × (lengthFor k ≤ 16)) (omega arith) (omega arith) (omega arith) (omega arith)
+
+    go : (a b : Bool) → leb 1 kind ≡ a → leb kind 4 ≡ b → Framed len kind
+    go true true p q =
+        let of : IsKind kind = record { low = leb-true 1 kind p; high = leb-true kind 4 q } in
+        let e = eqb-true len (lengthFor kind) (sym (frame-is len kind of) ∙ h) in
+        record { of = of; length-is = e; large = omega (arith, bounds kind of); small = omega (arith, bounds kind of) }
+    go false b p q = no (λ o. omega (arith, leb-false 1 kind p, o .low))
+    go true false p q = no (λ o. omega (arith, leb-false kind 4 q, o .high))
+
+-- what a good node type is
+pub record Typed (kind node : ℕ) : Type 0 where
+  pub high : node ≤ largestType
+  pub unit : kind ≡ 4 → 15 ≤ node
+  pub other : (kind ≡ 4 → ⊥) → node ≤ 14
+
+typed : (kind node : ℕ) → goodType kind node ≡ true → Typed kind node
+typed kind node = go (eqb kind 4) refl
+  where
+    go : (t : Bool) → eqb kind 4 ≡ t → cond t (within 15 largestType node) (within 1 14 node) ≡ true → Typed kind node
+    go true e h =
+        let four = eqb-true kind 4 e in
+        let low = leb-true 15 node (and-left _ (leb node largestType) h) in
+        record { high = leb-true node largestType (and-right (leb 15 node) _ h); unit = λ _. low; other = λ n. absurd (n four) }
+    go false e h =
+        let small = leb-true node 14 (and-right (leb 1 node) _ h) in
+        record { high = omega arith; unit = λ f. absurd (eqb-false kind 4 e f); other = λ _. small }
 
 -- ---- the test of a record in code
 
@@ -78,29 +107,29 @@ module _ (left len kind node : ℕ) where
   pub cut-off : left < len + 2 → false ≡ goodAt left len kind node
   cut-off h = rw (lt-leb (len + 2) left h)
 
-  pub type-only : len + 2 ≤ left → goodFrame len kind ≡ true → goodType node ≡ goodAt left len kind node
+  pub type-only : len + 2 ≤ left → goodFrame len kind ≡ true → goodType kind node ≡ goodAt left len kind node
   type-only h e = rw (le-leb (len + 2) left h, e)
 
   -- what a good record tells
   pub room : goodAt left len kind node ≡ true → len + 2 ≤ left
-  room e = leb-true (len + 2) left (and-left _ (goodFrame len kind && within 1 largestType node) e)
+  room e = leb-true (len + 2) left (and-left _ (goodFrame len kind && goodType kind node) e)
 
   pub frame-good : goodAt left len kind node ≡ true → goodFrame len kind ≡ true
-  frame-good e = and-left _ (within 1 largestType node) (and-right (leb (len + 2) left) _ e)
+  frame-good e = and-left _ (goodType kind node) (and-right (leb (len + 2) left) _ e)
 
   pub frame : goodAt left len kind node ≡ true → Framed len kind
   frame e = framed len kind (frame-good e)
 
-  pub node-high : goodAt left len kind node ≡ true → node ≤ largestType
-  node-high e = leb-true node largestType (and-right (leb 1 node) _ (and-right (goodFrame len kind) _ (and-right (leb (len + 2) left) _ e)))
+  pub type-good : goodAt left len kind node ≡ true → Typed kind node
+  type-good e = typed kind node (and-right (goodFrame len kind) _ (and-right (leb (len + 2) left) _ e))
 
 -- the same record is good wherever it fits
 pub good-again : (left left′ len kind node : ℕ) → goodAt left len kind node ≡ true → len + 2 ≤ left′ → goodAt left′ len kind node ≡ true
 good-again left left′ len kind node e h = rw (le-leb (len + 2) left′ h) (and-right (leb (len + 2) left) _ e)
 
-opcode-kind : (r : List ℕ) (k : ℕ) → kindOf r ≡ k → IsOpcode k → opcode (operationOf r) ≡ k
+opcode-kind : (r : List ℕ) (k : ℕ) → kindOf r ≡ k → IsKind k → opcode (operationOf r) ≡ opcodeFor k
 unfolding operationOf
-opcode-kind r k e o = each-code (λ (n : ℕ). kindOf r ≡ n → opcode (operationOf r) ≡ n) (λ q. rw q) (λ q. rw q) (λ q. rw q) k o e
+opcode-kind r k e o = each-kind (λ (n : ℕ). kindOf r ≡ n → opcode (operationOf r) ≡ opcodeFor n) (λ q. rw q) (λ q. rw q) (λ q. rw q) (λ q. rw q) k o e
 
 -- ---- the record at a place
 
@@ -128,7 +157,7 @@ module _ (j : List ℕ) (at : ℕ) where
   unfolding goodRecord
   good-here = go (leb 6 len) refl
     where
-      go : (t : Bool) → leb 6 len ≡ t → (whole here && (goodFrame (lengthOf here) (kindOf here) && goodType (nodeType here))) ≡ goodAt left len kind node
+      go : (t : Bool) → leb 6 len ≡ t → (whole here && (goodFrame (lengthOf here) (kindOf here) && goodType (kindOf here) (nodeType here))) ≡ goodAt left len kind node
       go true e =
           let l = leb-true 6 len e in
           rw (whole-at j at, record-length j at, record-kind j at (omega arith), node-here (omega arith), le-leb 2 len (omega arith))
@@ -177,37 +206,60 @@ module _ (j : List ℕ) (at : ℕ) where
     frame-here : Framed len kind
     frame-here = frame left len kind node good-is
 
-    pub good-size : (10 ≤ sizeOf (drop at j)) × (sizeOf (drop at j) ≤ 14)
+    pub good-length : sizeOf (drop at j) ≡ lengthFor kind + 2
+    good-length = ap (λ (n : ℕ). n + 2) (frame-here .length-is)
+
+    pub good-size : (10 ≤ sizeOf (drop at j)) × (sizeOf (drop at j) ≤ 18)
     good-size = (omega (arith, frame-here .large), omega (arith, frame-here .small))
 
     pub good-fits : sizeOf (drop at j) ≤ left
     good-fits = room left len kind node good-is
 
-    pub good-kind : IsOpcode kind
+    pub good-kind : IsKind kind
     good-kind = frame-here .of
 
-    pub good-node : node ≤ largestType
-    good-node = node-high left len kind node good-is
+    type-here : Typed kind node
+    type-here = type-good left len kind node good-is
 
-    pub shape-bounds : (s : Shape) → s ≡ shapeAt j at → (s .kind ≤ 3) × (s .node ≤ largestType)
+    pub good-node : node ≤ largestType
+    good-node = type-here .high
+
+    pub shape-bounds : (s : Shape) → s ≡ shapeAt j at → (s .kind ≤ 4) × (s .node ≤ largestType)
     shape-bounds s e = rw e (good-kind .high, good-node)
 
-    pub good-addition : kind ≡ 3 → sizeOf (drop at j) ≡ 14
-    good-addition e =
-        let l = eqb-true len 12 (sym (frame-is len 3 code-3) ∙ ap (goodFrame len) (sym e) ∙ frame-good left len kind node good-is) in
-        omega arith
+    kind-here : kindOf here ≡ kind
+    kind-here = record-kind j at (omega (arith, frame-here .large))
 
-    -- whether a selection reports it, by its kind and node type
-    pub good-reports : (sel : Selection) (code : ℕ) → reports sel code (entryOf here) ≡ (eqb kind code && holds (getD (sel .sets) node 0) code)
+    -- whether a selection reports it, by its kind, node type and unit
+    pub good-reports : (sel : Selection) (code : ℕ) → reports sel code (entryOf here) ≡ ((eqb (opcodeFor kind) code && holds (getD (sel .sets) node 0) code) && asks (sel .units) (entryOf here))
     unfolding reports
-    good-reports sel code =
-        let f = frame-here in
-        let op : opcode (operationOf here) ≡ kind = opcode-kind here kind (record-kind j at (omega (arith, f .large))) (f .of) in
-        rw (op, node-here (omega (arith, f .large)))
+    good-reports sel code = rw (opcode-kind here kind kind-here good-kind, node-here (omega (arith, frame-here .large)))
 
-    -- a record that is reported under an opcode is of its kind
-    pub reported-kind : (sel : Selection) (code : ℕ) → reports sel code (entryOf here) ≡ true → kind ≡ code
-    reported-kind sel code e = eqb-true kind code (and-left _ (holds (getD (sel .sets) node 0) code) (sym (good-reports sel code) ∙ e))
+    -- a record that is reported under an opcode is of one of its kinds
+    pub reported-kind : (sel : Selection) (code : ℕ) → reports sel code (entryOf here) ≡ true → opcodeFor kind ≡ code
+    reported-kind sel code e =
+        let both = and-left _ (asks (sel .units) (entryOf here)) (sym (good-reports sel code) ∙ e) in
+        eqb-true (opcodeFor kind) code (and-left _ (holds (getD (sel .sets) node 0) code) both)
+
+    -- whether its unit is asked for: of kind 4 by the address, of the other kinds always
+    pub asked-unit : (units : Units) (w : ℕ) → kind ≡ 4 → asked units j at w ≡ cond (isUnit units (le 8 j (at + 6))) w 0
+    unfolding unitOf
+    asked-unit All w e = refl
+    asked-unit (One u) w e =
+        let small : leb (nodeType here) 14 ≡ false = lt-leb (nodeType here) 14 (omega (arith, node-here (omega (arith, frame-here .large)), type-here .unit e)) in
+        rw (small, kind-here, e, field-at j at 8 6 (omega (arith, good-length, ap lengthFor e)))
+
+    pub asked-other : (units : Units) (w : ℕ) → (kind ≡ 4 → ⊥) → asked units j at w ≡ w
+    asked-other All w n = refl
+    asked-other (One u) w n = rw (le-leb (nodeType here) 14 (omega (arith, node-here (omega (arith, frame-here .large)), type-here .other n)))
+
+    -- which is inside
+    pub unit-inside : kind ≡ 4 → 18 ≤ left
+    unit-inside e = omega (arith, good-fits, good-length, ap lengthFor e)
+
+    -- its size tells kind 4
+    pub unit-size : sizeOf (drop at j) ≡ 18 → kind ≡ 4
+    unit-size e = each-kind (λ (k : ℕ). lengthFor k + 2 ≡ 18 → k ≡ 4) (λ q. absurd (omega arith)) (λ q. absurd (omega arith)) (λ q. absurd (omega arith)) (λ q. refl) kind good-kind (sym good-length ∙ e)
 
 -- ---- what a good record adds
 
@@ -221,40 +273,61 @@ count-one kind code o = each-code (λ (k : ℕ). (c : ℕ) → IsOpcode c → co
 count-zero : (code : ℕ) → IsOpcode code → count code 0 ≡ 0
 count-zero = each-code (λ (c : ℕ). count c 0 ≡ 0) refl refl refl
 
-module _ (sel : Selection) (kind node : ℕ) (of : IsOpcode kind) where
-  weight-adds : (code : ℕ) → IsOpcode code → count code (weightOf sel kind node) ≡ one-if (eqb kind code && holds (getD (sel .sets) node 0) code)
-  weight-adds code o = go (holds (getD (sel .sets) node 0) kind) (eqb kind code) refl refl
-    where
-      go : (t u : Bool) → holds (getD (sel .sets) node 0) kind ≡ t → eqb kind code ≡ u → count code (cond (holds (getD (sel .sets) node 0) kind) (countLimit ^ (kind - 1)) 0) ≡ one-if (eqb kind code && holds (getD (sel .sets) node 0) code)
-      go true true p q = rw (p, count-one kind code of o, q, ← eqb-true kind code q, p)
-      go true false p q = rw (p, count-one kind code of o, q)
-      go false true p q = rw (p, count-zero code o, q, ← eqb-true kind code q, p)
-      go false false p q = rw (p, count-zero code o, q)
+-- the weight of an opcode, where a set holds it
+abbrev weight-in : ℕ → ℕ → ℕ
+weight-in set op = cond (holds set op) (countLimit ^ (op - 1)) 0
 
-  weight-light : (count 1 (weightOf sel kind node) + count 2 (weightOf sel kind node) + count 3 (weightOf sel kind node) ≤ 1) × (weightOf sel kind node ≤ largestWeight)
-  weight-light =
-      each-code (λ (k : ℕ). Light (cond (holds (getD (sel .sets) node 0) k) (countLimit ^ (k - 1)) 0)) (go 1 1 (omega arith)) (go 2 countLimit (omega arith)) (go 3 largestWeight (omega arith)) kind of
-    where
-      Light : ℕ → Type 0
-      Light w = (count 1 w + count 2 w + count 3 w ≤ 1) × (w ≤ largestWeight)
+weight-adds : (set op code : ℕ) → IsOpcode op → IsOpcode code → count code (weight-in set op) ≡ one-if (eqb op code && holds set code)
+weight-adds set op code of o = go (holds set op) (eqb op code) refl refl
+  where
+    go : (t u : Bool) → holds set op ≡ t → eqb op code ≡ u → count code (cond (holds set op) (countLimit ^ (op - 1)) 0) ≡ one-if (eqb op code && holds set code)
+    go true true p q = rw (p, count-one op code of o, q, ← eqb-true op code q, p)
+    go true false p q = rw (p, count-one op code of o, q)
+    go false true p q = rw (p, count-zero code o, q, ← eqb-true op code q, p)
+    go false false p q = rw (p, count-zero code o, q)
 
-      go : (k w : ℕ) → Light w → Light (cond (holds (getD (sel .sets) node 0) k) w 0)
-      go k w h = choose (holds (getD (sel .sets) node 0) k) Light {x = w} {y = 0} (λ _. h) (λ _. (omega arith, omega arith))
+-- at most one operation
+abbrev pub Light : ℕ → Type 0
+Light w = (count 1 w + count 2 w + count 3 w ≤ 1) × (w ≤ largestWeight)
+
+light-none : Light 0
+light-none = (omega arith, omega arith)
+
+weight-light : (set op : ℕ) → IsOpcode op → Light (weight-in set op)
+weight-light set = each-code (λ (k : ℕ). Light (weight-in set k)) (go 1 1 (omega arith, omega arith)) (go 2 countLimit (omega arith, omega arith)) (go 3 largestWeight (omega arith, omega arith))
+  where
+    go : (k w : ℕ) → Light w → Light (cond (holds set k) w 0)
+    go k w h = choose (holds set k) Light {x = w} {y = 0} (λ _. h) (λ _. light-none)
 
 -- ---- a record with its weight
 
 module _ (sel : Selection) (j : List ℕ) (at size weight : ℕ) (g : Weighed sel j at size weight) where
-  pub weighed-size : (10 ≤ size) × (size ≤ 14)
+  pub weighed-size : (10 ≤ size) × (size ≤ 18)
   weighed-size = rw (g .size-is) at (good-size j at (g .good))
 
   pub weighed-fits : size ≤ length j - at
   weighed-fits = rw (g .size-is) at (good-fits j at (g .good))
 
-  pub weighed-light : (count 1 weight + count 2 weight + count 3 weight ≤ 1) × (weight ≤ largestWeight)
-  weighed-light = rw (g .weight-is) (weight-light sel (kindOf (drop at j)) (le 2 j (at + 4)) (good-kind j at (g .good)))
+  opcode-here : IsOpcode (opcodeFor (kindOf (drop at j)))
+  opcode-here = kind-opcode (kindOf (drop at j)) (good-kind j at (g .good))
+
+  pub weighed-light : Light weight
+  weighed-light =
+      let set = getD (sel .sets) (le 2 j (at + 4)) 0 in
+      rw (g .weight-is) (choose (asks (sel .units) (entryOf (here j at))) Light {x = weight-in set (opcodeFor (kindOf (drop at j)))} {y = 0} (λ _. weight-light set _ opcode-here) (λ _. light-none))
 
   pub weighed-adds : (code : ℕ) → IsOpcode code → count code weight ≡ one-if (reports sel code (entryOf (here j at)))
-  weighed-adds code o = rw (g .weight-is, good-reports j at (g .good) sel code) (weight-adds sel (kindOf (drop at j)) (le 2 j (at + 4)) (good-kind j at (g .good)) code o)
+  weighed-adds code o = rw (g .weight-is, good-reports j at (g .good) sel code) (go (asks (sel .units) (entryOf (here j at))))
+    where
+      set : ℕ
+      set = getD (sel .sets) (le 2 j (at + 4)) 0
+
+      op : ℕ
+      op = opcodeFor (kindOf (drop at j))
+
+      go : (t : Bool) → count code (cond t (weight-in set op) 0) ≡ one-if ((eqb op code && holds set code) && t)
+      go true = weight-adds set op code opcode-here o ∙ ap one-if (sym (and-true (eqb op code && holds set code)))
+      go false = count-zero code o ∙ ap one-if (sym (and-false (eqb op code && holds set code)))
 
 -- ---- a header
 
@@ -269,23 +342,38 @@ module _ (j : List ℕ) (bytes : Bytes j) (w at i : ℕ) (h : le (2 + w) j i ≡
   first-two : le 2 j i ≡ le 2 j at
   first-two = omega (arith, split-two, behind-two)
 
-module _ (sel : Selection) (j : List ℕ) (bytes : Bytes j) (at size weight : ℕ) (g : Weighed sel j at size weight) where
-  again : (i : ℕ) → i + size ≤ length j → le 6 j i ≡ le 6 j at → Weighed sel j i size weight
+-- wherever the header of a good record stands, there is one of its size and of its weight
+module _ (sel : Selection) (j : List ℕ) (bytes : Bytes j) (at : ℕ) (good : goodHere j at ≡ true) where
+  again : (i : ℕ) → i + sizeOf (drop at j) ≤ length j → le 6 j i ≡ le 6 j at
+      → Weighed sel j i (sizeOf (drop at j)) (asked (sel .units) j i (weightOf (sel .sets) (kindOf (drop at j)) (le 2 j (at + 4))))
   again i r h =
       let four = behind-two j bytes 4 at i h in
       let len : lengthOf (drop at j) ≡ lengthOf (drop i j) = length-at j at ∙ sym (length-at j i ∙ first-two j bytes 4 at i h) in
       let kind : kindOf (drop at j) ≡ kindOf (drop i j) = kind-at j at ∙ sym (kind-at j i ∙ first-two j bytes 2 (at + 2) (i + 2) four) in
       let node : le 2 j (at + 4) ≡ le 2 j (i + 4) = ap (le 2 j) (sym (add-assoc at 2 2)) ∙ sym (behind-two j bytes 2 (at + 2) (i + 2) four) ∙ ap (le 2 j) (add-assoc i 2 2) in
       record {
-        size-is = ap (λ (n : ℕ). n + 2) (sym len) ∙ g .size-is;
-        good = good-read j i _ _ _ len kind node ∙ good-again (length j - at) (length j - i) (lengthOf (drop at j)) (kindOf (drop at j)) (le 2 j (at + 4)) (good-is j at (g .good)) (omega (arith, g .size-is));
-        weight-is = g .weight-is ∙ rw (kind, node);
+        size-is = ap (λ (n : ℕ). n + 2) (sym len);
+        good = good-read j i _ _ _ len kind node ∙ good-again (length j - at) (length j - i) (lengthOf (drop at j)) (kindOf (drop at j)) (le 2 j (at + 4)) (good-is j at good) (omega arith);
+        weight-is = rw (kind, node);
       }
 
-  pub known : Known sel j (le 6 j at) size weight
-  known =
-      let s = weighed-size sel j at size weight g in
-      record { large = s .0; small = s .1; narrow = weighed-light sel j at size weight g .1; here = again }
+  pub known : (s : Same) → s .header ≡ le 6 j at → s .size ≡ sizeOf (drop at j) → s .weight ≡ weightOf (sel .sets) (kindOf (drop at j)) (le 2 j (at + 4)) → Known sel j s
+  known s p q r =
+      let size = good-size j at good in
+      let light = weight-light (getD (sel .sets) (le 2 j (at + 4)) 0) _ (kind-opcode (kindOf (drop at j)) (good-kind j at good)) in
+      record { large = omega arith; small = omega arith; narrow = rw r (light .1); here = rw (p, q, r) again }
+
+-- the units of such records are all asked for where all units are, or where they have none
+module _ (row j : List ℕ) (units : Units) (s : Same) (k : Known (asking row units) j s) where
+  pub all-asked-other : (s .size ≡ 18 → ⊥) → AllAsked (asking row units) j s
+  all-asked-other n at fits e =
+      let g = k .here at fits e in
+      let other : kindOf (drop at j) ≡ 4 → ⊥ = λ q. n (sym (g .size-is) ∙ good-length j at (g .good) ∙ ap (λ (m : ℕ). lengthFor m + 2) q) in
+      one-is _ (asked-other j at (g .good) units 1 other)
+    where
+      one-is : (t : Bool) → _≡_ {A = ℕ} (cond t 1 0) 1 → t ≡ true
+      one-is true q = refl
+      one-is false q = absurd (omega arith)
 
 -- four equal headers
 pub four-equal : (a b c d h : ℕ) → (eqb a h && (eqb b h && (eqb c h && eqb d h))) ≡ true → (a ≡ h) × (b ≡ h) × (c ≡ h) × (d ≡ h)

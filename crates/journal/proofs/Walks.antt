@@ -1,22 +1,25 @@
 -- A walk over good records, and how it resumes the list of an opcode.
-use mathlib.Core.Path.{_≡_, sym, ap, _∙_}
+use mathlib.Core.Path.{_≡_, refl, sym, ap, _∙_}
 use mathlib.Core.Bool.{true}
 use mathlib.Core.List.{List, _∷_}
 use Prim.Native.Nat.{ℕ, _+_, _-_, _<_, _≤_}
 use native.Mathlib.Omega.{arith}
+use lib.Dec.{leb}
 use lib.ListN.{length, drop}
+use borrow.Author.Tests.{leb-true}
+use Rattle.words.specs.Numbers.{le}
 use Rattle.records.specs.Records.{kindOf, sizeOf, firstRecord, records, allGood, sizeLimit}
 use Rattle.records.proofs.Choosing.{one-if, one-if-le, chosen-length, chosen-skip}
 use Rattle.records.proofs.Steps.{judge-step, formed-good, formed-within, record-kind, field-at}
 use Rattle.journal.specs.Scope.{Selection}
 use Rattle.journal.specs.Journal.{goodRecord, wellFormed, operands, operationOf, Entry, entryOf, entries}
 use Rattle.journal.specs.Reportable.{operation, reports, chosen}
-use Rattle.journal.specs.Marks.{Resumes, operandsAt}
-use Rattle.journal.specs.Scanning.{goodHere}
+use Rattle.journal.specs.Marks.{Resumes, operandsBefore}
+use Rattle.journal.specs.Scanning.{opcodeFor, lengthFor, goodHere}
 use Rattle.words.proofs.Choice.{and-left, and-right}
-use Rattle.journal.proofs.Opcodes.{each-code}
+use Rattle.journal.proofs.Opcodes.{each-kind}
 use Rattle.journal.proofs.Entries.{each-entry}
-use Rattle.journal.proofs.RecordLaws.{good-size, good-fits, good-kind, good-addition, reported-kind}
+use Rattle.journal.proofs.RecordLaws.{good-size, good-fits, good-kind, good-length, reported-kind}
 
 -- the records of a well-formed journal are good
 pub all-good : (j : List ℕ) → wellFormed j ≡ true → allGood goodRecord (records j) ≡ true
@@ -42,20 +45,26 @@ module _ (j : List ℕ) (at : ℕ) (inside : at < length j) (good : allGood good
   pub walked-fits : at + sizeOf (drop at j) ≤ length j
   walked-fits = omega (arith, good-fits j at walked)
 
-  -- an addition's record has fourteen bytes, and every other ten
-  pub walked-size : (10 ≤ sizeOf (drop at j)) × (kindOf (drop at j) ≡ 3 → sizeOf (drop at j) ≡ 14)
-  walked-size = (good-size j at walked .0, good-addition j at walked)
+  -- any record has room for two operand words behind its length
+  pub walked-size : 10 ≤ sizeOf (drop at j)
+  walked-size = good-size j at walked .0
 
-  -- the operands of a reported record are the numbers at its place
-  pub walked-operands : (sel : Selection) (code : ℕ) → reports sel code (entryOf (firstRecord (drop at j))) ≡ true → operands (operationOf (firstRecord (drop at j))) ≡ operandsAt j code at
+  -- the operands of a reported record are the numbers that it ends in
+  pub walked-operands : (sel : Selection) (code : ℕ) → reports sel code (entryOf (firstRecord (drop at j))) ≡ true → operands (operationOf (firstRecord (drop at j))) ≡ operandsBefore j code (at + sizeOf (drop at j))
   unfolding operationOf
   walked-operands sel code e =
-      let kind = reported-kind j at walked sel code e in
-      let here = record-kind j at (omega (arith, walked-size .0)) ∙ kind in
-      let first = field-at j at 4 6 (omega (arith, walked-size .0)) in
-      each-code (λ (k : ℕ). kindOf (drop at j) ≡ k → kindOf (firstRecord (drop at j)) ≡ k → operands (operationOf (firstRecord (drop at j))) ≡ operandsAt j k at)
-      (λ _ q. rw (q, first)) (λ _ q. rw (q, first)) (λ p q. rw (q, first, field-at j at 4 10 (omega (arith, walked-size .1 p))))
-      code (rw kind at (good-kind j at walked)) kind here
+      let at-field : (i : ℕ) → i + 4 ≤ sizeOf (drop at j) → le 4 (firstRecord (drop at j)) i ≡ le 4 j (at + i) = field-at j at 4 in
+      each-kind (λ (k : ℕ). kindOf (firstRecord (drop at j)) ≡ k → sizeOf (drop at j) ≡ lengthFor k + 2 → operands (operationOf (firstRecord (drop at j))) ≡ operandsBefore j (opcodeFor k) (at + (lengthFor k + 2)))
+      (λ q s. rw (q, at-field 6 (omega arith), back at 10 4 6 refl refl))
+      (λ q s. rw (q, at-field 6 (omega arith), back at 10 4 6 refl refl))
+      (λ q s. rw (q, at-field 6 (omega arith), at-field 10 (omega arith), back at 14 8 6 refl refl, back at 14 4 10 refl refl))
+      (λ q s. rw (q, at-field 14 (omega arith), back at 18 4 14 refl refl))
+      (kindOf (drop at j)) (good-kind j at walked) (record-kind j at (omega (arith, walked-size))) (good-length j at walked)
+      ∙ ap (λ (n : ℕ). operandsBefore j (opcodeFor (kindOf (drop at j))) (at + n)) (sym (good-length j at walked))
+      ∙ ap (λ (k : ℕ). operandsBefore j k (at + sizeOf (drop at j))) (reported-kind j at walked sel code e)
+    where
+      back : (at n k i : ℕ) → _≡_ {A = ℕ} (n - k) i → leb k n ≡ true → at + n - k ≡ at + i
+      back at n k i e h = let l = leb-true k n h in omega arith
 
 -- a walk that has operations to pass over goes on past a record
 pub resumes-step : (sel : Selection) (j : List ℕ) (code k at skip : ℕ) → allGood goodRecord (records j) ≡ true → at < length j → 0 < skip → Resumes sel j code k at skip

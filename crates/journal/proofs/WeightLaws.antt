@@ -12,10 +12,10 @@ use borrow.Author.Count.{below-more}
 use Rattle.words.specs.Numbers.{le}
 use Rattle.records.specs.Records.{kindOf}
 use Rattle.journal.specs.declared.judging.Shape.{Shape}
-use Rattle.journal.specs.Journal.{largestType, IsOpcode}
+use Rattle.journal.specs.Journal.{largestType}
 use Rattle.journal.specs.Scope.{holds, Selection}
 use Rattle.journal.specs.Marks.{countLimit}
-use Rattle.journal.specs.Scanning.{goodHere, shapeAt, weightOf, Weights, Weighed}
+use Rattle.journal.specs.Scanning.{IsKind, goodHere, shapeAt, weightOf, asked, Weights, Weighed}
 use Rattle.journal.proofs.RecordLaws.{good-kind, good-node}
 
 -- a weight times a bit is the choice by the bit
@@ -28,41 +28,47 @@ bit-chooses w (suc (suc n)) h = absurd (omega arith)
 pub bit-is : (set code : ℕ) → set / 2 ^ (code - 1) % 2 ≡ cond (holds set code) 1 0
 bit-is set code = sym (one-mul (set / 2 ^ (code - 1) % 2)) ∙ bit-chooses 1 (set / 2 ^ (code - 1) % 2) (omega arith)
 
--- what `weight` computes, from the set's bit of the kind
-pub weight-is : (set kind w : ℕ) → w ≡ countLimit ^ (kind - 1) * (set / 2 ^ (kind - 1) % 2) → w ≡ cond (holds set kind) (countLimit ^ (kind - 1)) 0
-weight-is set kind w e = e ∙ bit-chooses (countLimit ^ (kind - 1)) (set / 2 ^ (kind - 1) % 2) (omega arith)
+-- what `weight` computes, from the set's bit of the opcode
+pub weight-is : (set op w : ℕ) → w ≡ countLimit ^ (op - 1) * (set / 2 ^ (op - 1) % 2) → w ≡ cond (holds set op) (countLimit ^ (op - 1)) 0
+weight-is set op w e = e ∙ bit-chooses (countLimit ^ (op - 1)) (set / 2 ^ (op - 1) % 2) (omega arith)
 
 -- the table, filled below a place: the invariant of `weights_of`
-pub record Filled (sel : Selection) (table : List ℕ) (i : ℕ) : Type 0 where
+pub record Filled (sets table : List ℕ) (i : ℕ) : Type 0 where
   pub size : length table ≡ 160
   pub low : 32 ≤ i
-  pub high : i ≤ 128
-  pub each : (k : ℕ) → k < i → 32 ≤ k → getD table k 0 ≡ weightOf sel (k / 32) (k % 32)
+  pub high : i ≤ 160
+  pub each : (k : ℕ) → k < i → 32 ≤ k → getD table k 0 ≡ weightOf sets (k / 32) (k % 32)
 
 -- a turn of its loop
-pub filled-next : (sel : Selection) (table : List ℕ) (i w : ℕ) → Filled sel table i → i < 128 → w ≡ weightOf sel (i / 32) (i % 32) → Filled sel (set table i w) (i + 1)
-filled-next sel table i w f h e =
+pub filled-next : (sets table : List ℕ) (i w : ℕ) → Filled sets table i → i < 160 → w ≡ weightOf sets (i / 32) (i % 32) → Filled sets (set table i w) (i + 1)
+filled-next sets table i w f h e =
     record {
       size = simp length-set (f .size);
       low = omega arith;
       high = omega arith;
-      each = below-more (λ (k : ℕ). 32 ≤ k → getD (set table i w) k 0 ≡ weightOf sel (k / 32) (k % 32)) i
+      each = below-more (λ (k : ℕ). 32 ≤ k → getD (set table i w) k 0 ≡ weightOf sets (k / 32) (k % 32)) i
           (λ k l g. getD-set-other table i k w 0 (λ q. omega arith) ∙ f .each k l g)
           (λ g. getD-set-same table i w 0 (omega arith) ∙ e);
     }
 
 -- the table's entry of a good record
-weight-at : (sel : Selection) (table : List ℕ) (kind node : ℕ) → Weights sel table → IsOpcode kind → node ≤ largestType → getD table (32 * kind + node) 0 ≡ weightOf sel kind node
-weight-at sel table kind node w o n =
+weight-at : (sets table : List ℕ) (kind node : ℕ) → Weights sets table → IsKind kind → node ≤ largestType → getD table (32 * kind + node) 0 ≡ weightOf sets kind node
+weight-at sets table kind node w o n =
     let k : (32 * kind + node) / 32 ≡ kind = omega arith in
     let m : (32 * kind + node) % 32 ≡ node = omega arith in
     rw (k, m) at (w (32 * kind + node) (omega arith) (omega arith))
 
--- a good record with the weight that the table has for its shape
-pub weighed : (sel : Selection) (j table : List ℕ) (at : ℕ) (s : Shape) (w : ℕ) → Weights sel table → (goodHere j at ≡ true) × (s ≡ shapeAt j at) → w ≡ getD table (32 * s .kind + s .node) 0 → Weighed sel j at (s .size) w
+-- the table's weight of a good record's shape
+pub shape-weight : (sets j table : List ℕ) (at : ℕ) (s : Shape) → Weights sets table → goodHere j at ≡ true → s ≡ shapeAt j at
+    → getD table (32 * s .kind + s .node) 0 ≡ weightOf sets (kindOf (drop at j)) (le 2 j (at + 4))
+shape-weight sets j table at s t g e = rw e (weight-at sets table (kindOf (drop at j)) (le 2 j (at + 4)) t (good-kind j at g) (good-node j at g))
+
+-- a good record with the weight that it adds
+pub weighed : (sel : Selection) (j table : List ℕ) (at : ℕ) (s : Shape) (w : ℕ) → Weights (sel .sets) table → (goodHere j at ≡ true) × (s ≡ shapeAt j at)
+    → w ≡ asked (sel .units) j at (getD table (32 * s .kind + s .node) 0) → Weighed sel j at (s .size) w
 weighed sel j table at s w t g e =
     record {
       size-is = sym (ap (λ (x : Shape). x .size) (g .1));
       good = g .0;
-      weight-is = e ∙ rw (g .1) (weight-at sel table (kindOf (drop at j)) (le 2 j (at + 4)) t (good-kind j at (g .0)) (good-node j at (g .0)));
+      weight-is = e ∙ ap (asked (sel .units) j at) (shape-weight (sel .sets) j table at s t (g .0) (g .1));
     }

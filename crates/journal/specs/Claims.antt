@@ -17,6 +17,10 @@ short len kind node = len ∷ 0 ∷ kind ∷ 0 ∷ node ∷ 0 ∷ 42 ∷ 0 ∷ 0
 abbrev pub long : ℕ → ℕ → ℕ → List ℕ
 long len kind node = short len kind node ++ (5 ∷ 0 ∷ 0 ∷ 16 ∷ [])
 
+-- a record of this length, kind and node type, of the unit 7, with the operand 42
+abbrev pub unit : ℕ → ℕ → ℕ → List ℕ
+unit len kind node = len ∷ 0 ∷ kind ∷ 0 ∷ node ∷ 0 ∷ 7 ∷ 0 ∷ 0 ∷ 0 ∷ 0 ∷ 0 ∷ 0 ∷ 0 ∷ 42 ∷ 0 ∷ 0 ∷ 0 ∷ []
+
 -- each rule of a well-formed journal from both sides
 abbrev pub cases : List (Case (List ℕ))
 cases =
@@ -29,14 +33,26 @@ cases =
     ∷ no (short 8 0 10)
     ∷ no (short 8 3 10)
     ∷ no (short 8 4 10)
+    ∷ no (short 8 5 10)
     ∷ no (long 12 1 10)
     ∷ no (long 12 2 10)
     ∷ no (long 12 4 10)
+    -- 02: "Journal kind 4 holds type, an eight-byte unit address and a phandle, length 16, for these types alone; .. these types in kinds 1 to 3 are malformed."
+    ∷ no (unit 16 4 14)
+    ∷ yes (unit 16 4 15)
+    ∷ yes (unit 16 4 16)
+    ∷ no (unit 16 4 17)
+    ∷ no (unit 15 4 15)
+    ∷ no (unit 16 2 15)
+    ∷ no (unit 16 5 15)
+    ∷ no (short 8 1 15)
+    ∷ no (short 8 2 15)
+    ∷ no (short 8 2 16)
+    ∷ no (long 12 3 15)
     -- "Node types: 1 root, .. 14 memory-utilization instrumentation."
     ∷ yes (short 8 1 1)
     ∷ yes (short 8 1 14)
     ∷ no (short 8 1 0)
-    ∷ no (short 8 1 15)
     -- the length, the kind and the node type are two bytes each
     ∷ no (8 ∷ 1 ∷ 1 ∷ 0 ∷ 10 ∷ 0 ∷ 42 ∷ 0 ∷ 0 ∷ 0 ∷ [])
     ∷ no (8 ∷ 0 ∷ 1 ∷ 1 ∷ 10 ∷ 0 ∷ 42 ∷ 0 ∷ 0 ∷ 0 ∷ [])
@@ -64,3 +80,4 @@ abbrev pub ScopeRows : Type 0
 ScopeRows = ((scope : ℕ) → 2147483648 ≤ scope → rowOf scope ≡ 0 ∷ 0 ∷ 0 ∷ 0 ∷ 0 ∷ 2 ∷ 0 ∷ 0 ∷ 2 ∷ 2 ∷ 7 ∷ 7 ∷ 7 ∷ 7 ∷ 7 ∷ 0 ∷ 0 ∷ [])
     × (rowOf 1 ≡ 0 ∷ 2 ∷ 2 ∷ 2 ∷ 2 ∷ 2 ∷ 7 ∷ 2 ∷ 2 ∷ 7 ∷ 7 ∷ 7 ∷ 7 ∷ 7 ∷ 7 ∷ 0 ∷ 0 ∷ [])
     × (rowOf 2 ≡ 0 ∷ 0 ∷ 0 ∷ 2 ∷ 0 ∷ 0 ∷ 0 ∷ 0 ∷ 0 ∷ 0 ∷ 0 ∷ 0 ∷ 0 ∷ 0 ∷ 0 ∷ 0 ∷ 0 ∷ [])
+    × (rowOf 3 ≡ 0 ∷ 0 ∷ 0 ∷ 0 ∷ 0 ∷ 0 ∷ 0 ∷ 0 ∷ 0 ∷ 0 ∷ 0 ∷ 0 ∷ 0 ∷ 0 ∷ 0 ∷ 2 ∷ 2 ∷ [])

@@ -30,18 +30,9 @@ pub record Resumes (selection : Selection) (j : List ℕ) (code k at skip : ℕ)
   pub number : length (chosen selection code (entries j)) + skip ≡ k + length (chosen selection code (entries (drop at j)))
   pub same : drop k (chosen selection code (entries j)) ≡ drop skip (chosen selection code (entries (drop at j)))
 
--- The operand words that a record of this opcode's kind holds at a place: a phandle, or a parent's phandle and a drc-index; and where they end.
-abbrev pub firstOperand : List ℕ → ℕ → ℕ
-firstOperand j at = le32 j (at + 6)
-
-abbrev pub secondOperand : List ℕ → ℕ → ℕ
-secondOperand j at = le32 j (at + 10)
-
-abbrev pub operandsAt : List ℕ → ℕ → ℕ → List ℕ
-operandsAt j code at = cond (eqb code 3) (firstOperand j at ∷ secondOperand j at ∷ []) (firstOperand j at ∷ [])
-
-abbrev pub operandsEnd : ℕ → ℕ → ℕ
-operandsEnd code at = at + cond (eqb code 3) 14 10
+-- The operand words of an opcode that a record ends in: a phandle, or a parent's phandle and a drc-index.
+abbrev pub operandsBefore : List ℕ → ℕ → ℕ → List ℕ
+operandsBefore j code end = cond (eqb code 3) (le32 j (end - 8) ∷ le32 j (end - 4) ∷ []) (le32 j (end - 4) ∷ [])
 
 -- A mark is two numbers, a place and the packed counts of what the selection reports before it. Of n marks each resumes the list of every opcode.
 pub record Marked (selection : Selection) (j marks : List ℕ) (n : ℕ) : Type 0 where

@@ -1,11 +1,13 @@
 -- The reportable list of a journal (document 01, "What each scope reports"), and what a scan tells of it.
 use Prim.Native.Nat.{ℕ, _+_}
-use mathlib.Core.Bool.{Bool, cond, _&&_}
+use mathlib.Core.Bool.{Bool, true, cond, _&&_, _||_}
 use mathlib.Core.List.{List, [], _∷_, _++_}
-use lib.Dec.{eqb}
+use lib.Dec.{leb, eqb}
 use lib.ListN.{length, getD}
 use Rattle.records.specs.Choosing.{chosenBy}
 use Rattle.journal.specs.declared.operation.Operation.{Operation}
+use Rattle.journal.specs.declared.scope.Units.{Units}
+use Rattle.journal.specs.declared.scope.Units.the-variants.{All, One}
 use Rattle.journal.specs.declared.scanning.Counts.{Counts}
 use Rattle.journal.specs.declared.scanning.Judgement.{Judgement}
 use Rattle.journal.specs.declared.scanning.Judgement.the-variants.{Malformed, Counted}
@@ -15,9 +17,14 @@ use Rattle.journal.specs.Scope.{holds, Selection}
 abbrev pub operation : Entry → Operation
 operation e = e .operation
 
+-- 02, M-100: ".. and reports only that unit's records": of nodes that have a unit, those of types 15 and 16
+abbrev pub asks : Units → Entry → Bool
+asks All e = true
+asks (One unit) e = leb (e .node) 14 || eqb (e .unit) unit
+
 -- a selection reports an entry under an opcode
 unfoldable pub reports : Selection → ℕ → Entry → Bool
-reports selection code e = eqb (opcode (e .operation)) code && holds (getD (selection .sets) (e .node) 0) code
+reports selection code e = (eqb (opcode (e .operation)) code && holds (getD (selection .sets) (e .node) 0) code) && asks (selection .units) e
 
 -- 01: "Records that the scope doesn't report are passed over.", "Equal records stay as separate operations."
 -- The operations of an opcode that a selection reports, in journal order.

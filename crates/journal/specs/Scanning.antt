@@ -14,21 +14,32 @@ use Rattle.journal.specs.declared.judging.Shape.{Shape}
 use Rattle.journal.specs.declared.judging.Verdict.{Verdict}
 use Rattle.journal.specs.declared.judging.Verdict.the-variants.{Bad, Good}
 use Rattle.journal.specs.declared.marks.Place.{Place}
+use Rattle.journal.specs.declared.scope.Units.{Units}
+use Rattle.journal.specs.declared.scope.Units.the-variants.{All, One}
 use Rattle.journal.specs.declared.stride.Position.{Position}
+use Rattle.journal.specs.declared.stride.Same.{Same}
 use Rattle.journal.specs.declared.stride.Step.{Step}
 use Rattle.journal.specs.declared.stride.Step.the-variants as step
-use Rattle.journal.specs.Journal.{goodFrame, goodType, goodRecord, wellFormed, IsOpcode, entries}
+use Rattle.journal.specs.Journal.{goodFrame, goodType, goodRecord, wellFormed, IsOpcode, entryOf, entries}
 use Rattle.journal.specs.Scope.{holds, Selection}
-use Rattle.journal.specs.Reportable.{reports, operation}
+use Rattle.journal.specs.Reportable.{asks, reports, operation}
 use Rattle.journal.specs.Marks.{countLimit, count, markLimit}
 
--- the length of a record of one of the three kinds
+-- the four kinds of records, and the opcode of each
+pub record IsKind (kind : ℕ) : Type 0 where
+  pub low : 1 ≤ kind
+  pub high : kind ≤ 4
+
+abbrev pub opcodeFor : ℕ → ℕ
+opcodeFor kind = cond (eqb kind 4) 2 kind
+
+-- the length of a record of a kind
 abbrev pub lengthFor : ℕ → ℕ
-lengthFor kind = cond (eqb kind 3) 12 8
+lengthFor kind = cond (eqb kind 4) 16 (cond (eqb kind 3) 12 8)
 
 -- a record of this length, kind and node type is good where so many bytes are left
 abbrev pub goodAt : ℕ → ℕ → ℕ → ℕ → Bool
-goodAt left len kind node = leb (len + 2) left && (goodFrame len kind && goodType node)
+goodAt left len kind node = leb (len + 2) left && (goodFrame len kind && goodType kind node)
 
 -- a good record stands at a place
 abbrev pub goodHere : List ℕ → ℕ → Bool
@@ -65,29 +76,42 @@ abbrev pub Advanced : Selection → List ℕ → ℕ → Step → Type 0
 Advanced selection j end step.Bad = wellFormed j ≡ false
 Advanced selection j end (step.Upto p) = Reached selection j p × (end ≤ p .at)
 
--- what a good record adds to the packed counts
-abbrev pub weightOf : Selection → ℕ → ℕ → ℕ
-weightOf selection kind node = cond (holds (getD (selection .sets) node 0) kind) (countLimit ^ (kind - 1)) 0
+-- what a good record of a unit that is asked for adds to the packed counts
+abbrev pub weightOf : List ℕ → ℕ → ℕ → ℕ
+weightOf sets kind node = cond (holds (getD sets node 0) (opcodeFor kind)) (countLimit ^ (opcodeFor kind - 1)) 0
 
-abbrev pub Weights : Selection → List ℕ → Type 0
-Weights selection table = (i : ℕ) → 32 ≤ i → i < 128 → getD table i 0 ≡ weightOf selection (i / 32) (i % 32)
+abbrev pub Weights : List ℕ → List ℕ → Type 0
+Weights sets table = (i : ℕ) → 32 ≤ i → i < 160 → getD table i 0 ≡ weightOf sets (i / 32) (i % 32)
+
+-- a unit is asked for
+abbrev pub isUnit : Units → ℕ → Bool
+isUnit All unit = true
+isUnit (One wanted) unit = eqb unit wanted
+
+-- what is left of a weight where the record at a place is of a unit that is not asked for
+abbrev pub asked : Units → List ℕ → ℕ → ℕ → ℕ
+asked units j at weight = cond (asks units (entryOf (firstRecord (drop at j)))) weight 0
 
 -- a good record of this size stands at a place, and adds this weight
 pub record Weighed (selection : Selection) (j : List ℕ) (at size weight : ℕ) : Type 0 where
   pub size-is : sizeOf (drop at j) ≡ size
   pub good : goodHere j at ≡ true
-  pub weight-is : weight ≡ weightOf selection (kindOf (drop at j)) (le16 j (at + 4))
+  pub weight-is : weight ≡ asked (selection .units) j at (weightOf (selection .sets) (kindOf (drop at j)) (le16 j (at + 4)))
 
 -- the six bytes of a record's length, kind and node type, as one number, at four places a size apart
 abbrev pub fourHeaded : List ℕ → ℕ → ℕ → ℕ → Bool
 fourHeaded j header size at = eqb (le 6 j at) header && (eqb (le 6 j (at + size)) header && (eqb (le 6 j (at + 2 * size)) header && eqb (le 6 j (at + 3 * size)) header))
 
--- wherever this header stands and the size fits, there is such a record
-pub record Known (selection : Selection) (j : List ℕ) (header size weight : ℕ) : Type 0 where
-  pub large : 10 ≤ size
-  pub small : size ≤ 14
-  pub narrow : weight ≤ largestWeight
-  pub here : (at : ℕ) → at + size ≤ length j → le 6 j at ≡ header → Weighed selection j at size weight
+-- wherever this header stands and the size fits, there is a good record of this size, which adds this weight where its unit is asked for
+pub record Known (selection : Selection) (j : List ℕ) (s : Same) : Type 0 where
+  pub large : 10 ≤ s .size
+  pub small : s .size ≤ 18
+  pub narrow : s .weight ≤ largestWeight
+  pub here : (at : ℕ) → at + s .size ≤ length j → le 6 j at ≡ s .header → Weighed selection j at (s .size) (asked (selection .units) j at (s .weight))
+
+-- a record of this header is one of kind 4, or none of them has a unit that is not asked for
+abbrev pub AllAsked : Selection → List ℕ → Same → Type 0
+AllAsked selection j s = (at : ℕ) → at + s .size ≤ length j → le 6 j at ≡ s .header → asks (selection .units) (entryOf (firstRecord (drop at j))) ≡ true
 
 -- the marks after p was offered as the next one
 pub data Noted (marks : List ℕ) (n : ℕ) (p : Position) : List ℕ → ℕ → Type 0 where

@@ -3,12 +3,9 @@ ghost use mathlib.Core.Path.{_≡_};
 ghost use Prim.Native.Nat.{_+_, _≤_};
 ghost use lib.ListN.{length};
 ghost use Rattle.words.specs.Numbers.{le16};
-ghost use Rattle.journal.specs.Journal.{goodFrame, goodType, IsOpcode};
-ghost use Rattle.journal.specs.Scanning.{lengthFor, goodAt, verdictAt};
+ghost use Rattle.journal.specs.Journal.{goodFrame, goodType};
+ghost use Rattle.journal.specs.Scanning.{IsKind, lengthFor, goodAt, verdictAt};
 use records::Frame;
-
-// Node types are 1 to this one.
-const LARGEST_TYPE: u16 = 14;
 
 // What a record tells of itself before its operands.
 pub struct Shape {
@@ -31,12 +28,12 @@ pub fn read_type(j: &[u8], at: usize) -> u16
     words::read_le16(j, at + 4)
 }
 
-// The length of a record of a kind: 12 for kind 3, and 8 for 1 and 2. It is computed with no test, for the scan's speed.
+// The length of a record of a kind: four times the kind, but 8 for kind 1 too.
 fn length_of(kind: u16) -> u16
-    requires { ⌜ IsOpcode kind ⌝ }
+    requires { ⌜ IsKind kind ⌝ }
     ensures { λ r. ⌜ r ≡ lengthFor kind ⌝ }
 {
-    8 + (kind + 1) / 4 * 4
+    if kind < 2 { 8 } else { 4 * kind }
 }
 
 // The frame: whether a kind is one of the journal's, and the length the one of that kind.
@@ -47,17 +44,20 @@ fn is_framed(frame: Frame) -> bool
     if kind < 1 {
         return false;
     }
-    if 3 < kind {
+    if 4 < kind {
         return false;
     }
     frame.length == length_of(kind)
 }
 
-// The body: whether a node type is one of the journal's.
-fn is_typed(node: u16) -> bool
-    ensures { λ r. ⌜ r ≡ goodType node ⌝ }
+// The body: whether a node type is one of the kind's, 15 and 16 for kind 4, 1 to 14 for the others.
+fn is_typed(kind: u16, node: u16) -> bool
+    ensures { λ r. ⌜ r ≡ goodType kind node ⌝ }
 {
-    1 <= node && node <= LARGEST_TYPE
+    if kind == 4 {
+        return 15 <= node && node <= 16;
+    }
+    1 <= node && node <= 14
 }
 
 // Whether a record of this frame and node type is good where `left` bytes are left. In this order of tests the scan is fastest.
@@ -71,7 +71,7 @@ fn is_good(left: usize, frame: Frame, node: u16) -> bool
     if !is_framed(frame) {
         return false;
     }
-    is_typed(node)
+    is_typed(frame.kind, node)
 }
 
 // The record at a place.

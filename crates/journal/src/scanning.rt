@@ -1,12 +1,13 @@
 // The scan: the whole journal judged and counted in one pass, with marks noted on the way.
 ghost use mathlib.Core.Path.{_≡_};
-ghost use Rattle.journal.specs.Scope.{byRow};
+ghost use Rattle.journal.specs.Scope.{asking};
 ghost use Rattle.journal.specs.Reportable.{judgementOf};
 ghost use Rattle.journal.specs.Marks.{Marked};
 ghost use Rattle.journal.specs.Claims.{WellFormedCases, SizeLimit};
 ghost use Rattle.journal.specs.Scanning.{unpacked};
 use crate::marks::count_of;
 use crate::marks::note;
+use crate::scope::Units;
 use crate::stride::Position;
 use crate::stride::Step;
 use crate::stride::stride;
@@ -41,9 +42,9 @@ fn counts_of(packed: u64) -> Counts
     }
 }
 
-// The journal judged, and the operations counted that the row reports. Which marks were noted is left free; each is true.
-pub fn scan(j: &[u8], row: &[u8; 17]) -> Scanned
-    ensures { λ r. ⌜ (r .judgement ≡ judgementOf (byRow (now (row .entry))) (now (j .entry))) × Marked (byRow (now (row .entry))) (now (j .entry)) (r .marks) (r .noted) ⌝ }
+// The journal judged, and the operations counted that the row reports of the units asked for. Which marks were noted is left free; each is true.
+pub fn scan(j: &[u8], row: &[u8; 17], units: Units) -> Scanned
+    ensures { λ r. ⌜ (r .judgement ≡ judgementOf (asking (now (row .entry)) units) (now (j .entry))) × Marked (asking (now (row .entry)) units) (now (j .entry)) (r .marks) (r .noted) ⌝ }
     ensures rules { λ _. ⌜ WellFormedCases × SizeLimit ⌝ }
 {
     let mut marks: [u64; 128] = [0; 128];
@@ -61,7 +62,7 @@ pub fn scan(j: &[u8], row: &[u8; 17]) -> Scanned
     while at < j.len() {
         let from = Position { at, counts };
         noted = note(&mut marks, noted, from);
-        let step = stride(j, row, &weights, from);
+        let step = stride(j, row, units, &weights, from);
         match step {
             Step::Bad => {
                 return Scanned {

@@ -7,13 +7,20 @@ ghost use lib.ListN.{getD};
 ghost use Rattle.journal.specs.Scope.{rows, scopeRow};
 ghost use Rattle.journal.specs.Claims.{ScopeRows};
 
-// One row for each scope that has one, by node type from 0 to 16, of which there are 1 to 14: negative scopes, scope 1, scope 2.
+// One row for each scope that has one, by node type from 0 to 16, of which there are 1 to 16: negative scopes, scopes 1, 2 and 3.
 // An entry is the set of opcodes that the scope reports of the type: 1 delete, 2 update, 4 add, added up.
-const ROWS: [[u8; 17]; 3] = [
+const ROWS: [[u8; 17]; 4] = [
     [0, 0, 0, 0, 0, 2, 0, 0, 2, 2, 7, 7, 7, 7, 7, 0, 0],
     [0, 2, 2, 2, 2, 2, 7, 2, 2, 7, 7, 7, 7, 7, 7, 0, 0],
     [0, 0, 0, 2, 0, 0, 0, 0, 0, 0, 0, 0, 0, 0, 0, 0, 0],
+    [0, 0, 0, 0, 0, 0, 0, 0, 0, 0, 0, 0, 0, 0, 0, 2, 2],
 ];
+
+// The units that a selection asks for: all of them, or the one of this address.
+pub enum Units {
+    All,
+    One(u64),
+}
 
 // A scope's row; a scope with none is not valid, and reports nothing.
 pub struct Row {
@@ -22,14 +29,14 @@ pub struct Row {
 }
 
 fn row_at(number: usize) -> [u8; 17]
-    requires { ⌜ number < 3 ⌝ }
+    requires { ⌜ number < 4 ⌝ }
     ensures { λ r. ⌜ r ≡ getD rows number [] ⌝ }
 {
     ROWS[number]
 }
 
 fn valid_row(number: usize) -> Row
-    requires { ⌜ number < 3 ⌝ }
+    requires { ⌜ number < 4 ⌝ }
     ensures { λ r. ⌜ (r .valid ≡ true) × (r .sets ≡ getD rows number []) ⌝ }
 {
     Row {
@@ -51,6 +58,9 @@ pub fn scope_row(scope: u32) -> Row
     }
     if scope == 2 {
         return valid_row(2);
+    }
+    if scope == 3 {
+        return valid_row(3);
     }
     Row {
         valid: false,

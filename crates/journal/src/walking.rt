@@ -2,15 +2,20 @@
 ghost use mathlib.Core.Path.{_≡_};
 ghost use mathlib.Core.Bool.{true, cond, _&&_};
 ghost use lib.Dec.{eqb};
-ghost use Prim.Native.Nat.{_<_, _≤_};
+ghost use Prim.Native.Nat.{_+_, _<_, _≤_};
 ghost use lib.ListN.{length, drop};
-ghost use Rattle.records.specs.Records.{sizeOf, firstRecord, records, allGood};
+ghost use Rattle.words.specs.Numbers.{le32};
+ghost use Rattle.records.specs.Records.{kindOf, sizeOf, firstRecord, records, allGood};
 ghost use Rattle.journal.specs.Journal.{goodRecord, IsOpcode, entryOf, entries, wellFormed};
-ghost use Rattle.journal.specs.Scope.{holds, byRow};
+ghost use Rattle.journal.specs.Scope.{holds, asking};
 ghost use Rattle.journal.specs.Reportable.{reports, chosen};
-ghost use Rattle.journal.specs.Marks.{firstOperand, secondOperand, operandsEnd, Resumes, Marked};
+ghost use Rattle.journal.specs.Scanning.{opcodeFor, goodHere, asked};
+ghost use Rattle.journal.specs.Marks.{Resumes, Marked};
 use crate::judging::read_type;
 use crate::marks::seek;
+use crate::scope::Units;
+use crate::units::asked_weight;
+use crate::units::read_unit;
 
 // 1 where a set holds an opcode, else 0.
 fn in_set(set: u8, code: usize) -> usize
@@ -29,26 +34,36 @@ fn in_set(set: u8, code: usize) -> usize
 // 1 where a set holds the opcode of a kind, and that is the opcode asked for, else 0.
 fn reported(set: u8, code: usize, kind: usize) -> usize
     requires { ⌜ IsOpcode code ⌝ }
-    ensures { λ r. ⌜ r ≡ cond (eqb kind code && holds set code) 1 0 ⌝ }
+    ensures { λ r. ⌜ r ≡ cond (eqb (opcodeFor kind) code && holds set code) 1 0 ⌝ }
 {
     let bit = in_set(set, code);
-    if kind == code { bit } else { 0 }
+    if opcode_of(kind) == code { bit } else { 0 }
 }
 
-// The first operand of a record: the phandle, or an addition's parent.
-pub fn first_operand(j: &[u8], at: usize) -> u32
-    requires { ⌜ operandsEnd 1 at ≤ length (now j) ⌝ }
-    ensures { λ r. ⌜ r ≡ firstOperand (now (j .entry)) at ⌝ }
+// The opcode of a kind: kinds 2 and 4 are updates.
+fn opcode_of(kind: usize) -> usize
+    ensures { λ r. ⌜ r ≡ opcodeFor kind ⌝ }
 {
-    words::read_le32(j, at + 6)
+    if kind == 4 { 2 } else { kind }
 }
 
-// The second operand of an addition's record: the drc-index.
-pub fn second_operand(j: &[u8], at: usize) -> u32
-    requires { ⌜ operandsEnd 3 at ≤ length (now j) ⌝ }
-    ensures { λ r. ⌜ r ≡ secondOperand (now (j .entry)) at ⌝ }
+// A number of four bytes of a journal, as its records' operands are.
+pub fn read_operand(j: &[u8], at: usize) -> u32
+    requires { ⌜ at + 4 ≤ length (now j) ⌝ }
+    ensures { λ r. ⌜ r ≡ le32 (now (j .entry)) at ⌝ }
 {
-    words::read_le32(j, at + 10)
+    words::read_le32(j, at)
+}
+
+// A bit where the unit of the record at a place is asked for, else 0.
+fn asked_bit(j: &[u8], at: usize, units: Units, kind: u16, bit: usize) -> usize
+    requires { ⌜ (goodHere (now j) at ≡ true) × (kind ≡ kindOf (drop at (now j))) ⌝ }
+    ensures { λ r. ⌜ r ≡ asked units (now (j .entry)) at bit ⌝ }
+{
+    if kind == 4 {
+        return asked_weight(units, read_unit(j, at), bit as u64) as usize;
+    }
+    bit
 }
 
 // A record that a walk visits: its size, and 1 where the row reports it under the opcode, else 0.
@@ -58,16 +73,16 @@ pub struct Visited {
 }
 
 // The record at a place from which the records are good.
-pub fn visit(j: &[u8], row: &[u8; 17], code: usize, at: usize) -> Visited
+pub fn visit(j: &[u8], row: &[u8; 17], units: Units, code: usize, at: usize) -> Visited
     requires { ⌜ (at < length (now j)) × (allGood goodRecord (records (drop at (now j))) ≡ true) × IsOpcode code ⌝ }
-    ensures { λ r. ⌜ (r .size ≡ sizeOf (drop at (now (j .entry)))) × (r .reported ≡ cond (reports (byRow (now (row .entry))) code (entryOf (firstRecord (drop at (now (j .entry)))))) 1 0) ⌝ }
+    ensures { λ r. ⌜ (r .size ≡ sizeOf (drop at (now (j .entry)))) × (r .reported ≡ cond (reports (asking (now (row .entry)) units) code (entryOf (firstRecord (drop at (now (j .entry)))))) 1 0) ⌝ }
 {
     let frame = records::read_frame(j, at);
     let node = read_type(j, at);
     let bit = reported(row[node as usize], code, frame.kind as usize);
     Visited {
         size: records::record_size(frame),
-        reported: bit,
+        reported: asked_bit(j, at, units, frame.kind, bit),
     }
 }
 
@@ -75,19 +90,20 @@ pub fn visit(j: &[u8], row: &[u8; 17], code: usize, at: usize) -> Visited
 pub fn find(
     j: &[u8],
     row: &[u8; 17],
+    units: Units,
     marks: &[u64; 128],
     noted: usize,
     code: usize,
     k: usize,
 ) -> usize
-    requires { ⌜ (wellFormed (now j) ≡ true) × Marked (byRow (now row)) (now j) (now marks) noted × IsOpcode code × (k < length (chosen (byRow (now row)) code (entries (now j)))) ⌝ }
-    ensures { λ r. ⌜ Resumes (byRow (now (row .entry))) (now (j .entry)) code k r 0 ⌝ }
+    requires { ⌜ (wellFormed (now j) ≡ true) × Marked (asking (now row) units) (now j) (now marks) noted × IsOpcode code × (k < length (chosen (asking (now row) units) code (entries (now j)))) ⌝ }
+    ensures { λ r. ⌜ Resumes (asking (now (row .entry)) units) (now (j .entry)) code k r 0 ⌝ }
 {
     let place = seek(marks, noted, code, k);
     let mut at = place.at;
     let mut skip = place.skip;
     while 0 < skip {
-        let p = visit(j, row, code, at);
+        let p = visit(j, row, units, code, at);
         at += p.size;
         skip -= p.reported;
     }

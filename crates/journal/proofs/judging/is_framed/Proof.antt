@@ -12,11 +12,8 @@ returns c = sym (frame-none _ _ (λ o. omega arith))
 returns-2 : tie.Need-returns-2
 returns-2 c = sym (frame-none _ _ (λ o. omega arith))
 
-length-of-requires : tie.Need-length-of-requires
-length-of-requires c κs = search needs
-
 returns-3 : tie.Need-returns-3
 returns-3 c = rw (c .before .length-of .ensures) (sym (frame-is _ _ (search needs)))
 
 pub is-framed-spec : {M : Type 1} → statement M
-is-framed-spec = tie.close (tie.spec returns returns-2 length-of-requires returns-3)
+is-framed-spec = tie.close (tie.spec returns returns-2 (λ c κs. search needs) returns-3)

@@ -8,35 +8,14 @@ use Rattle.journal.proofs.RecordLaws.{short-bad, good-read, verdict-bad
 use Rattle.journal.proofs.judging.judge.Statement.{statement}
 use Rattle.journal.proofs.judging.judge.Tie as tie
 
-sub-left : tie.Need-sub-left
-sub-left c = search needs
-
 returns : tie.Need-returns
 returns c = verdict-bad (now (c .before .before .args .j)) (c .before .before .args .at) (short-bad (now (c .before .before .args .j)) (c .before .before .args .at) (c .if1 .taken))
-
-read-frame-requires : tie.Need-read-frame-requires
-read-frame-requires c κs = search needs
-
-read-type-requires : tie.Need-read-type-requires
-read-type-requires c κs = search needs
-
-is-good-requires : tie.Need-is-good-requires
-is-good-requires c κs = search needs
 
 returns-2 : tie.Need-returns-2
 returns-2 c = verdict-bad (now (c .before .before .before .before .before .before .args .j)) (c .before .before .before .before .before .before .args .at)
     (good-read (now (c .before .before .before .before .before .before .args .j)) (c .before .before .before .before .before .before .args .at) _ _ _
     (ap (λ (f : Frame). f .length) (c .before .before .before .read-frame .ensures)) (ap (λ (f : Frame). f .kind) (c .before .before .before .read-frame .ensures)) (c .before .before .read-type .ensures)
     ∙ sym (c .before .is-good .ensures) ∙ not-true _ (c .if2 .taken))
-
-record-size-requires : tie.Need-record-size-requires
-record-size-requires c κs = search needs
-
-cast-t9 : tie.Need-cast-t9
-cast-t9 c = search needs
-
-cast-t10 : tie.Need-cast-t10
-cast-t10 c = search needs
 
 returns-3 : tie.Need-returns-3
 returns-3 c = verdict-good (now (c .before .before .before .before .before .before .before .before .args .j)) (c .before .before .before .before .before .before .before .before .args .at) _ (rw (c .before .record-size .ensures, c .before .before .before .before .before .read-frame .ensures, c .before .before .before .before .read-type .ensures))
@@ -48,13 +27,13 @@ pub judge-spec : {M : Type 1} → statement M
 judge-spec =
     tie.close
     (tie.spec
-    sub-left
+    (λ c. search needs)
     returns
-    read-frame-requires
-    read-type-requires
-    is-good-requires
+    (λ c κs. search needs)
+    (λ c κs. search needs)
+    (λ c κs. search needs)
     returns-2
-    record-size-requires
-    cast-t9
-    cast-t10
+    (λ c κs. search needs)
+    (λ c. search needs)
+    (λ c. search needs)
     returns-3)

@@ -1,20 +1,14 @@
 -- `judging::length_of` meets its contract.
-use borrow.Author.Needs.{needs}
-use Rattle.journal.proofs.RecordLaws.{length-is}
+use native.Mathlib.Omega.{arith}
+use Rattle.journal.proofs.RecordLaws.{length-one, length-more}
 use Rattle.journal.proofs.judging.length_of.Statement.{statement}
 use Rattle.journal.proofs.judging.length_of.Tie as tie
 
-add-result : tie.Need-add-result
-add-result c = search needs
-
-mul-result : tie.Need-mul-result
-mul-result c = search needs
-
-add-result-2 : tie.Need-add-result-2
-add-result-2 c = search needs
-
 returns : tie.Need-returns
-returns c = length-is (c .args .kind) (c .pre)
+returns c = length-one (c .before .args .kind) (c .before .pre) (c .if1 .taken)
+
+returns-2 : tie.Need-returns-2
+returns-2 c = length-more (c .before .args .kind) (c .before .pre) (c .if1 .left)
 
 pub length-of-spec : {M : Type 1} → statement M
-length-of-spec = tie.close (tie.spec add-result mul-result add-result-2 returns)
+length-of-spec = tie.close (tie.spec (λ c. omega arith) returns returns-2)

@@ -19,41 +19,11 @@ abbrev μ-loop : tie.MeasureT-loop
 loop-holds : tie.Need-loop-holds Inv-loop μ-loop
 loop-holds c = (search needs, refl)
 
-sub-n : tie.Need-sub-n Inv-loop μ-loop
-sub-n c = search needs
-
-mul-count-of : tie.Need-mul-count-of Inv-loop μ-loop
-mul-count-of c = search needs
-
-add-count-of : tie.Need-add-count-of Inv-loop μ-loop
-add-count-of c = search needs
-
-mul-count-of-2 : tie.Need-mul-count-of-2 Inv-loop μ-loop
-mul-count-of-2 c = search needs
-
-element-copy-out-count-of : tie.Need-element-copy-out-count-of Inv-loop μ-loop
-element-copy-out-count-of c = search needs
-
-count-of-requires : tie.Need-count-of-requires Inv-loop μ-loop
-count-of-requires c κs = search needs
-
-mul-t14 : tie.Need-mul-t14 Inv-loop μ-loop
-mul-t14 c = search needs
-
-mul-t15 : tie.Need-mul-t15 Inv-loop μ-loop
-mul-t15 c = search needs
-
-element-copy-out-t18 : tie.Need-element-copy-out-t18 Inv-loop μ-loop
-element-copy-out-t18 c = search needs
-
 returns : tie.Need-returns Inv-loop μ-loop
 returns c =
     let args = c .before .before .before .before .before .before .args in
     let loop = c .before .before .before .before .before .loop in
     sym (loop .inv .1 ∙ sought-here (now (args .marks)) (args .code) (args .k) (loop .n) _ (search needs) (c .before .before .count-of .ensures) (c .before .if1 .taken))
-
-loop-less : tie.Need-loop-less Inv-loop μ-loop
-loop-less c = search needs
 
 loop-again : tie.Need-loop-again Inv-loop μ-loop
 loop-again c =
@@ -74,16 +44,16 @@ seek-spec =
     Inv-loop
     μ-loop
     loop-holds
-    sub-n
-    mul-count-of
-    add-count-of
-    mul-count-of-2
-    element-copy-out-count-of
-    count-of-requires
-    mul-t14
-    mul-t15
-    element-copy-out-t18
+    (λ c. search needs)
+    (λ c. search needs)
+    (λ c. search needs)
+    (λ c. search needs)
+    (λ c. search needs)
+    (λ c κs. search needs)
+    (λ c. search needs)
+    (λ c. search needs)
+    (λ c. search needs)
     returns
-    loop-less
+    (λ c. search needs)
     loop-again
     returns-2)

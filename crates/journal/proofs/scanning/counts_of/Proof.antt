@@ -3,18 +3,9 @@ use borrow.Author.Needs.{needs}
 use Rattle.journal.proofs.scanning.counts_of.Statement.{statement}
 use Rattle.journal.proofs.scanning.counts_of.Tie as tie
 
-count-of-requires : tie.Need-count-of-requires
-count-of-requires c κs = search needs
-
-count-of-requires-2 : tie.Need-count-of-requires-2
-count-of-requires-2 c κs = search needs
-
-count-of-requires-3 : tie.Need-count-of-requires-3
-count-of-requires-3 c κs = search needs
-
 returns : tie.Need-returns
 returns c = cc
 
 pub counts-of-spec : {M : Type 1} → statement M
 counts-of-spec =
-    tie.close (tie.spec count-of-requires count-of-requires-2 count-of-requires-3 returns)
+    tie.close (tie.spec (λ c κs. search needs) (λ c κs. search needs) (λ c κs. search needs) returns)

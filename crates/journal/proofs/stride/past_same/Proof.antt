@@ -1,60 +1,68 @@
 -- `stride::past_same` meets its contract.
 use mathlib.Core.Path.{_≡_, sym, _∙_}
-use Prim.Native.Nat.{_+_, _-_, _*_, _≤_}
+use mathlib.Core.List.{List}
+use Prim.Native.Nat.{ℕ, _+_, _-_, _*_, _≤_}
 use native.Mathlib.Omega.{arith}
+use lib.ListN.{length}
 use borrow.Author.Needs.{needs}
 use borrow.Author.Tests.{not-false}
 use denote.Ref.{now}
+use Rattle.records.specs.Records.{sizeLimit}
+use Rattle.journal.specs.declared.stride.Same.{Same}
+use Rattle.journal.specs.Scope.{Selection, asking}
+use Rattle.journal.specs.Scanning.{Reached, Known, AllAsked}
 use Rattle.journal.proofs.Reaching.{position, reached-four}
-use Rattle.journal.specs.Scope.{byRow}
-use Rattle.journal.specs.Scanning.{Reached}
 use Rattle.journal.proofs.stride.past_same.Statement.{statement}
 use Rattle.journal.proofs.stride.past_same.Tie as tie
 
+-- whatever is asked for: a scan that came to the first place has come to the second
+abbrev Past : List ℕ → Same → ℕ → ℕ → ℕ → ℕ → Type 0
+Past j same at₀ counts₀ at counts = (sel : Selection) → length j ≤ sizeLimit → Known sel j same → AllAsked sel j same → Reached sel j (position at₀ counts₀) → Reached sel j (position at counts)
+
 abbrev Inv-loop : tie.InvT-loop
-Inv-loop j row header size weight limit at₀ counts₀ four at counts = Reached (byRow row) j (position at counts) × (at₀ ≤ at) × (four ≡ 4 * size)
+Inv-loop j row same limit at₀ counts₀ four at counts = Past j same at₀ counts₀ at counts × (at₀ ≤ at) × (four ≡ 4 * same .size)
 
 abbrev μ-loop : tie.MeasureT-loop
-μ-loop j row header size weight limit at₀ counts₀ four at counts = limit - at
-
-mul-four : tie.Need-mul-four Inv-loop μ-loop
-mul-four c = omega (arith, c .before .pre .1 .small)
+μ-loop j row same limit at₀ counts₀ four at counts = limit - at
 
 loop-holds : tie.Need-loop-holds Inv-loop μ-loop
-loop-holds c = (c .before .pre .0, search needs, search needs)
+loop-holds c = (λ sel s k a t. t, omega arith, search needs)
 
-add-loop : tie.Need-add-loop Inv-loop μ-loop
-add-loop c = search needs
-
-four-headers-requires : tie.Need-four-headers-requires Inv-loop μ-loop
-four-headers-requires c κs = (omega (arith, c .before .before .before .pre .1 .large), c .before .before .before .pre .1 .small)
+-- the scan's place in the loop
+reached : (c : tie.At-loop Inv-loop μ-loop)
+    → let s = c .before .before .before in
+    Reached (asking (now (s .args .row)) (s .args .units)) (now (s .args .j)) (position (c .loop .at) (c .loop .counts))
+reached c = let p = c .before .before .before .pre in c .loop .inv .0 _ (p .4) (p .1) (p .2) (p .0)
 
 -- past four records
-turn : (c : tie.Else1 Inv-loop μ-loop) → Reached (byRow (now (c .before .before .before .before .before .args .row))) (now (c .before .before .before .before .before .args .j)) (position (c .before .before .before .loop .at + 4 * c .before .before .before .before .before .args .size) (c .before .before .before .loop .counts + 4 * c .before .before .before .before .before .args .weight))
-turn c =
-    reached-four (byRow (now (c .before .before .before .before .before .args .row))) (now (c .before .before .before .before .before .args .j)) (c .before .before .before .before .before .args .header) (c .before .before .before .before .before .args .size) (c .before .before .before .before .before .args .weight) (c .before .before .before .before .before .pre .3) (c .before .before .before .before .before .pre .1) (c .before .before .before .loop .at) (c .before .before .before .loop .counts)
-    (omega arith) (sym (c .before .four-headers .ensures) ∙ not-false _ (c .if1 .left)) (c .before .before .before .loop .inv .0)
+turn : (c : tie.After-struct-known2 Inv-loop μ-loop)
+    → let s = c .before .before .before .before .before .before .before in
+    let l = c .before .before .before .before .loop in
+    (sel : Selection) → length (now (s .args .j)) ≤ sizeLimit → Known sel (now (s .args .j)) (s .args .same) → AllAsked sel (now (s .args .j)) (s .args .same)
+    → Reached sel (now (s .args .j)) (position (l .at) (l .counts))
+    → Reached sel (now (s .args .j)) (position (l .at + 4 * s .args .same .size) (l .counts + 4 * s .args .same .weight))
+turn c sel small k a t =
+    let s = c .before .before .before .before .before .before .before in
+    let l = c .before .before .before .before .loop in
+    reached-four sel (now (s .args .j)) (s .args .same) small k a (l .at) (l .counts) (omega arith) (sym (c .before .before .four-headers .ensures) ∙ not-false _ (c .before .if1 .left)) t
 
-mul-counts : tie.Need-mul-counts Inv-loop μ-loop
-mul-counts c = omega (arith, c .before .before .before .before .before .pre .1 .narrow)
-
-add-counts : tie.Need-add-counts Inv-loop μ-loop
-add-counts c = record { fits = omega (arith, turn c) }
-
-add-at : tie.Need-add-at Inv-loop μ-loop
-add-at c = omega (arith, turn c)
-
-loop-less : tie.Need-loop-less Inv-loop μ-loop
-loop-less c = omega (arith, c .before .before .before .before .before .pre .1 .large)
+-- for the selection asked for
+here : (c : tie.After-struct-known2 Inv-loop μ-loop)
+    → let s = c .before .before .before .before .before .before .before in
+    let l = c .before .before .before .before .loop in
+    Reached (asking (now (s .args .row)) (s .args .units)) (now (s .args .j)) (position (l .at + 4 * s .args .same .size) (l .counts + 4 * s .args .same .weight))
+here c = let p = c .before .before .before .before .before .before .before .pre in turn c _ (p .4) (p .1) (p .2) (reached (c .before .before .before .before))
 
 loop-again : tie.Need-loop-again Inv-loop μ-loop
-loop-again c = (rw (c .before .before .before .loop .inv .2) (turn c), omega arith, c .before .before .before .loop .inv .2)
+loop-again c =
+    let l = c .before .before .before .before .loop in
+    (λ sel small k a t. rw (l .inv .2) (turn c sel small k a (l .inv .0 sel small k a t)), omega arith, l .inv .2)
 
 returns : tie.Need-returns Inv-loop μ-loop
-returns c = (c .before .loop .inv .0, c .before .loop .inv .1)
+returns c = (reached (c .before), c .before .loop .inv .1)
 
 returns-2 : tie.Need-returns-2 Inv-loop μ-loop
-returns-2 c = (c .before .before .before .loop .inv .0, c .before .before .before .loop .inv .1)
+returns-2 c = (reached (c .before .before .before), c .before .before .before .loop .inv .1)
 
 pub past-same-spec : {M : Type 1} → statement M
 past-same-spec =
@@ -62,14 +70,14 @@ past-same-spec =
     (tie.spec
     Inv-loop
     μ-loop
-    mul-four
+    (λ c. omega (arith, c .before .before .pre .1 .small))
     loop-holds
-    add-loop
-    four-headers-requires
-    mul-counts
-    add-counts
-    add-at
-    loop-less
+    (λ c. omega (arith, reached c .inside, c .loop .inv .2, c .before .before .before .pre .1 .small, c .before .before .before .pre .4))
+    (λ c κs. (omega (arith, c .before .before .before .before .pre .1 .large), c .before .before .before .before .pre .1 .small))
+    (λ c. omega (arith, c .before .before .before .before .before .before .before .pre .1 .narrow))
+    (λ c. record { fits = omega (arith, here c) })
+    (λ c. omega (arith, here c))
+    (λ c. omega (arith, c .before .before .before .before .before .before .before .pre .1 .large))
     loop-again
     returns
     returns-2)

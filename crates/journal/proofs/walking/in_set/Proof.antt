@@ -8,20 +8,11 @@ use Rattle.journal.proofs.WeightLaws.{bit-is}
 use Rattle.journal.proofs.walking.in_set.Statement.{statement}
 use Rattle.journal.proofs.walking.in_set.Tie as tie
 
-cast-result : tie.Need-cast-result
-cast-result c = search needs
-
 returns : tie.Need-returns
 returns c = rw (c .if1 .taken) (ap (λ (n : ℕ). n % 2) (sym (div-one (c .before .args .set))) ∙ bit-is (c .before .args .set) 1)
 
-cast-result-2 : tie.Need-cast-result-2
-cast-result-2 c = search needs
-
 returns-2 : tie.Need-returns-2
 returns-2 c = rw (c .if2 .taken) (bit-is (c .before .before .args .set) 2)
-
-cast-result-3 : tie.Need-cast-result-3
-cast-result-3 c = search needs
 
 third : (c : tie.Else2) → c .before .before .args .code ≡ 3
 third c = omega arith
@@ -31,4 +22,4 @@ returns-3 c = rw (third c) (bit-is (c .before .before .args .set) 3)
 
 pub in-set-spec : {M : Type 1} → statement M
 in-set-spec =
-    tie.close (tie.spec cast-result returns cast-result-2 returns-2 cast-result-3 returns-3)
+    tie.close (tie.spec (λ c. search needs) returns (λ c. search needs) returns-2 (λ c. search needs) returns-3)

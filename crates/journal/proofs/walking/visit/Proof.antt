@@ -1,16 +1,21 @@
 -- `walking::visit` meets its contract.
-use mathlib.Core.Bool.{true}
-use mathlib.Core.Path.{_≡_, ap, _∙_}
-use Prim.Native.Nat.{_+_, _≤_}
+use mathlib.Core.Bool.{Bool, true, false, cond, _&&_}
+use mathlib.Core.Path.{_≡_, refl, ap, _∙_}
+use Prim.Native.Nat.{ℕ, _+_, _≤_}
 use native.Mathlib.Omega.{arith}
-use lib.ListN.{length}
+use lib.Dec.{eqb}
+use lib.ListN.{length, getD, drop}
 use borrow.Author.Needs.{needs}
 use denote.Ref.{now}
+use Rattle.words.specs.Numbers.{le}
 use Rattle.journal.proofs.RecordLaws.{good-size, good-fits, good-node, good-reports}
 use Rattle.journal.proofs.Walks.{walked}
-use Rattle.journal.specs.Scope.{byRow}
-use Rattle.journal.specs.Scanning.{goodHere}
+use Rattle.journal.specs.Scope.{holds, asking}
+use Rattle.journal.specs.Scanning.{opcodeFor, goodHere}
+use Rattle.records.specs.Records.{kindOf, firstRecord}
 use Rattle.records.specs.declared.framing.Frame.{Frame}
+use Rattle.journal.specs.Journal.{entryOf}
+use Rattle.journal.specs.Reportable.{asks}
 use Rattle.journal.proofs.walking.visit.Statement.{statement}
 use Rattle.journal.proofs.walking.visit.Tie as tie
 
@@ -27,26 +32,29 @@ read-frame-requires c κs = omega (arith, inside (c .before))
 read-type-requires : tie.Need-read-type-requires
 read-type-requires c κs = omega (arith, inside (c .before .before))
 
-cast-reported : tie.Need-cast-reported
-cast-reported c = search needs
-
 element-copy-out-reported : tie.Need-element-copy-out-reported
 element-copy-out-reported c = omega (arith, c .read-type .ensures, good-node (now (c .before .before .before .args .j)) (c .before .before .before .args .at) (good (c .before .before .before)))
 
-cast-reported-2 : tie.Need-cast-reported-2
-cast-reported-2 c = search needs
+asked-bit-requires : tie.Need-asked-bit-requires
+asked-bit-requires c κs = (good (c .before .before .before .before .before .before .before), ap (λ (f : Frame). f .kind) (c .before .before .before .before .before .read-frame .ensures))
 
-reported-requires : tie.Need-reported-requires
-reported-requires c κs = search needs
-
-record-size-requires : tie.Need-record-size-requires
-record-size-requires c κs = search needs
+-- one test after the other
+both : (a b : Bool) → _≡_ {A = ℕ} (cond b (cond a 1 0) 0) (cond (a && b) 1 0)
+both true true = refl
+both true false = refl
+both false true = refl
+both false false = refl
 
 returns : tie.Need-returns
-returns c = (
-  c .record-size .ensures ∙ ap (λ (f : Frame). f .length + 2) (c .before .before .before .before .before .read-frame .ensures),
-  c .before .reported .ensures ∙ rw (good-reports (now (c .before .before .before .before .before .before .before .args .j)) (c .before .before .before .before .before .before .before .args .at) (good (c .before .before .before .before .before .before .before)) (byRow (now (c .before .before .before .before .before .before .before .args .row))) (c .before .before .before .before .before .before .before .args .code), c .before .before .before .before .read-type .ensures, c .before .before .before .before .before .read-frame .ensures),
-)
+returns c =
+    let s = c .before .before .before .before .before .before .before .before in
+    let sel = asking (now (s .args .row)) (s .args .units) in
+    let frame = c .before .before .before .before .before .before .read-frame .ensures in
+    let e = entryOf (firstRecord (drop (s .args .at) (now (s .args .j)))) in (
+      c .before .record-size .ensures ∙ ap (λ (f : Frame). f .length + 2) frame,
+      rw (c .asked-bit .ensures, c .before .before .reported .ensures, good-reports (now (s .args .j)) (s .args .at) (good s) sel (s .args .code), c .before .before .before .before .before .read-type .ensures, frame)
+          (both (eqb (opcodeFor (kindOf (drop (s .args .at) (now (s .args .j))))) (s .args .code) && holds (getD (now (s .args .row)) (le 2 (now (s .args .j)) (s .args .at + 4)) 0) (s .args .code)) (asks (s .args .units) e)),
+    )
 
 pub visit-spec : {M : Type 1} → statement M
 visit-spec =
@@ -54,9 +62,10 @@ visit-spec =
     (tie.spec
     read-frame-requires
     read-type-requires
-    cast-reported
+    (λ c. search needs)
     element-copy-out-reported
-    cast-reported-2
-    reported-requires
-    record-size-requires
+    (λ c. search needs)
+    (λ c κs. search needs)
+    (λ c κs. search needs)
+    asked-bit-requires
     returns)

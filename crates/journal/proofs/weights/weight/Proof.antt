@@ -2,46 +2,35 @@
 use mathlib.Core.Path.{_≡_, refl}
 use native.Mathlib.Omega.{arith}
 use borrow.Author.Needs.{needs}
+use Prim.Native.Nat.{ℕ}
+use Rattle.journal.specs.Scanning.{opcodeFor}
+use Rattle.journal.proofs.Opcodes.{each-kind}
 use Rattle.journal.proofs.WeightLaws.{weight-is}
 use Rattle.journal.proofs.weights.weight.Statement.{statement}
 use Rattle.journal.proofs.weights.weight.Tie as tie
 
-cast-result : tie.Need-cast-result
-cast-result c = search needs
-
 returns : tie.Need-returns
-returns c = weight-is (c .before .args .set) (c .before .args .kind) _ (rw (c .if1 .taken) (omega arith))
-
-cast-result-2 : tie.Need-cast-result-2
-cast-result-2 c = search needs
-
-mul-result : tie.Need-mul-result
-mul-result c = search needs
+returns c = rw (c .if1 .taken) (weight-is (c .before .args .set) 1 _ (omega arith))
 
 returns-2 : tie.Need-returns-2
-returns-2 c = weight-is (c .before .before .args .set) (c .before .before .args .kind) _ (rw (c .if2 .taken) refl)
+returns-2 c = rw (c .if2 .taken) (weight-is (c .before .before .args .set) 3 _ refl)
 
-cast-result-3 : tie.Need-cast-result-3
-cast-result-3 c = search needs
-
-mul-result-2 : tie.Need-mul-result-2
-mul-result-2 c = search needs
+-- kinds 2 and 4 are left
+update : (c : tie.Else2) → opcodeFor (c .before .before .args .kind) ≡ 2
+update c = each-kind (λ (k : ℕ). (k ≡ 1 → ⊥) → (k ≡ 3 → ⊥) → opcodeFor k ≡ 2) (λ n _. absurd (n refl)) (λ _ _. refl) (λ _ n. absurd (n refl)) (λ _ _. refl) (c .before .before .args .kind) (c .before .before .pre) (c .before .if1 .left) (c .if2 .left)
 
 returns-3 : tie.Need-returns-3
-returns-3 c =
-    let args = c .before .before .args in
-    let third : args .kind ≡ 3 = omega arith in
-    weight-is (args .set) (args .kind) _ (rw third refl)
+returns-3 c = rw (update c) (weight-is (c .before .before .args .set) 2 _ refl)
 
 pub weight-spec : {M : Type 1} → statement M
 weight-spec =
     tie.close
     (tie.spec
-    cast-result
+    (λ c. search needs)
     returns
-    cast-result-2
-    mul-result
+    (λ c. search needs)
+    (λ c. search needs)
     returns-2
-    cast-result-3
-    mul-result-2
+    (λ c. search needs)
+    (λ c. search needs)
     returns-3)

@@ -3,37 +3,18 @@ use mathlib.Core.Path.{refl}
 use Prim.Native.Nat.{_-_}
 use native.Mathlib.Omega.{arith}
 use borrow.Author.Needs.{needs}
-use Rattle.journal.specs.Scope.{byRow}
 use Rattle.journal.proofs.WeightLaws.{Filled, filled-next}
 use Rattle.journal.proofs.weights.weights_of.Statement.{statement}
 use Rattle.journal.proofs.weights.weights_of.Tie as tie
 
 abbrev Inv-loop : tie.InvT-loop
-Inv-loop row table₀ i₀ table i = Filled (byRow row) table i
+Inv-loop row table₀ i₀ table i = Filled row table i
 
 abbrev μ-loop : tie.MeasureT-loop
-μ-loop row table₀ i₀ table i = 128 - i
+μ-loop row table₀ i₀ table i = 160 - i
 
 loop-holds : tie.Need-loop-holds Inv-loop μ-loop
 loop-holds c = record { size = refl; low = omega arith; high = omega arith; each = λ k l g. absurd (omega arith) }
-
-set-of-requires : tie.Need-set-of-requires Inv-loop μ-loop
-set-of-requires c κs = search needs
-
-weight-requires : tie.Need-weight-requires Inv-loop μ-loop
-weight-requires c κs = search needs
-
-mul-table : tie.Need-mul-table Inv-loop μ-loop
-mul-table c = search needs
-
-array-write-table : tie.Need-array-write-table Inv-loop μ-loop
-array-write-table c = search needs
-
-add-i : tie.Need-add-i Inv-loop μ-loop
-add-i c = search needs
-
-loop-less : tie.Need-loop-less Inv-loop μ-loop
-loop-less c = search needs
 
 loop-again : tie.Need-loop-again Inv-loop μ-loop
 loop-again c =
@@ -50,11 +31,11 @@ weights-of-spec =
     Inv-loop
     μ-loop
     loop-holds
-    set-of-requires
-    weight-requires
-    mul-table
-    array-write-table
-    add-i
-    loop-less
+    (λ c κs. search needs)
+    (λ c κs. search needs)
+    (λ c. search needs)
+    (λ c. search needs)
+    (λ c. search needs)
+    (λ c. search needs)
     loop-again
     returns)
