@@ -22,7 +22,7 @@ use Rattle.node_area.specs.declared.reading.Check.{Check}
 use Rattle.node_area.specs.declared.reading.Check.the-variants.{Entries, Refused}
 use Rattle.words.specs.Reading.{read, refused}
 use Rattle.node_area.specs.Reading.{opcodeIn, countIn, faultOf, lastAfter, Verdict, good, bad, verdict, single, operationsAt, operationsIn, readBy, reading, checkOf}
-use Rattle.node_area.specs.Head.{areaSize, headSize, isReserved}
+use Rattle.node_area.specs.Head.{areaSize, headSize, reservedFrom, isReserved}
 use Rattle.node_area.specs.Cursor.{remaining, EntriesInOrder}
 
 -- ---- a fine operator
@@ -227,14 +227,14 @@ module _ (a : List ℕ) (at last entries : ℕ) (s : Stands a at last entries) w
 
 -- ---- the operations of a reading, in order
 
-read-found : (a b : Bool) (v : Verdict) (os ps : List Operation) → cond a (refused Size 0) (cond b (refused Reserved 4) (readBy v os)) ≡ read ps → os ≡ ps
-read-found true b v os ps e = cc
-read-found false true v os ps e = cc
-read-found false false good os ps e = cc
-read-found false false (bad r at) os ps e = cc
+read-found : (a b : Bool) (k : ℕ) (v : Verdict) (os ps : List Operation) → cond a (refused Size 0) (cond b (refused Reserved k) (readBy v os)) ≡ read ps → os ≡ ps
+read-found true b k v os ps e = cc
+read-found false true k v os ps e = cc
+read-found false false k good os ps e = cc
+read-found false false k (bad r at) os ps e = cc
 
 pub entries-in-order : EntriesInOrder
 unfolding reading remaining
-entries-in-order area os e =
+entries-in-order scope area os e =
     let ws = drop 4 (words area) in
-    rw (words-drop 4 area) at (read-found (not (eqb (length area) areaSize)) (not (isReserved area)) (verdict 0 headSize 0 ws) (operationsAt ws 0 0) os e)
+    rw (words-drop 4 area) at (read-found (not (eqb (length area) areaSize)) (not (isReserved scope area)) (reservedFrom scope) (verdict 0 headSize 0 ws) (operationsAt ws 0 0) os e)

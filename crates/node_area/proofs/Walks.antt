@@ -19,23 +19,23 @@ use Rattle.node_area.specs.declared.reading.Refusal.the-variants.{Size, 
 use Rattle.node_area.specs.declared.reading.Fault.{Fault}
 use Rattle.node_area.specs.declared.reading.Fault.the-variants.{Fine, Bad}
 use Rattle.node_area.specs.Reading.{opcodeIn, countIn, faultOf, Verdict, good, bad, verdict, single, operationsAt, readBy, reading}
-use Rattle.node_area.specs.Head.{areaSize, headSize, isReserved}
+use Rattle.node_area.specs.Head.{areaSize, headSize, reservedFrom, isReserved}
 use Rattle.node_area.proofs.Verdicts.{verdict-bad, operations-next, operations-single, operations-pair}
 
 -- ---- a good area
 
-read-good : (a b : Bool) (v : Verdict) (os ps : List Operation) → cond a (refused Size 0) (cond b (refused Reserved 4) (readBy v os)) ≡ read ps → v ≡ good
-read-good true b v os ps e = cc
-read-good false true v os ps e = cc
-read-good false false good os ps e = refl
-read-good false false (bad r at) os ps e = cc
+read-good : (a b : Bool) (k : ℕ) (v : Verdict) (os ps : List Operation) → cond a (refused Size 0) (cond b (refused Reserved k) (readBy v os)) ≡ read ps → v ≡ good
+read-good true b k v os ps e = cc
+read-good false true k v os ps e = cc
+read-good false false k good os ps e = refl
+read-good false false k (bad r at) os ps e = cc
 
 -- in an area that is read nothing is wrong
-pub good-words : (area : List ℕ) (os : List Operation) → reading area ≡ read os → verdict 0 headSize 0 (words (drop headSize area)) ≡ good
+pub good-words : (scope : ℕ) (area : List ℕ) (os : List Operation) → reading scope area ≡ read os → verdict 0 headSize 0 (words (drop headSize area)) ≡ good
 unfolding reading
-good-words area os e =
+good-words scope area os e =
     let ws = drop 4 (words area) in
-    rw (words-drop 4 area) at (read-good (not (eqb (length area) areaSize)) (not (isReserved area)) (verdict 0 headSize 0 ws) (operationsAt ws 0 0) os e)
+    rw (words-drop 4 area) at (read-good (not (eqb (length area) areaSize)) (not (isReserved scope area)) (reservedFrom scope) (verdict 0 headSize 0 ws) (operationsAt ws 0 0) os e)
 
 -- ---- an operator
 

@@ -48,4 +48,4 @@ startOf = record { at = headSize; code = 0; left = 0 }
 
 -- From the start a cursor has the operations of the area's reading before it, in order.
 abbrev pub EntriesInOrder : Type 0
-EntriesInOrder = (area : List ℕ) (os : List Operation) → reading area ≡ read os → remaining area startOf ≡ os
+EntriesInOrder = (scope : ℕ) (area : List ℕ) (os : List Operation) → reading scope area ≡ read os → remaining area startOf ≡ os

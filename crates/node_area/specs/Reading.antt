@@ -9,7 +9,7 @@ use Rattle.words.specs.Reading.{Reading, read, refused}
 use Rattle.words.specs.Numbers.{words, zeros}
 use Rattle.journal.specs.declared.operation.Operation.{Operation}
 use Rattle.journal.specs.declared.operation.Operation.the-variants.{Delete, Update, Add}
-use Rattle.node_area.specs.Head.{areaSize, headSize, isReserved}
+use Rattle.node_area.specs.Head.{areaSize, headSize, reservedFrom, isReserved}
 use Rattle.node_area.specs.declared.reading.Refusal.{Refusal}
 use Rattle.node_area.specs.declared.reading.Refusal.the-variants.{Size, Reserved, Opcode, Past, Odd, Order, Unterminated}
 use Rattle.node_area.specs.declared.reading.Fault.{Fault}
@@ -91,12 +91,13 @@ readBy good os = read os
 readBy (bad r at) os = refused r at
 
 -- 01: "Node areas: 20 not 4,096 bytes (offset 0); 21 bytes 4 to 15 not zero (offset 4)."
-unfoldable pub reading : List ℕ → Reading Operation Refusal
-reading area =
+-- 02, M-100: "in scope 3 only bytes 12 to 15 are tested for zero, by writer and reader (21 at offset 12); the reader is told the scope"
+unfoldable pub reading : ℕ → List ℕ → Reading Operation Refusal
+reading scope area =
     let ws = drop 4 (words area) in
     let found = readBy (verdict 0 headSize 0 ws) (operationsAt ws 0 0) in
     cond (not (eqb (length area) areaSize)) (refused Size 0)
-    (cond (not (isReserved area)) (refused Reserved 4)
+    (cond (not (isReserved scope area)) (refused Reserved (reservedFrom scope))
     found)
 
 -- What a check of an area tells of its reading: the number of its operations, or the refusal.

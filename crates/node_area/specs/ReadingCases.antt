@@ -15,29 +15,41 @@ pub data Found : Type 0 where
   refusal : ℕ → ℕ → Found
 
 pub record ReadingCase : Type 0 where
+  pub scope : ℕ
   pub area : List ℕ
   pub finds : Found
 
 -- an area with these words from byte 16 on, and sevens, which are no operator, behind them
 abbrev pub area : List ℕ → Found → ReadingCase
-area ws found = record { area = take 4096 (wordBytes (5 ∷ 0 ∷ 0 ∷ 0 ∷ ws) ++ replicate 4080 7); finds = found }
+area ws found = record { scope = 1; area = take 4096 (wordBytes (5 ∷ 0 ∷ 0 ∷ 0 ∷ ws) ++ replicate 4080 7); finds = found }
 
--- zero bytes but for one, at an offset
+-- zero bytes but for one, at an offset, read for a scope; and for scope 1
+abbrev pub marked-in : ℕ → ℕ → Found → ReadingCase
+marked-in scope at found = record { scope = scope; area = replicate at 0 ++ (1 ∷ replicate (4095 - at) 0); finds = found }
+
 abbrev pub marked : ℕ → Found → ReadingCase
-marked at found = record { area = replicate at 0 ++ (1 ∷ replicate (4095 - at) 0); finds = found }
+marked at found = marked-in 1 at found
 
 abbrev pub readingCases : List ReadingCase
 readingCases =
     -- "20 not 4,096 bytes (offset 0)", before 21
-    record { area = []; finds = refusal 20 0 }
-    ∷ record { area = replicate 4095 1; finds = refusal 20 0 }
-    ∷ record { area = replicate 4097 1; finds = refusal 20 0 }
+    record { scope = 3; area = []; finds = refusal 20 0 }
+    ∷ record { scope = 1; area = replicate 4095 1; finds = refusal 20 0 }
+    ∷ record { scope = 3; area = replicate 4097 1; finds = refusal 20 0 }
     -- "21 bytes 4 to 15 not zero (offset 4)"
     ∷ marked 3 (entries 0)
     ∷ marked 4 (refusal 21 4)
     ∷ marked 9 (refusal 21 4)
     ∷ marked 15 (refusal 21 4)
-    ∷ record { area = replicate 4096 1; finds = refusal 21 4 }
+    ∷ record { scope = 1; area = replicate 4096 1; finds = refusal 21 4 }
+    -- 02: "in scope 3 only bytes 12 to 15 are tested for zero .. (21 at offset 12)"
+    ∷ marked-in 3 4 (entries 0)
+    ∷ marked-in 3 11 (entries 0)
+    ∷ marked-in 3 12 (refusal 21 12)
+    ∷ marked-in 3 15 (refusal 21 12)
+    ∷ marked-in 0 11 (refusal 21 4)
+    ∷ marked-in 4 11 (refusal 21 4)
+    ∷ marked-in 2147483648 11 (refusal 21 4)
     -- "word zero ends the list"
     ∷ area (0 ∷ []) (entries 0)
     ∷ area (16777217 ∷ 0 ∷ 33554433 ∷ 8 ∷ 50331650 ∷ 9 ∷ 9 ∷ 0 ∷ []) (entries 3)
@@ -82,7 +94,7 @@ finds (Refused f k) (refusal r at) = eqb (refusalNumber f) r && eqb k at
 
 abbrev pub allFound : List ReadingCase → Bool
 allFound [] = true
-allFound (c ∷ cs) = finds (checkOf (reading (c .area))) (c .finds) && allFound cs
+allFound (c ∷ cs) = finds (checkOf (reading (c .scope) (c .area))) (c .finds) && allFound cs
 
 abbrev pub ReadingCases : Type 0
 ReadingCases = T (allFound readingCases)

@@ -6,6 +6,8 @@ mod state;
 pub use head::AREA_SIZE;
 pub use head::HEAD_SIZE;
 pub use head::is_reserved;
+pub use head::read_unit;
+pub use head::reserved_from;
 pub use head::write_head;
 pub use reading::Check;
 pub use reading::Cursor;

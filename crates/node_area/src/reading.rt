@@ -12,6 +12,7 @@ ghost use Rattle.node_area.specs.Cursor.{stepAt, nextOf, StepsGive, star
 use crate::head::AREA_SIZE;
 use crate::head::HEAD_SIZE;
 use crate::head::is_reserved;
+use crate::head::reserved_from;
 use journal::Operation;
 
 // Why an area is refused.
@@ -119,16 +120,16 @@ fn check_operators(area: &[u8]) -> Check
     Check::Refused(Refusal::Unterminated, AREA_SIZE)
 }
 
-// The whole area judged: the number of its operations, or the first refusal.
-pub fn check_area(area: &[u8]) -> Check
-    ensures { λ r. ⌜ r ≡ checkOf (reading (now (area .entry))) ⌝ }
+// The whole area of a call of a scope judged: the number of its operations, or the first refusal.
+pub fn check_area(scope: u32, area: &[u8]) -> Check
+    ensures { λ r. ⌜ r ≡ checkOf (reading scope (now (area .entry))) ⌝ }
     ensures cases { λ _. ⌜ ReadingCases ⌝ }
 {
     if area.len() != AREA_SIZE {
         return Check::Refused(Refusal::Size, 0);
     }
-    if !is_reserved(area) {
-        return Check::Refused(Refusal::Reserved, 4);
+    if !is_reserved(scope, area) {
+        return Check::Refused(Refusal::Reserved, reserved_from(scope));
     }
     check_operators(area)
 }

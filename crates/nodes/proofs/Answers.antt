@@ -10,6 +10,7 @@ use lib.Seq.{sets, sets-eq}
 use Rattle.journal.specs.Scope.{Selection}
 use Rattle.words.specs.Numbers.{beBytes, wordBytes}
 use Rattle.words.proofs.Stores.{length-wordBytes, words-behind, store-first}
+use Rattle.journal.specs.declared.scope.Units.{Units}
 use Rattle.journal.specs.declared.scanning.Counts.{Counts}
 use Rattle.journal.specs.Journal.{wellFormed, entries}
 use Rattle.journal.specs.Reportable.{chosen, reportable, countsOf}
@@ -55,14 +56,14 @@ module _ (selection : Selection) (j : List ℕ) (c : Counts) (k : ℕ) (counted 
   unfolding bodyFrom
   body-written = sym (ap (λ (l : List ℕ). l ++ (0 ∷ [])) (body-is selection j c k counted inside r fitting) ∙ simp append-assoc)
 
-  pub answer-stored : (l l₁ l₂ : List ℕ) → length l ≡ areaSize → l₁ ≡ sets l 0 (carriedHead (nextState (reportable selection j) k)) → l₂ ≡ sets l₁ headSize (wordBytes (bodyFrom selection j (passedOf c k) r))
-      → l₂ ≡ written l (reportable selection j) k
+  pub answer-stored : (units : Units) (l l₁ l₂ : List ℕ) → length l ≡ areaSize → l₁ ≡ sets l 0 (carriedHead units (nextState (reportable selection j) k)) → l₂ ≡ sets l₁ headSize (wordBytes (bodyFrom selection j (passedOf c k) r))
+      → l₂ ≡ written units l (reportable selection j) k
   unfolding written answer
-  answer-stored l l₁ l₂ n e f =
+  answer-stored units l l₁ l₂ n e f =
       let os = reportable selection j in
-      let ws = headWords (nextState os k) ++ (body (run os k) ++ (0 ∷ [])) in
+      let ws = headWords units (nextState os k) ++ (body (run os k) ++ (0 ∷ [])) in
       let within : k ≤ length os = omega (arith, inside, total-is selection j, ap total counted) in
       let size : length (wordBytes ws) ≤ areaSize = rw (length-wordBytes ws, length-append (body (run os k)) (0 ∷ []), length-body (run os k)) (omega (arith, run-facts os k within .fits)) in
       f ∙ ap (λ (v : List ℕ). sets l₁ headSize (wordBytes v)) body-written ∙ ap (λ (m : List ℕ). sets m headSize (wordBytes (body (run os k) ++ (0 ∷ [])))) e
-      ∙ words-behind l 0 headSize (headWords (nextState os k)) (body (run os k) ++ (0 ∷ [])) refl
+      ∙ words-behind l 0 headSize (headWords units (nextState os k)) (body (run os k) ++ (0 ∷ [])) refl
       ∙ sets-eq (wordBytes ws) l 0 (omega arith) ∙ ap (λ (i : ℕ). wordBytes ws ++ drop i l) (zero-add (length (wordBytes ws)))

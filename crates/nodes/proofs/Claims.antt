@@ -7,7 +7,8 @@ use native.Mathlib.Omega.{arith}
 use lib.Dec.{eqb}
 use lib.ListN.{length, take, drop, length-append, length-drop}
 use borrow.Author.Tests.{ltb-true}
-use Rattle.journal.specs.Scope.{Selection}
+use Rattle.journal.specs.Scope.{unitsOf, Selection}
+use Rattle.journal.specs.declared.scope.Units.{Units}
 use Rattle.words.specs.Numbers.{Small, beBytes, wordBytes, words, zeros}
 use Rattle.words.proofs.Stores.{length-wordBytes}
 use Rattle.words.proofs.Words.{words-bytes}
@@ -19,7 +20,7 @@ use Rattle.words.proofs.Choice.{choose}
 use Rattle.journal.proofs.Entries.{operations-few}
 use Rattle.journal.proofs.Operands.{SmallEntries, entries-small}
 use Rattle.journal.proofs.Walks.{within-limit}
-use Rattle.node_area.specs.Head.{areaSize, headSize, isReserved}
+use Rattle.node_area.specs.Head.{areaSize, headSize, addressOf, isReserved}
 use Rattle.nodes.specs.Run.{areaWords, present, cost, longest, run, remains, nextState}
 use Rattle.nodes.specs.Longest.{AllOf}
 use Rattle.nodes.specs.Area.{operandsOf, part, body, answer, written}
@@ -29,6 +30,7 @@ use Rattle.nodes.specs.Claims.{Sorted, SmallOperands, Listed, operatorsA
 use Rattle.nodes.proofs.Runs.{length-operandsOf, length-body, longest-run, run-facts, next-le}
 use Rattle.nodes.proofs.Listed.{chosen-code}
 use Rattle.nodes.proofs.Decoding.{sorted-lower, body-reads}
+use Rattle.nodes.proofs.Carried.{reserved-of, written-head}
 
 -- ---- every reportable list is listed
 
@@ -108,9 +110,12 @@ sorted-drop zero least os s = s
 sorted-drop (suc n) least [] s = tt
 sorted-drop (suc n) least (o ∷ os) s = sorted-drop n least os (sorted-lower least (opcode o) os (s .0) (s .1))
 
-module _ (area : List ℕ) (os : List Operation) (state : ℕ) (size : length area ≡ areaSize) (l : Listed os) (inside : state ≤ length os) where
+module _ (scope unit : ℕ) (area : List ℕ) (os : List Operation) (state : ℕ) (small : unit < 18446744073709551616) (size : length area ≡ areaSize) (l : Listed os) (inside : state ≤ length os) where
+  abbrev units : Units
+  units = unitsOf scope unit
+
   abbrev behind : List ℕ
-  behind = drop (length (wordBytes (answer os state))) area
+  behind = drop (length (wordBytes (answer units os state))) area
 
   run-sorted : Sorted 0 (run os state)
   unfolding run
@@ -123,32 +128,36 @@ module _ (area : List ℕ) (os : List Operation) (state : ℕ) (size : length ar
   run-fits : cost (run os state) ≤ areaWords
   run-fits = run-facts os state inside .fits
 
-  answer-small : Small (answer os state)
+  address-small : addressOf units < 18446744073709551616
+  unfolding unitsOf
+  address-small = choose (eqb scope 3) (λ (u : Units). addressOf u < 18446744073709551616) (λ _. small) (λ _. omega arith)
+
+  answer-small : Small (answer units os state)
   unfolding answer
   answer-small =
       let behind = small-append (body (run os state)) (0 ∷ []) (small-body (run os state) run-fits run-small) (omega arith, tt) in
+      let address = address-small in
       (omega (arith, next-le os state inside, l .few), (omega arith, (omega arith, (omega arith, behind))))
 
-  written-size : length (written area os state) ≡ areaSize
+  written-size : length (written units area os state) ≡ areaSize
   unfolding written answer
   written-size = simp (length-append, length-drop, length-wordBytes, length-body) (omega (arith, run-fits))
 
-  written-zeros : isReserved (written area os state) ≡ true
-  unfolding isReserved written answer wordBytes beBytes zeros
-  written-zeros = refl
+  written-zeros : isReserved scope (written units area os state) ≡ true
+  written-zeros = reserved-of (written units area os state) scope unit (nextState os state) (written-head units area os state)
 
-  written-words : drop 4 (words (written area os state)) ≡ body (run os state) ++ (0 ∷ words behind)
+  written-words : drop 4 (words (written units area os state)) ≡ body (run os state) ++ (0 ∷ words behind)
   unfolding written answer
-  written-words = ap (drop 4) (words-bytes (answer os state) behind answer-small) ∙ append-assoc (body (run os state)) (0 ∷ []) (words behind)
+  written-words = ap (drop 4) (words-bytes (answer units os state) behind answer-small) ∙ append-assoc (body (run os state)) (0 ∷ []) (words behind)
 
   reads : (verdict 0 headSize 0 (body (run os state) ++ (0 ∷ words behind)) ≡ good) × (operationsAt (body (run os state) ++ (0 ∷ words behind)) 0 0 ≡ run os state) × Filled (operatorsAt 0 (body (run os state) ++ (0 ∷ words behind)))
   reads = body-reads (run os state) (words behind) run-sorted run-fits headSize 0 (omega arith)
 
-  read-back : reading (written area os state) ≡ read (run os state)
+  read-back : reading scope (written units area os state) ≡ read (run os state)
   unfolding reading
   read-back = rw (written-size, written-zeros, written-words, reads .0, reads .1)
 
-  none-empty : Filled (operatorsAt 0 (drop 4 (words (written area os state))))
+  none-empty : Filled (operatorsAt 0 (drop 4 (words (written units area os state))))
   none-empty = rw written-words (reads .2)
 
 -- ---- all of them

@@ -14,7 +14,7 @@ use Rattle.records.specs.Choosing.{chosenBy}
 use Rattle.journal.specs.declared.operation.Operation.{Operation}
 use Rattle.journal.specs.declared.scanning.Counts.{Counts}
 use Rattle.journal.specs.Journal.{Entry, opcode, entries}
-use Rattle.journal.specs.Reportable.{reports, chosen, reportable, countsOf}
+use Rattle.journal.specs.Reportable.{asks, reports, chosen, reportable, countsOf}
 use Rattle.words.proofs.Choice.{choose, and-left}
 use Rattle.nodes.specs.Run.{areaWords, run, remains, nextState, partWords, cut}
 use Rattle.nodes.specs.Longest.{AllOf}
@@ -26,7 +26,7 @@ use Rattle.nodes.proofs.Cut.{code-take, code-drop, body-split, Parts, p
 -- an entry that is reported under an opcode is an operation of it
 pub report-code : (selection : Selection) (code : ℕ) (e : Entry) → reports selection code e ≡ true → opcode (e .operation) ≡ code
 unfolding reports
-report-code selection code e h = eqb-true _ _ (and-left (eqb (opcode (e .operation)) code) _ h)
+report-code selection code e h = eqb-true _ _ (and-left (eqb (opcode (e .operation)) code) _ (and-left _ (asks (selection .units) e) h))
 
 pub chosen-code : (selection : Selection) (code : ℕ) (es : List Entry) → AllOf code (chosen selection code es)
 unfolding chosenBy

@@ -9,20 +9,20 @@ use native.Mathlib.Omega.{arith}
 use lib.Dec.{eqb}
 use lib.ListN.{length, take, drop, length-drop}
 use lib.Seq.{sets, length-sets, length-take-le}
-use borrow.Author.Tests.{eqb-true, eq-eqb, ne-eqb}
+use borrow.Author.Tests.{eq-eqb, ne-eqb}
+use Rattle.words.proofs.Choice.{choose}
 use Rattle.journal.specs.Scope.{Selection}
-use Rattle.words.specs.Numbers.{beBytes, wordBytes}
+use Rattle.words.specs.Numbers.{le, beBytes, wordBytes}
 use Rattle.words.proofs.Stores.{sets-over, length-wordBytes, words-behind, store-first}
 use Rattle.records.specs.Records.{sizeOf, firstRecord}
 use Rattle.records.proofs.Choosing.{one-if, chosen-here, chosen-later, still-inside}
 use Rattle.journal.specs.declared.operation.Operation.{Operation}
 use Rattle.journal.specs.Journal.{wellFormed, IsOpcode, operationOf, entryOf, entries}
 use Rattle.journal.specs.Reportable.{operation, reports, chosen}
-use Rattle.journal.specs.Marks.{firstOperand, secondOperand, operandsAt, operandsEnd, Resumes}
+use Rattle.journal.specs.Marks.{operandsBefore, Resumes}
 use Rattle.journal.proofs.Opcodes.{each-code}
 use Rattle.journal.proofs.Entries.{each-entry}
-use Rattle.journal.proofs.RecordLaws.{reported-kind}
-use Rattle.journal.proofs.Walks.{all-good, walked, walked-on, walked-fits, walked-size, walked-operands}
+use Rattle.journal.proofs.Walks.{all-good, walked-on, walked-fits, walked-size, walked-operands}
 use Rattle.nodes.specs.Run.{partWords, operator, areaWords}
 use Rattle.nodes.specs.Longest.{AllOf}
 use Rattle.nodes.specs.Area.{wordsOf, part}
@@ -45,12 +45,8 @@ width-some code = go (eqb code 3)
     go true = omega arith
     go false = omega arith
 
-length-operandsAt : (j : List ℕ) (code at : ℕ) → length (operandsAt j code at) ≡ width code
-length-operandsAt j code at = go (eqb code 3) (firstOperand j at) (secondOperand j at)
-  where
-    go : (t : Bool) (p d : ℕ) → length (cond t (p ∷ d ∷ []) (p ∷ [])) ≡ cond t 2 1
-    go true p d = refl
-    go false p d = refl
+length-operands : (j : List ℕ) (code end : ℕ) → length (operandsBefore j code end) ≡ width code
+length-operands j code end = choose (eqb code 3) (λ (ws : List ℕ). length ws ≡ width code) (λ e. rw e) (λ e. rw e)
 
 module _ (selection : Selection) (j : List ℕ) (code at n : ℕ) (d : Due selection j code at n) where
   pub due-length : length (dueWords selection j code at n) ≡ width code * n
@@ -64,23 +60,9 @@ module _ (selection : Selection) (j : List ℕ) (code at n : ℕ) (d : Due selec
   pub due-inside : 0 < n → at < length j
   due-inside h = still-inside (reports selection code) operation each-entry j at (omega (arith, d .enough))
 
-  pub due-record : 0 < n → operandsEnd code at ≤ length j
-  due-record h = go (reports selection code (entryOf (firstRecord (drop at j)))) (eqb code 3) refl refl
-    where
-      there : at < length j
-      there = due-inside h
-
-      go : (t u : Bool) → reports selection code (entryOf (firstRecord (drop at j))) ≡ t → eqb code 3 ≡ u → operandsEnd code at ≤ length j
-      go t false e f = rw f (omega (arith, walked-fits j at there (d .sound), walked-size j at there (d .sound) .0))
-      go true true e f =
-          let k = reported-kind j at (walked j at there (d .sound)) selection code e ∙ eqb-true code 3 f in
-          rw f (omega (arith, walked-fits j at there (d .sound), walked-size j at there (d .sound) .1 k))
-      go false true e f =
-          let c = chosen-later (reports selection code) operation each-entry j at there e in
-          let next = at + sizeOf (drop at j) in
-          let there′ : next < length j = still-inside (reports selection code) operation each-entry j next (omega (arith, d .enough, ap (λ (l : List Operation). length l) c)) in
-          let good′ = walked-on j at there (d .sound) in
-          rw f (omega (arith, walked-size j at there (d .sound) .0, walked-fits j next there′ good′, walked-size j next there′ good′ .0))
+  -- its size, and where it ends
+  pub due-record : 0 < n → (10 ≤ sizeOf (drop at j)) × (at + sizeOf (drop at j) ≤ length j)
+  due-record h = (walked-size j at (due-inside h) (d .sound), walked-fits j at (due-inside h) (d .sound))
 
 -- ---- the loop of the operands
 
@@ -108,13 +90,13 @@ module _ (aim : List ℕ) (selection : Selection) (j : List ℕ) (code : ℕ) (a
   past = at + sizeOf (drop at j)
 
   abbrev stored : List ℕ
-  stored = sets area to (wordBytes (operandsAt j code at))
+  stored = sets area to (wordBytes (operandsBefore j code past))
 
   inside : at < length j
   inside = due-inside selection j code at left (w .due) h
 
   same-size : length stored ≡ length area
-  same-size = length-sets area to (wordBytes (operandsAt j code at))
+  same-size = length-sets area to (wordBytes (operandsBefore j code past))
 
   -- a record that counts: its operands stay
   counts : shown ≡ true → Writing aim selection j code stored past (to + 4 * width code) (left - 1)
@@ -125,12 +107,12 @@ module _ (aim : List ℕ) (selection : Selection) (j : List ℕ) (code : ℕ) (a
       let os = chosen selection code (entries (drop past j)) in
       let more : width code * left ≡ width code + width code * (left - 1) = pred-mul (width code) left h in
       let first : take left (chosen selection code (entries (drop at j))) ≡ operationOf (firstRecord (drop at j)) ∷ take (left - 1) os = ap (take left) c ∙ take-one left _ os h in
-      let words : wordsOf (take left (chosen selection code (entries (drop at j)))) ≡ operandsAt j code at ++ wordsOf (take (left - 1) os) =
+      let words : wordsOf (take left (chosen selection code (entries (drop at j)))) ≡ operandsBefore j code past ++ wordsOf (take (left - 1) os) =
       ap wordsOf first ∙ ap (λ (l : List ℕ). l ++ wordsOf (take (left - 1) os)) (walked-operands j at inside (d .sound) selection code e) in
       record {
         due = record { of = d .of; sound = walked-on j at inside (d .sound); enough = omega (arith, d .enough, ap (λ (l : List Operation). length l) c) };
         room = rw same-size (omega (arith, w .room, more));
-        rest = words-behind area to (to + 4 * width code) (operandsAt j code at) (wordsOf (take (left - 1) os)) (omega (arith, length-operandsAt j code at))
+        rest = words-behind area to (to + 4 * width code) (operandsBefore j code past) (wordsOf (take (left - 1) os)) (omega (arith, length-operands j code past))
             ∙ ap (λ (l : List ℕ). sets area to (wordBytes l)) (sym words) ∙ w .rest;
       }
     where
@@ -153,8 +135,8 @@ module _ (aim : List ℕ) (selection : Selection) (j : List ℕ) (code : ℕ) (a
         due = record { of = d .of; sound = walked-on j at inside (d .sound); enough = omega (arith, d .enough, ap (λ (l : List Operation). length l) c) };
         room = rw same-size (w .room);
         rest = ap (λ (l : List ℕ). sets stored to (wordBytes l)) words
-            ∙ sets-over (wordBytes (operandsAt j code at)) (wordBytes (dueWords selection j code at left)) area to
-            (omega (arith, length-wordBytes (operandsAt j code at), length-operandsAt j code at, length-wordBytes (dueWords selection j code at left), due-length selection j code at left d))
+            ∙ sets-over (wordBytes (operandsBefore j code past)) (wordBytes (dueWords selection j code at left)) area to
+            (omega (arith, length-wordBytes (operandsBefore j code past), length-operands j code past, length-wordBytes (dueWords selection j code at left), due-length selection j code at left d))
             ∙ w .rest;
       }
 
@@ -176,11 +158,11 @@ writing-end aim selection j code area at to left w h = rw h at (w .rest)
 pub width-three : (code : ℕ) → code ≡ 3 → width code ≡ 2
 width-three code h = rw (eq-eqb code 3 h)
 
-pub operands-three : (j : List ℕ) (code at : ℕ) → code ≡ 3 → operandsAt j code at ≡ firstOperand j at ∷ secondOperand j at ∷ []
-operands-three j code at h = rw (eq-eqb code 3 h)
+pub operands-three : (j : List ℕ) (code end : ℕ) → code ≡ 3 → operandsBefore j code end ≡ le 4 j (end - 8) ∷ le 4 j (end - 4) ∷ []
+operands-three j code end h = rw (eq-eqb code 3 h)
 
-pub operands-other : (j : List ℕ) (code at : ℕ) → (code ≡ 3 → ⊥) → operandsAt j code at ≡ firstOperand j at ∷ []
-operands-other j code at h = rw (ne-eqb code 3 h)
+pub operands-other : (j : List ℕ) (code end : ℕ) → (code ≡ 3 → ⊥) → operandsBefore j code end ≡ le 4 j (end - 4) ∷ []
+operands-other j code end h = rw (ne-eqb code 3 h)
 
 -- ---- one opcode's part
 

@@ -6,6 +6,7 @@ use lib.Dec.{eqb}
 use lib.ListN.{length, drop}
 use Rattle.words.specs.Numbers.{wordBytes}
 use Rattle.journal.specs.declared.operation.Operation.{Operation}
+use Rattle.journal.specs.declared.scope.Units.{Units}
 use Rattle.journal.specs.Journal.{opcode, operands}
 use Rattle.node_area.specs.Head.{headWords}
 use Rattle.nodes.specs.Run.{run, nextState}
@@ -31,9 +32,10 @@ unfoldable pub body : List Operation → List ℕ
 body os = part 1 (operandsOf 1 os) ++ (part 2 (operandsOf 2 os) ++ part 3 (operandsOf 3 os))
 
 -- 01: "The answer: new state (0 when nothing remains), twelve zero bytes, one operator and its operands for each opcode present, then 0x00000000."
-unfoldable pub answer : List Operation → ℕ → List ℕ
-answer os state = headWords (nextState os state) ++ (body (run os state) ++ (0 ∷ []))
+-- For all units, or with the address of one (02, M-100).
+unfoldable pub answer : Units → List Operation → ℕ → List ℕ
+answer units os state = headWords units (nextState os state) ++ (body (run os state) ++ (0 ∷ []))
 
 -- 01: "Bytes after the terminator stay unchanged."
-unfoldable pub written : List ℕ → List Operation → ℕ → List ℕ
-written area os state = wordBytes (answer os state) ++ drop (length (wordBytes (answer os state))) area
+unfoldable pub written : Units → List ℕ → List Operation → ℕ → List ℕ
+written units area os state = wordBytes (answer units os state) ++ drop (length (wordBytes (answer units os state))) area

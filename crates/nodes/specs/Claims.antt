@@ -5,7 +5,7 @@ use mathlib.Core.Bool.{Bool, true, cond}
 use mathlib.Core.List.{List, [], _∷_, _++_}
 use lib.Dec.{T, eqb}
 use lib.ListN.{length, drop, replicate}
-use Rattle.journal.specs.Scope.{Selection}
+use Rattle.journal.specs.Scope.{unitsOf, Selection}
 use Rattle.words.specs.Numbers.{Bytes, Small, words}
 use Rattle.words.specs.Cases.{all}
 use Rattle.journal.specs.declared.operation.Operation.{Operation}
@@ -40,7 +40,9 @@ ReportableListed = (selection : Selection) (j : List ℕ) → Bytes j → wellFo
 
 -- Reading what was written gives back the run, so it is never refused.
 abbrev pub RoundTrip : Type 0
-RoundTrip = (area : List ℕ) (os : List Operation) (state : ℕ) → length area ≡ areaSize → Listed os → state ≤ length os → reading (written area os state) ≡ read (run os state)
+RoundTrip =
+    (scope unit : ℕ) (area : List ℕ) (os : List Operation) (state : ℕ) → unit < 18446744073709551616 → length area ≡ areaSize → Listed os → state ≤ length os
+    → reading scope (written (unitsOf scope unit) area os state) ≡ read (run os state)
 
 -- 02, M-101, operators with no operands "perform no operation": what is written holds none.
 -- The operators at words of which the first k are operands, up to a zero word; and that each has operands.
@@ -57,8 +59,8 @@ Filled (w ∷ ws) = (0 < countIn w) × Filled ws
 
 abbrev pub NoneEmpty : Type 0
 NoneEmpty =
-    (area : List ℕ) (os : List Operation) (state : ℕ) → length area ≡ areaSize → Listed os → state ≤ length os
-    → Filled (operatorsAt 0 (drop 4 (words (written area os state))))
+    (scope unit : ℕ) (area : List ℕ) (os : List Operation) (state : ℕ) → unit < 18446744073709551616 → length area ≡ areaSize → Listed os → state ≤ length os
+    → Filled (operatorsAt 0 (drop 4 (words (written (unitsOf scope unit) area os state))))
 
 -- The run is never empty while operations remain.
 abbrev pub NeverEmpty : Type 0

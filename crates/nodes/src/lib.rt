@@ -3,4 +3,5 @@ mod run;
 mod writing;
 
 pub use run::longest_run;
+pub use writing::Progress;
 pub use writing::write_answer;

@@ -14,7 +14,7 @@ returns c = (rw (ne-eqb _ areaSize (c .if1 .taken)), reading-cases)
 
 returns-2 : tie.Need-returns-2
 unfolding reading
-returns-2 c = (rw (eq-eqb _ areaSize (c .before .before .if1 .left), ← c .before .is-reserved .ensures, c .if2 .taken), reading-cases)
+returns-2 c = (rw (eq-eqb _ areaSize (c .before .before .before .if1 .left), ← c .before .before .is-reserved .ensures, c .before .if2 .taken, c .reserved-from .ensures), reading-cases)
 
 returns-3 : tie.Need-returns-3
 unfolding reading
@@ -22,4 +22,4 @@ returns-3 c = (rw (eq-eqb _ areaSize (c .before .before .before .if1 .left), ←
 
 pub check-area-spec : {M : Type 1} → statement M
 check-area-spec =
-    tie.close (tie.spec returns (λ c κs. search needs) returns-2 (λ c κs. search needs) returns-3)
+    tie.close (tie.spec returns (λ c κs. search needs) (λ c κs. search needs) returns-2 (λ c κs. search needs) returns-3)

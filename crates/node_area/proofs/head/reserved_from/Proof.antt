@@ -1,0 +1,13 @@
+-- `head::reserved_from` meets its contract.
+use borrow.Author.Tests.{eq-eqb, ne-eqb}
+use Rattle.node_area.proofs.head.reserved_from.Statement.{statement}
+use Rattle.node_area.proofs.head.reserved_from.Tie as tie
+
+returns : tie.Need-returns
+returns c = rw (eq-eqb _ 3 (c .if1 .taken))
+
+returns-2 : tie.Need-returns-2
+returns-2 c = rw (ne-eqb _ 3 (c .if1 .left))
+
+pub reserved-from-spec : {M : Type 1} → statement M
+reserved-from-spec = tie.close (tie.spec returns returns-2)
