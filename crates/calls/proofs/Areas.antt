@@ -12,7 +12,7 @@ use Rattle.journal.specs.declared.scanning.Counts.{Counts}
 use Rattle.journal.specs.declared.scanning.Judgement.{Judgement}
 use Rattle.journal.specs.declared.scanning.Judgement.the-variants.{Malformed, Counted}
 use Rattle.journal.specs.Journal.{wellFormed}
-use Rattle.journal.specs.Scope.{valid, Selection, selectionOf}
+use Rattle.journal.specs.Scope.{valid, Selection}
 use Rattle.journal.specs.Reportable.{reportable, countsOf, judgementOf}
 use Rattle.node_area.specs.Head.{isReserved}
 use Rattle.nodes.specs.Run.{remains}
@@ -21,18 +21,18 @@ use Rattle.nodes.specs.Area.{written}
 use Rattle.nodes.proofs.Listed.{total-is}
 use Rattle.calls.specs.declared.status.Status.{Status}
 use Rattle.calls.specs.declared.status.Status.the-variants as status
-use Rattle.calls.specs.UpdateNodes.{areaAt, withArea, placed, goodState, areaStatus, areaAfter, nodesStatus, nodesMemory}
+use Rattle.calls.specs.UpdateNodes.{areaAt, withArea, placed, goodState, areaStatus, areaAfter, asksFor, nodesStatus, nodesMemory}
 use Rattle.words.proofs.Choice.{decide, and-right}
 use Rattle.calls.proofs.Memory.{part-lent, part-back}
 
 -- what a status and an area afterwards are to be
-abbrev pub Left : Selection → List ℕ → List ℕ → Status → List ℕ → Type 0
-Left selection j area s after = (s ≡ areaStatus selection j area) × (after ≡ areaAfter selection j area)
+abbrev pub Left : ℕ → Selection → List ℕ → List ℕ → Status → List ℕ → Type 0
+Left scope selection j area s after = (s ≡ areaStatus scope selection j area) × (after ≡ areaAfter scope selection j area)
 
-module _ (selection : Selection) (j area : List ℕ) where
+module _ (scope : ℕ) (selection : Selection) (j area : List ℕ) where
   -- an answer, by whether anything remains behind it
-  pub left-answered : wellFormed j ≡ true → isReserved area ≡ true → goodState selection j area ≡ true → (more : Bool) → remains (reportable selection j) (be32 area 0) ≡ more
-      → Left selection j area (cond more status.Again status.Done) (written area (reportable selection j) (be32 area 0))
+  pub left-answered : wellFormed j ≡ true → isReserved scope area ≡ true → goodState selection j area ≡ true → (more : Bool) → remains (reportable selection j) (be32 area 0) ≡ more
+      → Left scope selection j area (cond more status.Again status.Done) (written (selection .units) area (reportable selection j) (be32 area 0))
   unfolding areaStatus areaAfter
   left-answered w z e true f = rw (w, z, e, f) (refl, refl)
   left-answered w z e false f = rw (w, z, e, f) (refl, refl)
@@ -69,12 +69,12 @@ placed-inside m address e = leb-true (address + 4096) (length m) (and-right (eqb
 module _ (m : List ℕ) (address scope : ℕ) (j : List ℕ) where
   module _ (p : placed m address ≡ true) where
     -- past the checks of address and scope the area decides
-    pub nodes-checked : valid scope ≡ true → nodesStatus m address scope j ≡ areaStatus (selectionOf scope) j (areaAt m address)
+    pub nodes-checked : valid scope ≡ true → nodesStatus m address scope j ≡ areaStatus scope (asksFor scope (areaAt m address)) j (areaAt m address)
     unfolding nodesStatus
     nodes-checked v = rw (p, v)
 
     -- the area is answered, and comes back as v into memory
-    pub left-area : valid scope ≡ true → (s : Status) (v : List ℕ) → length v ≡ 4096 → Left (selectionOf scope) j (take (address + 4096 - address) (drop address m)) s v
+    pub left-area : valid scope ≡ true → (s : Status) (v : List ℕ) → length v ≡ 4096 → Left scope (asksFor scope (take (address + 4096 - address) (drop address m))) j (take (address + 4096 - address) (drop address m)) s v
         → LeftAll m address scope j s (take address m ++ (v ++ drop (address + 4096 - address) (drop address m)))
     unfolding nodesStatus nodesMemory
     left-area e s v n l =

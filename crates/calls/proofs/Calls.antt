@@ -13,16 +13,16 @@ use Rattle.words.proofs.Numbers.{be-same, length-beBytes}
 use Rattle.words.proofs.Stores.{sets-before, sets-append, be-stored}
 use Rattle.journal.specs.declared.operation.Operation.{Operation}
 use Rattle.journal.specs.Journal.{wellFormed}
-use Rattle.journal.specs.Scope.{valid, selectionOf}
+use Rattle.journal.specs.Scope.{valid, unitsOf}
 use Rattle.journal.specs.Reportable.{reportable}
 use Rattle.words.proofs.Choice.{choose, decide, and-left, and-right}
-use Rattle.node_area.specs.Head.{isReserved}
+use Rattle.node_area.specs.Head.{unitIn, isReserved}
 use Rattle.nodes.specs.Run.{remains}
 use Rattle.nodes.specs.Area.{written}
 use Rattle.calls.specs.declared.status.Status.{Status}
 use Rattle.calls.specs.declared.status.Status.the-variants.{Done, Again, Malformed, Parameter, AlreadyRegistered, DumpActive}
 use Rattle.calls.specs.Status.{isGiven, isAnswer, statusWord}
-use Rattle.calls.specs.UpdateNodes.{areaAt, withArea, placed, goodState, areaStatus, areaAfter, nodesStatus, nodesMemory}
+use Rattle.calls.specs.UpdateNodes.{areaAt, withArea, placed, goodState, areaStatus, areaAfter, asksFor, nodesStatus, nodesMemory}
 use Rattle.calls.specs.Buffer.{token, input, statusAt, numberFor, isNodes, Outcome, nodesOutcome, outcome, Found, Left, callOf, answered}
 use Rattle.calls.proofs.Ladder.{ladder-passed}
 use Rattle.calls.proofs.Heads.{whole-buffer, asked, unchanged, carried-out, outcome-ways, nodes-outcome}
@@ -31,8 +31,8 @@ use Rattle.calls.proofs.Areas.{placed-inside}
 -- ---- update-nodes
 
 -- the list that a call hands out, and the state that it finds
-abbrev pub listed : ℕ → List ℕ → List Operation
-listed s j = reportable (selectionOf s) j
+abbrev pub listed : ℕ → List ℕ → List ℕ → List Operation
+listed s area j = reportable (asksFor s area) j
 
 abbrev pub state : List ℕ → ℕ → ℕ
 state m a = be32 (areaAt m a) 0
@@ -44,36 +44,36 @@ module _ (m : List ℕ) (a s : ℕ) (j : List ℕ) where
     pub inside : a + 4096 ≤ length m
     pub scoped : valid s ≡ true
     pub formed : wellFormed j ≡ true
-    pub clear : isReserved (areaAt m a) ≡ true
-    pub begun : goodState (selectionOf s) j (areaAt m a) ≡ true
+    pub clear : isReserved s (areaAt m a) ≡ true
+    pub begun : goodState (asksFor s (areaAt m a)) j (areaAt m a) ≡ true
 
   -- a status of 0 or 1 tells so
   pub passed-is : isAnswer (nodesStatus m a s j) ≡ true → Passed
   unfolding nodesStatus placed areaStatus
   passed-is h =
-      let t = ladder-passed (placed m a) (valid s) (wellFormed j) (isReserved (areaAt m a)) (goodState (selectionOf s) j (areaAt m a)) (remains (listed s j) (state m a)) h in
+      let t = ladder-passed (placed m a) (valid s) (wellFormed j) (isReserved s (areaAt m a)) (goodState (asksFor s (areaAt m a)) j (areaAt m a)) (remains (listed s (areaAt m a) j) (state m a)) h in
       record { aligned = eqb-true _ _ (and-left _ _ (t .0)); inside = placed-inside m a (t .0); scoped = t .1; formed = t .2; clear = t .3; begun = t .4 }
 
-  answer-either : isAnswer (cond (remains (listed s j) (state m a)) Again Done) ≡ true
-  answer-either = choose (remains (listed s j) (state m a)) (λ (x : Status). isAnswer x ≡ true) (λ e. refl) (λ e. refl)
+  answer-either : isAnswer (cond (remains (listed s (areaAt m a) j) (state m a)) Again Done) ≡ true
+  answer-either = choose (remains (listed s (areaAt m a) j) (state m a)) (λ (x : Status). isAnswer x ≡ true) (λ e. refl) (λ e. refl)
 
   module _ (p : Passed) where
     well-placed : placed m a ≡ true
     unfolding placed
     well-placed = rw (eq-eqb _ _ (p .aligned), le-leb _ _ (p .inside))
 
-    area-status : areaStatus (selectionOf s) j (areaAt m a) ≡ cond (remains (listed s j) (state m a)) Again Done
+    area-status : areaStatus s (asksFor s (areaAt m a)) j (areaAt m a) ≡ cond (remains (listed s (areaAt m a) j) (state m a)) Again Done
     unfolding areaStatus
     area-status = rw (p .formed, p .clear, p .begun)
 
-    pub nodes-status : nodesStatus m a s j ≡ cond (remains (listed s j) (state m a)) Again Done
+    pub nodes-status : nodesStatus m a s j ≡ cond (remains (listed s (areaAt m a) j) (state m a)) Again Done
     unfolding nodesStatus
     nodes-status = rw (well-placed, p .scoped) area-status
 
     pub nodes-answers : isAnswer (nodesStatus m a s j) ≡ true
     nodes-answers = ap isAnswer nodes-status ∙ answer-either
 
-    pub nodes-memory : nodesMemory m a s j ≡ withArea m a (written (areaAt m a) (listed s j) (state m a))
+    pub nodes-memory : nodesMemory m a s j ≡ withArea m a (written (unitsOf s (unitIn (areaAt m a))) (areaAt m a) (listed s (areaAt m a) j) (state m a))
     unfolding nodesMemory areaAfter
     nodes-memory = rw (well-placed, p .scoped, area-status, answer-either)
 
@@ -142,8 +142,8 @@ module _ (c : Found) where
   -- what an answered update-nodes call leaves
   pub record Answered : Type 0 where
     pub passed : Passed m at scope j
-    pub memory : (callOf c) .memory ≡ withArea m at (written (areaAt m at) (listed scope j) (state m at))
-    pub status : be32 (callOf c .args) (statusAt b) ≡ cond (remains (listed scope j) (state m at)) 1 0
+    pub memory : (callOf c) .memory ≡ withArea m at (written (unitsOf scope (unitIn (areaAt m at))) (areaAt m at) (listed scope (areaAt m at) j) (state m at))
+    pub status : be32 (callOf c .args) (statusAt b) ≡ cond (remains (listed scope (areaAt m at) j) (state m at)) 1 0
 
   -- an answered call with its token has its counts
   nodes-only : token b ≡ 1 → isAnswer (outcome c .status) ≡ true → isNodes b ≡ true
@@ -161,7 +161,7 @@ module _ (c : Found) where
       record {
         passed = passed;
         memory = rw (carried-out c given, work) (nodes-memory m at scope j passed);
-        status = status-word given ∙ rw (work, nodes-status m at scope j passed) (word-either (remains (listed scope j) (state m at)));
+        status = status-word given ∙ rw (work, nodes-status m at scope j passed) (word-either (remains (listed scope (areaAt m at) j) (state m at)));
       }
 
   pub will-answer : isGiven (numberFor b) ≡ true → isNodes b ≡ true → Passed m at scope j → answered b (callOf c) ≡ true

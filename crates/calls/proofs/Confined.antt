@@ -15,11 +15,11 @@ use Rattle.journal.specs.Journal.{wellFormed}
 use Rattle.journal.specs.Reportable.{reportable}
 use Rattle.node_area.specs.Head.{isReserved}
 use Rattle.nodes.specs.Run.{remains}
-use Rattle.journal.specs.Scope.{valid, Selection, selectionOf}
+use Rattle.journal.specs.Scope.{valid, Selection}
 use Rattle.calls.specs.declared.status.Number.the-variants.{Given}
 use Rattle.calls.specs.declared.status.Status.the-variants.{Done, Parameter}
 use Rattle.calls.specs.Status.{numberOf, isGiven, isAnswer, statusWord}
-use Rattle.calls.specs.UpdateNodes.{areaAt, withArea, placed, goodState, areaStatus, areaAfter, nodesStatus, nodesMemory}
+use Rattle.calls.specs.UpdateNodes.{areaAt, withArea, placed, goodState, areaStatus, areaAfter, asksFor, nodesStatus, nodesMemory}
 use Rattle.calls.specs.Buffer.{outputs, input, statusAt, numberFor, isNodes, isIndices, isDump, requestOf, Outcome, nodesOutcome, indicesOutcome, dumpOutcome, refusal, outcome, Found, leaves, Left, callOf}
 use Rattle.calls.specs.Terms.{HasStatus, Refused, Asks, Outside}
 use Rattle.calls.specs.Demands.{Confined, Demand1}
@@ -40,14 +40,14 @@ use Rattle.calls.proofs.Requests.{indices-refused, indices-outside, ind
 -- ---- the memory that update-nodes leaves
 
 -- an area that is answered had a good state
-answers-state : (selection : Selection) (j area : List ℕ) → isAnswer (areaStatus selection j area) ≡ true → goodState selection j area ≡ true
+answers-state : (scope : ℕ) (selection : Selection) (j area : List ℕ) → isAnswer (areaStatus scope selection j area) ≡ true → goodState selection j area ≡ true
 unfolding areaStatus
-answers-state selection j area h = ladder-passed true true (wellFormed j) (isReserved area) (goodState selection j area) (remains (reportable selection j) (be32 area 0)) h .4
+answers-state scope selection j area h = ladder-passed true true (wellFormed j) (isReserved scope area) (goodState selection j area) (remains (reportable selection j) (be32 area 0)) h .4
 
-after-length : (selection : Selection) (j area : List ℕ) → length area ≡ 4096 → length (areaAfter selection j area) ≡ 4096
+after-length : (scope : ℕ) (selection : Selection) (j area : List ℕ) → length area ≡ 4096 → length (areaAfter scope selection j area) ≡ 4096
 unfolding areaAfter
-after-length selection j area size = decide (isAnswer (areaStatus selection j area))
-    (λ e. rw e (written-length area (reportable selection j) (be32 area 0) size (state-within selection j area (answers-state selection j area e))))
+after-length scope selection j area size = decide (isAnswer (areaStatus scope selection j area))
+    (λ e. rw e (written-length (selection .units) area (reportable selection j) (be32 area 0) size (state-within selection j area (answers-state scope selection j area e))))
     (λ e. rw e size)
 
 module _ (m : List ℕ) (address scope : ℕ) (j : List ℕ) where
@@ -55,9 +55,9 @@ module _ (m : List ℕ) (address scope : ℕ) (j : List ℕ) where
   area = areaAt m address
 
   abbrev next : List ℕ
-  next = areaAfter (selectionOf scope) j area
+  next = areaAfter scope (asksFor scope area) j area
 
-  after-none : isAnswer (areaStatus (selectionOf scope) j area) ≡ false → next ≡ area
+  after-none : isAnswer (areaStatus scope (asksFor scope area) j area) ≡ false → next ≡ area
   unfolding areaAfter
   after-none e = rw e
 
@@ -74,7 +74,7 @@ module _ (m : List ℕ) (address scope : ℕ) (j : List ℕ) where
     inside = placed-inside m address p
 
     size : length next ≡ 4096
-    size = after-length (selectionOf scope) j area (part-length m address 4096 inside)
+    size = after-length scope (asksFor scope area) j area (part-length m address 4096 inside)
 
   nodes-length : length (nodesMemory m address scope j) ≡ length m
   nodes-length = ways (λ (l : List ℕ). length l ≡ length m) (λ p v. part-kept m address 4096 (inside p) next (size p)) refl

@@ -6,7 +6,10 @@ use native.Mathlib.Omega.{arith}
 use lib.ListN.{length, take, drop, getD, length-append, length-take, length-drop, take-append-drop, List·getD-append}
 use lib.Seq.{drop-drop, take-take, take-all, take-at, drop-at, length-take-le, length-paste, getD-take, getD-drop, getD-append-add}
 use Rattle.words.proofs.Stores.{length-wordBytes}
+use Rattle.words.specs.Numbers.{Bytes}
+use Rattle.records.proofs.Steps.{bytes-take}
 use Rattle.journal.specs.declared.operation.Operation.{Operation}
+use Rattle.journal.specs.declared.scope.Units.{Units}
 use Rattle.nodes.specs.Area.{answer, written}
 use Rattle.nodes.proofs.Runs.{length-body, run-facts}
 use Rattle.calls.specs.Lent.{partAt, withPart}
@@ -20,6 +23,10 @@ module _ (m : List ℕ) (a n : ℕ) (inside : a + n ≤ length m) where
   pub part-lent : take (a + n - a) (drop a m) ≡ partAt m a n
   unfolding partAt
   part-lent = let e : a + n - a ≡ n = omega arith in ap (λ (k : ℕ). take k (drop a m)) e
+
+  pub part-bytes : Bytes m → Bytes (partAt m a n)
+  unfolding partAt
+  part-bytes h = bytes-take n (drop a m) (λ i. rw (getD-drop a m i 0) (h (a + i)))
 
   module _ (v : List ℕ) (size : length v ≡ n) where
     stored : withPart m a n v ≡ take a m ++ (v ++ drop (a + n) m)
@@ -76,6 +83,6 @@ front-behind front area k h =
     ∙ getD-append-add front (drop (length front) area) d 0 ∙ getD-drop (length front) area d 0 ∙ ap (λ (n : ℕ). getD area n 0) (sym there)
 
 -- an answer leaves the length of an area as it was
-pub written-length : (area : List ℕ) (os : List Operation) (k : ℕ) → length area ≡ 4096 → k ≤ length os → length (written area os k) ≡ 4096
+pub written-length : (units : Units) (area : List ℕ) (os : List Operation) (k : ℕ) → length area ≡ 4096 → k ≤ length os → length (written units area os k) ≡ 4096
 unfolding written answer
-written-length area os k size h = simp (length-append, length-drop, length-wordBytes, length-body) (omega (arith, run-facts os k h .fits))
+written-length units area os k size h = simp (length-append, length-drop, length-wordBytes, length-body) (omega (arith, run-facts os k h .fits))

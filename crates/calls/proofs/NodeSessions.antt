@@ -13,16 +13,17 @@ use lib.Seq.{take-all}
 use Rattle.words.specs.Numbers.{beBytes, wordBytes}
 use Rattle.words.specs.Reading.{read}
 use Rattle.journal.specs.declared.operation.Operation.{Operation}
+use Rattle.journal.specs.declared.scope.Units.{Units}
 use Rattle.journal.specs.Journal.{wellFormed}
-use Rattle.journal.specs.Scope.{valid, selectionOf}
-use Rattle.journal.specs.Reportable.{operandWords}
+use Rattle.journal.specs.Scope.{valid, unitsOf, selectionOf}
+use Rattle.journal.specs.Reportable.{reportable, operandWords}
 use Rattle.nodes.specs.Run.{run, remains, nextState}
 use Rattle.nodes.specs.Area.{written}
 use Rattle.node_area.specs.Reading.{reading}
 use Rattle.nodes.specs.Claims.{Listed}
 use Rattle.nodes.proofs.Runs.{RunFacts, run-facts, operandWords-append, operandWords-le, length-le-operandWords}
-use Rattle.node_area.specs.Head.{headOf, carriedHead, stateIn}
-use Rattle.nodes.proofs.Carried.{state-of, reserved-of, written-head}
+use Rattle.node_area.specs.Head.{headOf, carriedHead, stateIn, unitIn}
+use Rattle.nodes.proofs.Carried.{state-of, reserved-of, unit-of, written-head}
 use Rattle.nodes.proofs.Claims.{area-claims}
 use Rattle.calls.specs.Status.{isGiven}
 use Rattle.calls.specs.UpdateNodes.{areaAt, goodState}
@@ -31,7 +32,7 @@ use Rattle.calls.specs.Session.{isAnswered, Standing}
 use Rattle.calls.specs.NodeSession.{address, areaBefore, areaThen, carriedThen, start, standing, Continues, Session, WellMade, reported}
 use Rattle.calls.specs.Demands.{Bounded, Accounted, Ends, Demand3}
 use Rattle.calls.proofs.Memory.{part-length, part-stored, written-length}
-use Rattle.calls.proofs.Calls.{listed, Passed, Answered, answered-is, will-answer}
+use Rattle.calls.proofs.Calls.{Passed, Answered, answered-is, will-answer}
 use Rattle.calls.proofs.Session as session
 
 -- the words of a part of a list are no more than the list's
@@ -40,12 +41,15 @@ words-part k os = omega (arith, operandWords-append (take k os) (drop k os), ap 
 
 -- ---- the kind of session: sixteen bytes carry a state, and each area that does not end the list has 1,015 operand words
 
-abbrev Names : List ℕ → ℕ → Type 0
-Names carried k = carried ≡ carriedHead k
-
-module _ (j : List ℕ) (s : ℕ) (ls : Listed (listed s j)) where
+module _ (j : List ℕ) (s u : ℕ) (u-small : u < 18446744073709551616) (ls : Listed (reportable (selectionOf s u) j)) where
   abbrev os : List Operation
-  os = listed s j
+  os = reportable (selectionOf s u) j
+
+  abbrev units : Units
+  units = unitsOf s u
+
+  abbrev Names : List ℕ → ℕ → Type 0
+  Names carried k = carried ≡ carriedHead units k
 
   abbrev Fill : ℕ → ℕ → Type 0
   Fill a k = 1015 * a ≤ operandWords (take k os)
@@ -54,18 +58,18 @@ module _ (j : List ℕ) (s : ℕ) (ls : Listed (listed s j)) where
   End a = Bounded (operandWords os) a
 
   abbrev Open : Standing (List ℕ) → ℕ → Type 0
-  Open = session.Open carriedThen areaThen reading os Names Fill End
+  Open = session.Open carriedThen areaThen (reading s) os Names Fill End
 
   abbrev Step : ℕ → ℕ → Found → Type 0
-  Step = session.Step carriedThen areaThen reading os Names Fill End
+  Step = session.Step carriedThen areaThen (reading s) os Names Fill End
 
-  begins : session.Stands carriedThen areaThen reading os Names Fill End start
+  begins : session.Stands carriedThen areaThen (reading s) os Names Fill End (start s u)
   unfolding operandWords wordBytes beBytes
-  begins = session.starts carriedThen areaThen reading os Names Fill End (start .carried) refl (omega arith)
+  begins = session.starts carriedThen areaThen (reading s) os Names Fill End (start s u .carried) refl (omega arith)
 
   module _ (st : Standing (List ℕ)) (k : ℕ) (o : Open st k) where
     k-le : k ≤ length os
-    k-le = session.within carriedThen areaThen reading os Names Fill End st k o
+    k-le = session.within carriedThen areaThen (reading s) os Names Fill End st k o
 
     k-small : k < 4294967296
     k-small = omega (arith, k-le, ls .few)
@@ -73,7 +77,11 @@ module _ (j : List ℕ) (s : ℕ) (ls : Listed (listed s j)) where
     -- ---- an answered call of the session
     module _ (c : Found) (yes : isAnswered c ≡ true) (n : Continues j s st c) where
       k-is : stateIn (areaBefore c) ≡ k
-      k-is = state-of (areaBefore c) k (n .carries ∙ o .named) k-small
+      k-is = state-of (areaBefore c) units k (n .carries ∙ o .named) k-small
+
+      -- the call asks for what the session asks for
+      same-units : unitsOf s (unitIn (areaBefore c)) ≡ units
+      same-units = unit-of (areaBefore c) s u k u-small (n .carries ∙ o .named)
 
       left : Answered c
       left = answered-is c (n .nodes) yes
@@ -81,16 +89,16 @@ module _ (j : List ℕ) (s : ℕ) (ls : Listed (listed s j)) where
       size : length (areaBefore c) ≡ 4096
       size = part-length (c .memory) (address c) 4096 (left .passed .inside)
 
-      area-is : areaThen c ≡ written (areaBefore c) os k
+      area-is : areaThen c ≡ written units (areaBefore c) os k
       area-is =
-          ap (λ (m : List ℕ). areaAt m (address c)) (left .memory ∙ rw (n .of-scope, n .unchanged, k-is))
-          ∙ part-stored (c .memory) (address c) 4096 (left .passed .inside) (written (areaBefore c) os k) (written-length (areaBefore c) os k size k-le)
+          ap (λ (m : List ℕ). areaAt m (address c)) (left .memory ∙ rw (n .of-scope, n .unchanged, k-is, same-units))
+          ∙ part-stored (c .memory) (address c) 4096 (left .passed .inside) (written units (areaBefore c) os k) (written-length units (areaBefore c) os k size k-le)
 
       runs : RunFacts os k
       runs = run-facts os k k-le
 
-      carried-then : carriedThen c ≡ carriedHead (nextState os k)
-      carried-then = ap headOf area-is ∙ written-head (areaBefore c) os k
+      carried-then : carriedThen c ≡ carriedHead units (nextState os k)
+      carried-then = ap headOf area-is ∙ written-head units (areaBefore c) os k
 
       -- an area that ends the list: only an empty list has one with nothing in it
       last : k + length (run os k) ≡ length os → Bounded (operandWords os) (length (st .areas) + 1)
@@ -108,8 +116,8 @@ module _ (j : List ℕ) (s : ℕ) (ls : Listed (listed s j)) where
           record {
             n = length (run os k);
             inside = runs .within;
-            reads = ap reading area-is ∙ area-claims .round-trip (areaBefore c) os k size ls k-le ∙ ap read (area-claims .longest-run os k .first);
-            status = left .status ∙ rw (n .of-scope, n .unchanged, k-is);
+            reads = ap (reading s) area-is ∙ area-claims .round-trip s u (areaBefore c) os k u-small size ls k-le ∙ ap read (area-claims .longest-run os k .first);
+            status = left .status ∙ rw (n .of-scope, n .unchanged, k-is, same-units);
             names = λ l. carried-then ∙ rw (lt-ltb (k + length (run os k)) (length os) l);
             fills = λ l. omega (arith, o .fills, runs .words-so-far, runs .many l);
             ends = last;
@@ -135,8 +143,8 @@ module _ (j : List ℕ) (s : ℕ) (ls : Listed (listed s j)) where
         inside = m .inside;
         scoped = rw (m .of-scope) v;
         formed = rw (m .unchanged) w;
-        clear = reserved-of (areaBefore c) k (m .carries ∙ o .named);
-        begun = rw (state-of (areaBefore c) k (m .carries ∙ o .named) k-small, m .of-scope, m .unchanged) good-state;
+        clear = rw (m .of-scope) (reserved-of (areaBefore c) s u k (m .carries ∙ o .named));
+        begun = rw (state-of (areaBefore c) units k (m .carries ∙ o .named) k-small, m .of-scope, m .unchanged, unit-of (areaBefore c) s u k u-small (m .carries ∙ o .named)) good-state;
       }
 
       answers : isAnswered c ≡ true
@@ -148,22 +156,22 @@ module _ (j : List ℕ) (s : ℕ) (ls : Listed (listed s j)) where
     open-demand : (st : Standing (List ℕ)) (k : ℕ) → Open st k → Accounted j s os st
     unfolding reported wordBytes beBytes
     open-demand st k o =
-        let state-is : stateIn (st .carried) ≡ k = state-of (st .carried) k (ap headOf (o .named)) (k-small st k o) in
+        let state-is : stateIn (st .carried) ≡ k = state-of (st .carried) units k (ap headOf (o .named)) (k-small st k o) in
         record { handed = rw (o .unfinished, state-is) (o .handed); bounded = omega (arith, o .fills, words-part k os); answers = λ e. answers st k o w v }
 
-    closed-demand : (st : Standing (List ℕ)) → session.Closed carriedThen areaThen reading os Names Fill End st → Accounted j s os st
+    closed-demand : (st : Standing (List ℕ)) → session.Closed carriedThen areaThen (reading s) os Names Fill End st → Accounted j s os st
     unfolding reported
     closed-demand st c = record { handed = rw (c .finished, take-all (length os) os (omega arith)) (c .handed); bounded = c .ends; answers = λ e. absurd (true≢false (sym (c .finished) ∙ e)) }
 
-    accounted : (cs : List Found) → Session j s cs → Accounted j s os (standing cs)
-    accounted cs h = ⊎-elim (λ o. open-demand (standing cs) (o .0) (o .1)) (closed-demand (standing cs))
-        (session.stands carriedThen areaThen reading os Names Fill End (Continues j s) (λ st c n. n .unfinished) step start cs begins h)
+    accounted : (cs : List Found) → Session j s u cs → Accounted j s os (standing s u cs)
+    accounted cs h = ⊎-elim (λ o. open-demand (standing s u cs) (o .0) (o .1)) (closed-demand (standing s u cs))
+        (session.stands carriedThen areaThen (reading s) os Names Fill End (Continues j s) (λ st c n. n .unfinished) step (start s u) cs begins h)
 
-    ends : (cs : List Found) → Session j s cs → Ends j s os cs
-    ends cs h n a l = session.session-ends carriedThen areaThen reading os Names Fill End (Continues j s) (λ st c m. m .unfinished) step (WellMade j s) (λ st k o. answers st k o w v) start cs n
+    ends : (cs : List Found) → Session j s u cs → Ends j s u os cs
+    ends cs h n a l = session.session-ends carriedThen areaThen (reading s) os Names Fill End (Continues j s) (λ st c m. m .unfinished) step (WellMade j s) (λ st k o. answers st k o w v) (start s u) cs n
         (λ b k f p g. omega (arith, words-part k os)) begins h a
 
 pub demand3 : Demand3
-demand3 j s bytes w v cs h =
-    let ls = area-claims .reportable-listed (selectionOf s) j bytes w in
-    (accounted j s ls w v cs h, ends j s ls w v cs h)
+demand3 j s u bytes u-small w v cs h =
+    let ls = area-claims .reportable-listed (selectionOf s u) j bytes w in
+    (accounted j s u u-small ls w v cs h, ends j s u u-small ls w v cs h)

@@ -10,8 +10,8 @@ use Rattle.words.specs.Numbers.{Bytes, be, le, beBytes, wordBytes, zeros}
 use Rattle.words.proofs.Choice.{and-left, and-right}
 use Rattle.records.specs.Records.{records, recordsFrom, whole, allGood, wellFormedBy, lengthOf, kindOf}
 use Rattle.records.specs.Choosing.{chosenBy}
-use Rattle.journal.specs.Journal.{goodFrame, nodeType, goodRecord, wellFormed, operationOf, entries}
-use Rattle.journal.specs.Scope.{negative, valid, rowOf}
+use Rattle.journal.specs.Journal.{goodFrame, nodeType, goodRecord, wellFormed, operationOf, unitOf, entries}
+use Rattle.journal.specs.Scope.{negative, valid, rowOf, unitsOf}
 use Rattle.journal.specs.Reportable.{reports, reportable, operandWords}
 use Rattle.node_area.specs.Head.{isReserved}
 use Rattle.nodes.specs.Run.{present, cost, longest, run, remains, nextState}
@@ -26,7 +26,7 @@ use Rattle.calls.specs.UpdateNodes.{placed, goodState, areaStatus, areaA
 use Rattle.calls.specs.GetIndices.{askable, lendable, goodNumber, dueFits, moreEntries, listStatus, indicesStatus, indicesMemory, nextNumber}
 use Rattle.calls.specs.Buffer.{numberFor, asks, nodesOutcome, indicesOutcome, outcome, callOf, answered}
 use Rattle.calls.specs.Session.{afterCall, none, counted, passed}
-use Rattle.calls.specs.Witnesses.{additions, nodesCall, NodesWitness, sensors, indicesCall, IndicesWitness}
+use Rattle.calls.specs.Witnesses.{additions, nodesCall, functions, unitCall, NodesWitness, sensors, indicesCall, IndicesWitness}
 
 -- a list of bytes, tested element by element
 abbrev allBelow : List ℕ → Bool
@@ -39,27 +39,51 @@ bytes-by (x ∷ xs) e zero = ltb-true x 256 (and-left _ _ e)
 bytes-by (x ∷ xs) e (suc i) = bytes-by xs (and-right (ltb x 256) _ e) i
 
 pub nodes-witness : NodesWitness
-unfolding be le beBytes wordBytes zeros records recordsFrom whole allGood wellFormedBy lengthOf kindOf goodFrame nodeType goodRecord wellFormed operationOf entries negative valid rowOf reports reportable operandWords present cost longest run remains nextState operandsOf body answer written partAt withPart placed goodState areaStatus areaAfter nodesStatus nodesMemory numberFor asks nodesOutcome outcome callOf answered afterCall chosenBy isReserved
+unfolding be le beBytes wordBytes zeros unitOf unitsOf records recordsFrom whole allGood wellFormedBy lengthOf kindOf goodFrame nodeType goodRecord wellFormed operationOf entries negative valid rowOf reports reportable operandWords present cost longest run remains nextState operandsOf body answer written partAt withPart placed goodState areaStatus areaAfter nodesStatus nodesMemory numberFor asks nodesOutcome outcome callOf answered afterCall chosenBy isReserved
 nodes-witness =
     record {
-      bytes = bytes-by additions refl;
-      formed = refl;
-      scoped = refl;
-      session = (
-        (λ e. record { unfinished = refl; unchanged = refl; nodes = refl; of-scope = refl; carries = refl }),
-        (
-          (λ e. absurd (false≢true e)),
-          ((λ e. record { unfinished = refl; unchanged = refl; nodes = refl; of-scope = refl; carries = refl }), tt),
-        ),
-      );
-      refused = refl;
-      well-made =
-          counted {c = nodesCall 0 0} (record { unchanged = refl; nodes = refl; two-inputs = refl; one-output = refl; whole = omega arith; of-scope = refl; aligned = refl; inside = leb-true 4096 4096 refl; carries = refl })
-          (passed
-          (counted {c = nodesCall 0 509} (record { unchanged = refl; nodes = refl; two-inputs = refl; one-output = refl; whole = omega arith; of-scope = refl; aligned = refl; inside = leb-true 4096 4096 refl; carries = refl })
-          none));
-      enough = ltb-true 1020 2030 refl;
-      ended = refl;
+      of-scope-1 =
+          record {
+            bytes = bytes-by additions refl;
+            formed = refl;
+            scoped = refl;
+            session = (
+              (λ e. record { unfinished = refl; unchanged = refl; nodes = refl; of-scope = refl; carries = refl }),
+              (
+                (λ e. absurd (false≢true e)),
+                ((λ e. record { unfinished = refl; unchanged = refl; nodes = refl; of-scope = refl; carries = refl }), tt),
+              ),
+            );
+            refused = refl;
+            well-made =
+                counted {c = nodesCall 0 0} (record { unchanged = refl; nodes = refl; two-inputs = refl; one-output = refl; whole = omega arith; of-scope = refl; aligned = refl; inside = leb-true 4096 4096 refl; carries = refl })
+                (passed
+                (counted {c = nodesCall 0 509} (record { unchanged = refl; nodes = refl; two-inputs = refl; one-output = refl; whole = omega arith; of-scope = refl; aligned = refl; inside = leb-true 4096 4096 refl; carries = refl })
+                none));
+            enough = ltb-true 1020 2030 refl;
+            ended = refl;
+          };
+      of-unit-7 =
+          record {
+            bytes = bytes-by functions refl;
+            formed = refl;
+            scoped = refl;
+            session = (
+              (λ e. record { unfinished = refl; unchanged = refl; nodes = refl; of-scope = refl; carries = refl }),
+              (
+                (λ e. absurd (false≢true e)),
+                ((λ e. record { unfinished = refl; unchanged = refl; nodes = refl; of-scope = refl; carries = refl }), tt),
+              ),
+            );
+            refused = refl;
+            well-made =
+                counted {c = unitCall 0 0} (record { unchanged = refl; nodes = refl; two-inputs = refl; one-output = refl; whole = omega arith; of-scope = refl; aligned = refl; inside = leb-true 4096 4096 refl; carries = refl })
+                (passed
+                (counted {c = unitCall 0 1018} (record { unchanged = refl; nodes = refl; two-inputs = refl; one-output = refl; whole = omega arith; of-scope = refl; aligned = refl; inside = leb-true 4096 4096 refl; carries = refl })
+                none));
+            enough = ltb-true 1019 2030 refl;
+            ended = refl;
+          };
     }
 
 pub indices-witness : IndicesWitness

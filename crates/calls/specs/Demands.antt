@@ -79,22 +79,22 @@ pub record Demand2 : Type 0 where
   pub statuses : (f : Found) → HasStatus (callOf f) → ByToken f (callOf f)
 
 -- ---- demand 3: "After every such list the answered calls' areas, read by document 01's rules, hold, in order, exactly the first k of that
--- document's reportable list for the journal and scope, deletions first, each once."
+-- document's reportable list for the journal and scope, deletions first, each once." 02, M-100: "one scope and, in scope 3, one unit and that start".
 
 -- "If the operands of all reportable operations fill W words and n calls were answered, 1015 x (n - 1) < W, or n is at most 1 when W is zero."
 abbrev pub Bounded : ℕ → ℕ → Type 0
 Bounded W n = (0 < W → 1015 * (n - 1) < W) × (W ≡ 0 → n ≤ 1)
 
 pub record Accounted (j : List ℕ) (scope : ℕ) (os : List Operation) (st : Standing (List ℕ)) : Type 0 where
-  pub handed : readings reading (st .areas) ≡ read (take (reported os st) os)
+  pub handed : readings (reading scope) (st .areas) ≡ read (take (reported os st) os)
   pub bounded : Bounded (operandWords os) (length (st .areas))
   -- "Until one says done, no well-made call that carries those sixteen bytes is refused"
   pub answers : st .done ≡ false → (c : Found) → WellMade j scope st c → isAnswered c ≡ true
 
 -- "so the session ends": n calls that are well made when they come suffice where 1015 x n is above W
-abbrev pub Ends : List ℕ → ℕ → List Operation → List Found → Type 0
-Ends j scope os cs = (n : ℕ) → Among after (WellMade j scope) start cs n → operandWords os < 1015 * n → standing cs .done ≡ true
+abbrev pub Ends : List ℕ → ℕ → ℕ → List Operation → List Found → Type 0
+Ends j scope unit os cs = (n : ℕ) → Among after (WellMade j scope) (start scope unit) cs n → operandWords os < 1015 * n → standing scope unit cs .done ≡ true
 
 abbrev pub Demand3 : Type 0
-Demand3 = (j : List ℕ) (scope : ℕ) → Bytes j → wellFormed j ≡ true → valid scope ≡ true → (cs : List Found) → Session j scope cs
-    → let os = reportable (selectionOf scope) j in Accounted j scope os (standing cs) × Ends j scope os cs
+Demand3 = (j : List ℕ) (scope unit : ℕ) → Bytes j → unit < 18446744073709551616 → wellFormed j ≡ true → valid scope ≡ true → (cs : List Found) → Session j scope unit cs
+    → let os = reportable (selectionOf scope unit) j in Accounted j scope os (standing scope unit cs) × Ends j scope unit os cs

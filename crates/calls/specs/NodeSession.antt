@@ -5,6 +5,7 @@ use mathlib.Core.Bool.{true, false, cond}
 use mathlib.Core.List.{List, []}
 use lib.ListN.{length}
 use Rattle.journal.specs.declared.operation.Operation.{Operation}
+use Rattle.journal.specs.Scope.{unitsOf}
 use Rattle.node_area.specs.Head.{headOf, carriedHead, stateIn}
 use Rattle.calls.specs.UpdateNodes.{areaAt}
 use Rattle.calls.specs.Buffer.{token, inputs, outputs, input, Found, callOf}
@@ -20,9 +21,9 @@ areaBefore c = areaAt (c .memory) (address c)
 abbrev pub areaThen : Found → List ℕ
 areaThen c = areaAt (callOf c .memory) (address c)
 
--- "The first answered one finds sixteen zero bytes at the head of its work area"
-abbrev pub start : Standing (List ℕ)
-start = record { carried = carriedHead 0; done = false; areas = [] }
+-- "The first answered one finds sixteen zero bytes at the head of its work area"; 02, M-100: "in scope 3, one unit and that start"
+abbrev pub start : ℕ → ℕ → Standing (List ℕ)
+start scope unit = record { carried = carriedHead (unitsOf scope unit) 0; done = false; areas = [] }
 
 -- "each later one the first sixteen that the answered call before it left"
 abbrev pub carriedThen : Found → List ℕ
@@ -31,8 +32,8 @@ carriedThen c = headOf (areaThen c)
 abbrev pub after : Standing (List ℕ) → Found → Standing (List ℕ)
 after st c = afterCall carriedThen areaThen st c
 
-abbrev pub standing : List Found → Standing (List ℕ)
-standing cs = over after start cs
+abbrev pub standing : ℕ → ℕ → List Found → Standing (List ℕ)
+standing scope unit cs = over after (start scope unit) cs
 
 -- An answered call of the session: over the journal, of the scope, with the carried bytes; "none is answered after one says done"
 pub record Continues (j : List ℕ) (scope : ℕ) (st : Standing (List ℕ)) (c : Found) : Type 0 where
@@ -46,8 +47,8 @@ pub record Continues (j : List ℕ) (scope : ℕ) (st : Standing (List ℕ)) (c 
 abbrev pub Rule : List ℕ → ℕ → Standing (List ℕ) → Found → Type 0
 Rule j scope st c = isAnswered c ≡ true → Continues j scope st c
 
-abbrev pub Session : List ℕ → ℕ → List Found → Type 0
-Session j scope cs = Each after (Rule j scope) start cs
+abbrev pub Session : List ℕ → ℕ → ℕ → List Found → Type 0
+Session j scope unit cs = Each after (Rule j scope) (start scope unit) cs
 
 -- 01: "A well-made call has token 1, two inputs and one output, whole in its argument buffer, with the scope and an aligned area inside memory that begins with the carried bytes"
 pub record WellMade (j : List ℕ) (scope : ℕ) (st : Standing (List ℕ)) (c : Found) : Type 0 where

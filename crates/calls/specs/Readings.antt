@@ -7,7 +7,7 @@ use lib.Dec.{T, eqb}
 use lib.ListN.{length, take, drop, replicate}
 use Rattle.words.specs.Numbers.{be32, wordBytes, words}
 use Rattle.words.specs.Reading.{Reading, read, refused}
-use Rattle.journal.specs.Claims.{short, long}
+use Rattle.journal.specs.Claims.{short, long, unit}
 use Rattle.node_area.specs.Reading as node-area
 use Rattle.inventory.specs.Claims.{entry, bytes}
 use Rattle.indices.specs.Area.{entryBytes}
@@ -44,11 +44,25 @@ reads n (refused r at) = false
 abbrev pub nodes : List ℕ → ℕ → ℕ → ℕ → ℕ → ℕ → Bool
 nodes j scope state status n next =
     let x = updateNodes j scope (state ∷ 0 ∷ 0 ∷ 0 ∷ []) in
-    eqb (be32 (x .args) 20) status && (reads n (node-area.reading (x .memory)) && eqb (be32 (x .memory) 0) next)
+    eqb (be32 (x .args) 20) status && (reads n (node-area.reading scope (x .memory)) && eqb (be32 (x .memory) 0) next)
 
 -- a call over an area with these first words is refused: the status
 abbrev pub noNodes : List ℕ → ℕ → List ℕ → ℕ → Bool
 noNodes j scope head status = eqb (be32 (updateNodes j scope head .args) 20) status
+
+-- scope 3, for the unit of these two words: the status, the operations that the area reads as, the state left, and the unit that it carries on
+abbrev pub ofUnit : List ℕ → ℕ → ℕ → ℕ → ℕ → ℕ → ℕ → Bool
+ofUnit j high low state status n next =
+    let x = updateNodes j 3 (state ∷ high ∷ low ∷ 0 ∷ []) in
+    (eqb (be32 (x .args) 20) status && (reads n (node-area.reading 3 (x .memory)) && eqb (be32 (x .memory) 0) next))
+    && (eqb (be32 (x .memory) 4) high && eqb (be32 (x .memory) 8) low)
+
+-- an update of the unit 7, one of a unit that differs in its highest byte alone, and one of the unit 7 again; and one of the unit 0
+abbrev pub twoUnits : List ℕ
+twoUnits = unit 16 4 15 ++ ((16 ∷ 0 ∷ 4 ∷ 0 ∷ 16 ∷ 0 ∷ 7 ∷ 0 ∷ 0 ∷ 0 ∷ 0 ∷ 0 ∷ 0 ∷ 1 ∷ 43 ∷ 0 ∷ 0 ∷ 0 ∷ []) ++ unit 16 4 16)
+
+abbrev pub unitZero : List ℕ
+unitZero = 16 ∷ 0 ∷ 4 ∷ 0 ∷ 15 ∷ 0 ∷ 0 ∷ 0 ∷ 0 ∷ 0 ∷ 0 ∷ 0 ∷ 0 ∷ 0 ∷ 44 ∷ 0 ∷ 0 ∷ 0 ∷ []
 
 -- an area at an address in so many zero bytes of memory: the status
 abbrev pub placed : ℕ → ℕ → ℕ → Bool
@@ -199,7 +213,7 @@ cases =
     ∷ reports 4294967295 (16777221 ∷ 10 ∷ 11 ∷ 12 ∷ 13 ∷ 14 ∷ 33554440 ∷ 5 ∷ 8 ∷ 9 ∷ 10 ∷ 11 ∷ 12 ∷ 13 ∷ 14 ∷ 50331658 ∷ 10 ∷ 77 ∷ 11 ∷ 77 ∷ 12 ∷ 77 ∷ 13 ∷ 77 ∷ 14 ∷ 77 ∷ 0 ∷ [])
     ∷ reports 1 (16777223 ∷ 6 ∷ 9 ∷ 10 ∷ 11 ∷ 12 ∷ 13 ∷ 14 ∷ 33554446 ∷ 1 ∷ 2 ∷ 3 ∷ 4 ∷ 5 ∷ 6 ∷ 7 ∷ 8 ∷ 9 ∷ 10 ∷ 11 ∷ 12 ∷ 13 ∷ 14 ∷ 50331662 ∷ 6 ∷ 77 ∷ 9 ∷ 77 ∷ 10 ∷ 77 ∷ 11 ∷ 77 ∷ 12 ∷ 77 ∷ 13 ∷ 77 ∷ 14 ∷ 77 ∷ 0 ∷ [])
     ∷ reports 2 (33554433 ∷ 3 ∷ 0 ∷ [])
-    ∷ noNodes (everyType 14) 3 (0 ∷ 0 ∷ 0 ∷ 0 ∷ []) (minus 3)
+    ∷ reports 3 (0 ∷ [])
     ∷ noNodes (everyType 14) 2147483647 (0 ∷ 0 ∷ 0 ∷ 0 ∷ []) (minus 3)
     -- a malformed journal, also with a bad state; a bad scope hides it; reserved bytes that are not zero, the first, one between and the last; states
     ∷ noNodes (short 8 1 15) 1 (0 ∷ 0 ∷ 0 ∷ 0 ∷ []) (minus 1)
@@ -211,6 +225,30 @@ cases =
     ∷ noNodes [] 1 (1 ∷ 0 ∷ 0 ∷ 0 ∷ []) (minus 3)
     ∷ nodes (journalOf 3 0 0) 1 2 0 1 0
     ∷ noNodes (journalOf 3 0 0) 1 (2147483649 ∷ 0 ∷ 0 ∷ 0 ∷ []) (minus 3)
+    -- 02, M-100: "reports only that unit's records": two units in one journal, a unit that no record names, the unit 0
+    ∷ ofUnit twoUnits 0 7 0 0 2 0
+    ∷ ofUnit twoUnits 16777216 7 0 0 1 0
+    ∷ ofUnit twoUnits 0 8 0 0 0 0
+    ∷ ofUnit twoUnits 0 0 0 0 0 0
+    ∷ ofUnit (unitZero ++ twoUnits) 0 0 0 0 1 0
+    -- the state counts in the unit's list
+    ∷ ofUnit twoUnits 0 7 1 0 1 0
+    ∷ noNodes twoUnits 3 (2 ∷ 0 ∷ 7 ∷ 0 ∷ []) (minus 3)
+    -- "in scope 3 only bytes 12 to 15 are tested for zero"; bytes 4 and 11 name a unit there, and give -3 in scope 1
+    ∷ noNodes twoUnits 3 (0 ∷ 0 ∷ 7 ∷ 16777216 ∷ []) (minus 3)
+    ∷ noNodes twoUnits 3 (0 ∷ 0 ∷ 7 ∷ 1 ∷ []) (minus 3)
+    ∷ ofUnit [] 16777216 1 0 0 0 0
+    ∷ noNodes [] 1 (0 ∷ 0 ∷ 1 ∷ 0 ∷ []) (minus 3)
+    -- "in scope 3 only": in other scopes kind 4 is passed over
+    ∷ nodes (twoUnits ++ short 8 2 10) 1 0 0 1 0
+    ∷ nodes twoUnits 2147483648 0 0 0 0
+    ∷ nodes twoUnits 2 0 0 0 0
+    -- 1,018 updates of a unit in one call, and 1,019 in two (`NodesWitness`)
+    ∷ ofUnit (times 1018 (unit 16 4 16)) 0 7 0 0 1018 0
+    -- the types 15 and 16 in the other kinds, and another type in kind 4
+    ∷ noNodes (short 8 2 15) 3 (0 ∷ 0 ∷ 7 ∷ 0 ∷ []) (minus 1)
+    ∷ noNodes (unit 16 4 14) 3 (0 ∷ 0 ∷ 7 ∷ 0 ∷ []) (minus 1)
+    ∷ noNodes (unit 16 4 17) 3 (0 ∷ 0 ∷ 7 ∷ 0 ∷ []) (minus 1)
     -- the address: a multiple of 4,096 whose area is inside memory
     ∷ placed 8192 0 0
     ∷ placed 8192 4096 0

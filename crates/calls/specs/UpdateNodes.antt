@@ -7,7 +7,7 @@ use lib.ListN.{length}
 use Rattle.journal.specs.Journal.{wellFormed}
 use Rattle.journal.specs.Scope.{valid, selectionOf, Selection}
 use Rattle.journal.specs.Reportable.{reportable}
-use Rattle.node_area.specs.Head.{areaSize, stateIn, isReserved}
+use Rattle.node_area.specs.Head.{areaSize, stateIn, unitIn, isReserved}
 use Rattle.nodes.specs.Run.{remains}
 use Rattle.node_area.specs.State.{isWithin}
 use Rattle.nodes.specs.Area.{written}
@@ -32,28 +32,33 @@ unfoldable pub goodState : Selection → List ℕ → List ℕ → Bool
 goodState selection j area = isWithin (stateIn area) (length (reportable selection j))
 
 -- The checks of the area, after those of address and scope: journal (-1), reserved bytes (-3), state (-3).
-unfoldable pub areaStatus : Selection → List ℕ → List ℕ → Status
-areaStatus selection j area =
+unfoldable pub areaStatus : ℕ → Selection → List ℕ → List ℕ → Status
+areaStatus scope selection j area =
     cond (wellFormed j)
-    (cond (isReserved area)
+    (cond (isReserved scope area)
     (cond (goodState selection j area)
     (cond (remains (reportable selection j) (stateIn area)) Again Done)
     Parameter)
     Parameter)
     Malformed
 
-unfoldable pub areaAfter : Selection → List ℕ → List ℕ → List ℕ
-areaAfter selection j area = cond (isAnswer (areaStatus selection j area)) (written area (reportable selection j) (stateIn area)) area
+unfoldable pub areaAfter : ℕ → Selection → List ℕ → List ℕ → List ℕ
+areaAfter scope selection j area =
+    cond (isAnswer (areaStatus scope selection j area)) (written (selection .units) area (reportable selection j) (stateIn area)) area
+
+-- 02, M-100: what a call asks for, by its scope and, in scope 3, the unit that its area names
+abbrev pub asksFor : ℕ → List ℕ → Selection
+asksFor scope area = selectionOf scope (unitIn area)
 
 -- 01: "Checks in order: address .. (-3); scope (-3); journal (-1); bytes 4 to 15 of the area zero (-3); state (-3)."
 unfoldable pub nodesStatus : List ℕ → ℕ → ℕ → List ℕ → Status
 nodesStatus m address scope j =
     cond (placed m address)
     (cond (valid scope)
-    (areaStatus (selectionOf scope) j (areaAt m address))
+    (areaStatus scope (asksFor scope (areaAt m address)) j (areaAt m address))
     Parameter)
     Parameter
 
 unfoldable pub nodesMemory : List ℕ → ℕ → ℕ → List ℕ → List ℕ
 nodesMemory m address scope j =
-    cond (placed m address && valid scope) (withArea m address (areaAfter (selectionOf scope) j (areaAt m address))) m
+    cond (placed m address && valid scope) (withArea m address (areaAfter scope (asksFor scope (areaAt m address)) j (areaAt m address))) m

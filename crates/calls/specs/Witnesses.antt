@@ -11,7 +11,7 @@ use Rattle.dump.specs.Claims.{times}
 use Rattle.journal.specs.Journal.{wellFormed}
 use Rattle.journal.specs.Scope.{valid, selectionOf}
 use Rattle.journal.specs.Reportable.{reportable, operandWords}
-use Rattle.journal.specs.Claims.{long}
+use Rattle.journal.specs.Claims.{long, unit}
 use Rattle.inventory.specs.Inventory as inventory
 use Rattle.inventory.specs.Listing.{listed}
 use Rattle.calls.specs.GetIndices.{askable}
@@ -34,15 +34,34 @@ nodesCall address state = found (wordBytes (1 ∷ 2 ∷ 1 ∷ address ∷ 1 ∷ 
 abbrev pub nodesCalls : List Found
 nodesCalls = nodesCall 0 0 ∷ nodesCall 4096 0 ∷ nodesCall 0 509 ∷ []
 
+-- in scope 3: 1,019 updates of the unit 7 with one of another unit before them; an area holds 1,018
+abbrev pub another : List ℕ
+another = 16 ∷ 0 ∷ 4 ∷ 0 ∷ 15 ∷ 0 ∷ 7 ∷ 0 ∷ 0 ∷ 0 ∷ 0 ∷ 0 ∷ 0 ∷ 1 ∷ 42 ∷ 0 ∷ 0 ∷ 0 ∷ []
+
+abbrev pub functions : List ℕ
+functions = another ++ times 1019 (unit 16 4 16)
+
+-- a call of scope 3 for the unit 7
+abbrev pub unitCall : ℕ → ℕ → Found
+unitCall address state = found (wordBytes (1 ∷ 2 ∷ 1 ∷ address ∷ 3 ∷ 99 ∷ [])) (wordBytes (state ∷ 0 ∷ 7 ∷ 0 ∷ []) ++ replicate 4080 9) functions [] noRegistration
+
+abbrev pub unitCalls : List Found
+unitCalls = unitCall 0 0 ∷ unitCall 4096 0 ∷ unitCall 0 1018 ∷ []
+
+-- a session over a journal, of a scope and a unit, of which this call is refused and two are well made
+pub record NodesSession (j : List ℕ) (scope unit : ℕ) (between : Found) (cs : List Found) : Type 0 where
+  pub bytes : Bytes j
+  pub formed : wellFormed j ≡ true
+  pub scoped : valid scope ≡ true
+  pub session : nodes.Session j scope unit cs
+  pub refused : isAnswered between ≡ false
+  pub well-made : Among nodes.after (nodes.WellMade j scope) (nodes.start scope unit) cs 2
+  pub enough : operandWords (reportable (selectionOf scope unit) j) < 1015 * 2
+  pub ended : nodes.standing scope unit cs .done ≡ true
+
 pub record NodesWitness : Type 0 where
-  pub bytes : Bytes additions
-  pub formed : wellFormed additions ≡ true
-  pub scoped : valid 1 ≡ true
-  pub session : nodes.Session additions 1 nodesCalls
-  pub refused : isAnswered (nodesCall 4096 0) ≡ false
-  pub well-made : Among nodes.after (nodes.WellMade additions 1) nodes.start nodesCalls 2
-  pub enough : operandWords (reportable (selectionOf 1) additions) < 1015 * 2
-  pub ended : nodes.standing nodesCalls .done ≡ true
+  pub of-scope-1 : NodesSession additions 1 0 (nodesCall 4096 0) nodesCalls
+  pub of-unit-7 : NodesSession functions 3 7 (unitCall 4096 0) unitCalls
 
 -- ---- the whole list: two sensors of type 9 with codes of 79 bytes, of which an area of 92 bytes holds one
 
