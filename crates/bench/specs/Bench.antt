@@ -9,9 +9,9 @@ use Rattle.inventory.specs.Listing.{Entry, listed}
 use Rattle.journal.specs.Scope.{selectionOf}
 use Rattle.journal.specs.Reportable.{reportable}
 
--- the length of the reportable list, or the highest number for a malformed journal
-unfoldable pub reportedOf : ℕ → List ℕ → ℕ
-reportedOf scope j = cond (wellFormed j) (length (reportable (selectionOf scope) j)) 18446744073709551615
+-- the length of the reportable list, in scope 3 of a unit, or the highest number for a malformed journal
+unfoldable pub reportedOf : ℕ → ℕ → List ℕ → ℕ
+reportedOf scope unit j = cond (wellFormed j) (length (reportable (selectionOf scope unit) j)) 18446744073709551615
 
 -- the number of entries of a flag and type, or the highest number for a malformed inventory
 unfoldable pub listedOf : ℕ → ℕ → List ℕ → ℕ

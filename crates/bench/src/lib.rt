@@ -7,14 +7,14 @@ ghost use Rattle.bench.specs.Bench.{reportedOf, listedOf, lastIndex};
 use inventory::StartingNumber;
 use journal::Judgement;
 
-// How many operations a scope reports of a journal; the highest number for a malformed journal.
+// How many operations a scope reports of a journal, in scope 3 of a unit; the highest number for a malformed journal.
 #[no_mangle]
-pub extern "C" fn draugsten_bench_scan(journal: &[u8], scope: u32) -> u64
-    ensures { λ r. ⌜ r ≡ reportedOf scope (now (journal .entry)) ⌝ }
+pub extern "C" fn draugsten_bench_scan(journal: &[u8], scope: u32, unit: u64) -> u64
+    ensures { λ r. ⌜ r ≡ reportedOf scope unit (now (journal .entry)) ⌝ }
 {
     let row = journal::scope_row(scope);
     let sets = row.sets;
-    let found = journal::scan(journal, &sets);
+    let found = journal::scan(journal, &sets, journal::units_of(scope, unit));
     let judgement = found.judgement;
     match judgement {
         Judgement::Malformed => 18446744073709551615,

@@ -141,9 +141,9 @@ module _ (area start : List ℕ) (count : ℕ) where
     pub ahead : count - i ≤ length (operationsAt (words (drop at area)) 0 0)
     pub rest : sets l (3 * i) (operationsWords (take (count - i) (operationsAt (words (drop at area)) 0 0))) ≡ whole
 
-  pub walking-first : count ≤ length (remaining area startOf) → reading area ≡ read (remaining area startOf) → Walking start 16 0
+  pub walking-first : count ≤ length (remaining area startOf) → verdict 0 16 0 (words (drop 16 area)) ≡ nodes.good → Walking start 16 0
   unfolding remaining
-  walking-first h g = record { last = 0; fine = good-words area _ g; within = omega arith; ahead = rw sub-zero h; rest = rw sub-zero }
+  walking-first h g = record { last = 0; fine = g; within = omega arith; ahead = rw sub-zero h; rest = rw sub-zero }
 
 -- operations stand in words
 some-words : (ws : List ℕ) → 0 < length (operationsAt ws 0 0) → 1 ≤ length ws
@@ -209,8 +209,8 @@ module _ {area start l : List ℕ} {count at i : ℕ} (s : Walking area start co
 -- ---- what a check of an area tells of its reading
 
 -- a check that refuses tells the refusal of the reading
-pub refused-reading : (area : List ℕ) (x : Check) (r : Refusal) (at : ℕ) → x ≡ checkOf (reading area) → x ≡ Refused r at → reading area ≡ refused r at
-refused-reading area x r at told e = go (reading area) told
+pub refused-reading : (scope : ℕ) (area : List ℕ) (x : Check) (r : Refusal) (at : ℕ) → x ≡ checkOf (reading scope area) → x ≡ Refused r at → reading scope area ≡ refused r at
+refused-reading scope area x r at told e = go (reading scope area) told
   where
     go : (y : Reading Operation Refusal) → x ≡ checkOf y → y ≡ refused r at
     go (read os) h = cc
@@ -222,22 +222,23 @@ whole-size true x os e = refl
 whole-size false x os e = cc
 
 -- so the state of an area that is read can be read
-area-size : (area : List ℕ) (os : List Operation) → reading area ≡ read os → length area ≡ areaSize
+area-size : (scope : ℕ) (area : List ℕ) (os : List Operation) → reading scope area ≡ read os → length area ≡ areaSize
 unfolding reading
-area-size area os e = eqb-true (length area) areaSize (whole-size (eqb (length area) areaSize) _ os e)
+area-size scope area os e = eqb-true (length area) areaSize (whole-size (eqb (length area) areaSize) _ os e)
 
 -- an area that is read, of so many operations: those that a cursor at its start has before it
-pub record Good (area : List ℕ) (n : ℕ) : Type 0 where
+pub record Good (scope : ℕ) (area : List ℕ) (n : ℕ) : Type 0 where
   pub size : length area ≡ areaSize
-  pub is : reading area ≡ read (remaining area startOf)
+  pub is : reading scope area ≡ read (remaining area startOf)
+  pub fine : verdict 0 16 0 (words (drop 16 area)) ≡ nodes.good
   pub entries : length (remaining area startOf) ≡ n
 
 -- a check that finds operations passes such an area
-pub good : (area : List ℕ) (x : Check) (n : ℕ) → x ≡ checkOf (reading area) → x ≡ Entries n → Good area n
-good area x n told e = go (reading area) refl told
+pub good : (scope : ℕ) (area : List ℕ) (x : Check) (n : ℕ) → x ≡ checkOf (reading scope area) → x ≡ Entries n → Good scope area n
+good scope area x n told e = go (reading scope area) refl told
   where
-    go : (y : Reading Operation Refusal) → reading area ≡ y → x ≡ checkOf y → Good area n
-    go (read os) g h = let ahead = entries-in-order area os g in record { size = area-size area os g; is = rw ahead g; entries = rw ahead (cc) }
+    go : (y : Reading Operation Refusal) → reading scope area ≡ y → x ≡ checkOf y → Good scope area n
+    go (read os) g h = let ahead = entries-in-order scope area os g in record { size = area-size scope area os g; is = rw ahead g; fine = good-words scope area os g; entries = rw ahead (cc) }
     go (refused r at) g h = record { size = cc; is = cc; entries = cc }
 
 -- taking more than all takes all
@@ -247,5 +248,5 @@ take-min (o ∷ os) zero = rw min-zero
 take-min (o ∷ os) (suc k) = rw suc-min-suc (ap (λ (ps : List Operation). o ∷ ps) (take-min os k))
 
 -- the buffer with the first of its operations, no more than there are, is the reading's
-pub good-out : {area : List ℕ} {n : ℕ} → Good area n → (out m : List ℕ) (count : ℕ) → count ≡ min n (length out / 3) → m ≡ sets out 0 (operationsWords (take count (remaining area startOf))) → m ≡ nodesOut out (reading area)
+pub good-out : {scope : ℕ} {area : List ℕ} {n : ℕ} → Good scope area n → (out m : List ℕ) (count : ℕ) → count ≡ min n (length out / 3) → m ≡ sets out 0 (operationsWords (take count (remaining area startOf))) → m ≡ nodesOut out (reading scope area)
 good-out g out m count least stored = stored ∙ rw (g .is, least, ← g .entries, take-min)

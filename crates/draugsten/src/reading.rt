@@ -111,7 +111,7 @@ fn store_operands(
 
 // The first operations of a good area, so many of them.
 fn store_operations(area: &[u8], out: &mut [u32], count: usize)
-    requires { ⌜ (3 * count ≤ length (now out)) × (count ≤ length (nodes_cursor.remaining (now area) nodes_cursor.startOf)) × (nodes_reading.reading (now area) ≡ read (nodes_cursor.remaining (now area) nodes_cursor.startOf)) ⌝ }
+    requires { ⌜ (3 * count ≤ length (now out)) × (count ≤ length (nodes_cursor.remaining (now area) nodes_cursor.startOf)) × (nodes_reading.verdict 0 16 0 (words (drop 16 (now area))) ≡ nodes_reading.good) ⌝ }
     ensures { λ _. ⌜ now (out .exit) ≡ sets (now (out .entry)) 0 (operationsWords (take count (nodes_cursor.remaining (now (area .entry)) nodes_cursor.startOf))) ⌝ }
 {
     let mut at: usize = 16;
@@ -124,13 +124,13 @@ fn store_operations(area: &[u8], out: &mut [u32], count: usize)
     }
 }
 
-// Reads a node area: the operations into `out`, three words for each, as many as it has room for.
+// Reads a node area of a call of a scope: the operations into `out`, three words for each, as many as it has room for.
 #[no_mangle]
-pub extern "C" fn draugsten_read_nodes(area: &[u8], out: &mut [u32]) -> NodeReading
-    ensures { λ r. ⌜ r ≡ nodeReading (now (area .entry)) (nodes_reading.reading (now (area .entry))) ⌝ }
-    ensures { λ _. ⌜ now (out .exit) ≡ nodesOut (now (out .entry)) (nodes_reading.reading (now (area .entry))) ⌝ }
+pub extern "C" fn draugsten_read_nodes(area: &[u8], scope: u32, out: &mut [u32]) -> NodeReading
+    ensures { λ r. ⌜ r ≡ nodeReading (now (area .entry)) (nodes_reading.reading scope (now (area .entry))) ⌝ }
+    ensures { λ _. ⌜ now (out .exit) ≡ nodesOut (now (out .entry)) (nodes_reading.reading scope (now (area .entry))) ⌝ }
 {
-    let found = node_area::check_area(area);
+    let found = node_area::check_area(scope, area);
     match found {
         node_area::Check::Refused(refusal, offset) => NodeReading {
             refusal: node_refusal(refusal),

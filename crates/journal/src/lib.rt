@@ -17,6 +17,7 @@ pub use scanning::scan;
 pub use scope::Row;
 pub use scope::Units;
 pub use scope::scope_row;
+pub use scope::units_of;
 pub use walking::Visited;
 pub use walking::find;
 pub use walking::read_operand;

@@ -4,7 +4,7 @@ ghost use Prim.Native.Nat.{_<_};
 ghost use mathlib.Core.Bool.{true};
 ghost use mathlib.Core.List.{[]};
 ghost use lib.ListN.{getD};
-ghost use Rattle.journal.specs.Scope.{rows, scopeRow};
+ghost use Rattle.journal.specs.Scope.{rows, unitsOf, scopeRow};
 ghost use Rattle.journal.specs.Claims.{ScopeRows};
 
 // One row for each scope that has one, by node type from 0 to 16, of which there are 1 to 16: negative scopes, scopes 1, 2 and 3.
@@ -26,6 +26,17 @@ pub enum Units {
 pub struct Row {
     pub valid: bool,
     pub sets: [u8; 17],
+}
+
+// The units that a scope asks for: in scope 3 the one of this address, in all others all of them.
+pub fn units_of(scope: u32, unit: u64) -> Units
+    ensures { λ r. ⌜ r ≡ unitsOf scope unit ⌝ }
+{
+    if scope == 3 {
+        Units::One(unit)
+    } else {
+        Units::All
+    }
 }
 
 fn row_at(number: usize) -> [u8; 17]

@@ -22,7 +22,7 @@ use Rattle.node_area.specs.Head.{areaSize, headSize, stateIn, isReserved}
 use Rattle.node_area.specs.Cursor.{remaining, startOf}
 use Rattle.node_area.proofs.Verdicts.{entries-in-order}
 use Rattle.print_nodes.specs.Put.{Fits}
-use Rattle.print_nodes.specs.Text.{digits, decimal, hexDigits, hex, numbered, ended, operand, line, lines, text, textOf, LongInput, newline, space, state-, delete-, update-, add-, end-, refused-, -at-}
+use Rattle.print_nodes.specs.Text.{digits, decimal, hexDigits, hex, numbered, ended, operand, line, lines, assumedScope, text, textOf, LongInput, newline, space, state-, delete-, update-, add-, end-, refused-, -at-}
 
 -- ---- pieces
 
@@ -81,11 +81,11 @@ record Area (area : List ℕ) (os : List Operation) : Type 0 where
   pub size : length area ≡ areaSize
   pub few : length os ≤ 1024
 
-area-read : (area : List ℕ) (os : List Operation) → reading area ≡ read os → Area area os
+area-read : (area : List ℕ) (os : List Operation) → reading assumedScope area ≡ read os → Area area os
 unfolding reading
 area-read area os e =
     let ws = drop 4 (words area) in
-    let r = read-of (not (eqb (length area) areaSize)) (not (isReserved area)) (verdict 0 headSize 0 ws) (operationsAt ws 0 0) os e in
+    let r = read-of (not (eqb (length area) areaSize)) (not (isReserved assumedScope area)) (verdict 0 headSize 0 ws) (operationsAt ws 0 0) os e in
     let size : length area ≡ areaSize = eqb-true (length area) areaSize (not-false (eqb (length area) areaSize) (r .0)) in
     record { size = size; few = rw (← (r .1)) (omega (arith, length-operations ws 0 0, length-drop 4 (words area), length-words 1024 area size)) }
 
@@ -93,21 +93,21 @@ area-read area os e =
 
 module _ (input : List ℕ) where
   -- the text of an area with n operations
-  pub area-text : (n state : ℕ) → checkOf (reading input) ≡ Entries n → state ≡ stateIn input
+  pub area-text : (n state : ℕ) → checkOf (reading assumedScope input) ≡ Entries n → state ≡ stateIn input
       → (length input ≡ areaSize) × (text input ≡ ended state- state ++ (lines (remaining input startOf) ++ ended end- n))
   unfolding text
-  area-text n state e w = go (reading input) refl e
+  area-text n state e w = go (reading assumedScope input) refl e
     where
-      go : (r : Reading Operation Refusal) → reading input ≡ r → checkOf r ≡ Entries n
-          → (length input ≡ areaSize) × (textOf (stateIn input) (reading input) ≡ ended state- state ++ (lines (remaining input startOf) ++ ended end- n))
-      go (read os) g h = let same : length os ≡ n = cc in (area-read input os g .size, rw (g, entries-in-order input os g, same, w))
+      go : (r : Reading Operation Refusal) → reading assumedScope input ≡ r → checkOf r ≡ Entries n
+          → (length input ≡ areaSize) × (textOf (stateIn input) (reading assumedScope input) ≡ ended state- state ++ (lines (remaining input startOf) ++ ended end- n))
+      go (read os) g h = let same : length os ≡ n = cc in (area-read input os g .size, rw (g, entries-in-order assumedScope input os g, same, w))
       go (refused r at) g h = (cc, cc)
 
-  pub refused-text : (r : Refusal) (at : ℕ) → checkOf (reading input) ≡ Refused r at → text input ≡ numbered refused- (refusalNumber r) ++ ended -at- at
+  pub refused-text : (r : Refusal) (at : ℕ) → checkOf (reading assumedScope input) ≡ Refused r at → text input ≡ numbered refused- (refusalNumber r) ++ ended -at- at
   unfolding text
-  refused-text r at e = go (reading input) refl e
+  refused-text r at e = go (reading assumedScope input) refl e
     where
-      go : (x : Reading Operation Refusal) → reading input ≡ x → checkOf x ≡ Refused r at → textOf (stateIn input) (reading input) ≡ numbered refused- (refusalNumber r) ++ ended -at- at
+      go : (x : Reading Operation Refusal) → reading assumedScope input ≡ x → checkOf x ≡ Refused r at → textOf (stateIn input) (reading assumedScope input) ≡ numbered refused- (refusalNumber r) ++ ended -at- at
       go (read os) g h = cc
       go (refused q k) g h = let same : _≡_ {A = Reading Operation Refusal} (refused q k) (refused r at) = cc in rw g (ap (textOf (stateIn input)) same)
 
@@ -118,9 +118,9 @@ refusal-fits n at = omega (arith, length-append (numbered refused- n) (ended -at
 
 pub text-fits : (input : List ℕ) → Fits 0 (text input)
 unfolding text
-text-fits input = go (reading input) refl
+text-fits input = go (reading assumedScope input) refl
   where
-    go : (r : Reading Operation Refusal) → reading input ≡ r → Fits 0 (textOf (stateIn input) (reading input))
+    go : (r : Reading Operation Refusal) → reading assumedScope input ≡ r → Fits 0 (textOf (stateIn input) (reading assumedScope input))
     go (read os) g =
         let first = ended state- (stateIn input) in
         let last = ended end- (length os) in

@@ -91,8 +91,12 @@ abbrev pub textOf : ℕ → Reading Operation Refusal → List ℕ
 textOf state (read os) = ended state- state ++ (lines os ++ ended end- (length os))
 textOf state (refused r at) = numbered refused- (refusalNumber r) ++ ended -at- at
 
+-- 02, M-100: "the reader is told the scope, the printing program assumes another" than 3
+abbrev pub assumedScope : ℕ
+assumedScope = 1
+
 unfoldable pub text : List ℕ → List ℕ
-text input = textOf (stateIn input) (reading input)
+text input = textOf (stateIn input) (reading assumedScope input)
 
 -- An input that is longer than an area has the text of its first 4,097 bytes, so that no more is read.
 abbrev pub LongInput : Type 0

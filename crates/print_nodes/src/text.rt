@@ -6,7 +6,7 @@ ghost use lib.Seq.{sets};
 ghost use Rattle.node_area.specs.declared.reading.Check.the-variants.{Entries};
 ghost use Rattle.node_area.specs.Reading.{refusalNumber, reading, checkOf};
 ghost use Rattle.node_area.specs.Cursor.{remaining, startOf};
-ghost use Rattle.print_nodes.specs.Text.{refused-, -at-, numbered, ended, operand, entry, line, lines, text, LongInput};
+ghost use Rattle.print_nodes.specs.Text.{refused-, -at-, numbered, ended, operand, entry, line, lines, assumedScope, text, LongInput};
 ghost use Rattle.print_nodes.specs.Put.{Fits, Put};
 use journal::Operation;
 use node_area::Check;
@@ -14,6 +14,9 @@ use node_area::Cursor;
 use node_area::Next;
 use node_area::Refusal;
 use node_area::StateVariable;
+
+// The program is not told a scope, and assumes one that is not 3.
+const SCOPE: u32 = 1;
 
 fn put_bytes(bytes: &[u8], out: &mut [u8; 32768], at: usize) -> usize
     requires { ⌜ Fits at (now bytes) ⌝ }
@@ -105,7 +108,7 @@ fn put_lines(input: &[u8], out: &mut [u8; 32768], at: usize) -> usize
 
 // An area that has so many operations.
 fn put_area(input: &[u8], count: usize, out: &mut [u8; 32768]) -> usize
-    requires { ⌜ checkOf (reading (now input)) ≡ Entries count ⌝ }
+    requires { ⌜ checkOf (reading assumedScope (now input)) ≡ Entries count ⌝ }
     ensures { λ r. ⌜ Put (now (out .entry)) (now (out .exit)) 0 r (text (now (input .entry))) ⌝ }
 {
     let state = StateVariable::read(input).0;
@@ -141,7 +144,7 @@ pub fn print_area(input: &[u8], out: &mut [u8; 32768]) -> usize
     ensures { λ _. ⌜ now (out .exit) ≡ sets (now (out .entry)) 0 (text (now (input .entry))) ⌝ }
     ensures longer { λ _. ⌜ LongInput ⌝ }
 {
-    let found = node_area::check_area(input);
+    let found = node_area::check_area(SCOPE, input);
     match found {
         Check::Refused(reason, offset) => put_refusal(refusal_number(reason), offset, out),
         Check::Entries(count) => put_area(input, count, out),

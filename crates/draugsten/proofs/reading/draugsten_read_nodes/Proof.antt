@@ -8,14 +8,14 @@ use Rattle.draugsten.proofs.reading.draugsten_read_nodes.Statement.{sta
 use Rattle.draugsten.proofs.reading.draugsten_read_nodes.Tie as tie
 
 -- the check found operations
-found : (c : tie.After-found2) → Good (now (c .before .before .before .before .before .args .area)) (c .found2 .given .0 .0)
-found c = good _ _ _ (c .before .before .check-area .ensures .0) (c .found2 .given .1)
+found : (c : tie.After-found2) → Good (c .before .before .before .before .before .args .scope) (now (c .before .before .before .before .before .args .area)) (c .found2 .given .0 .0)
+found c = good _ _ _ _ (c .before .before .check-area .ensures .0) (c .found2 .given .1)
 
 store-operations-requires : tie.Need-store-operations-requires
-store-operations-requires c κs = let g = found (c .before .before .before) in let least = c .least .ensures in (omega arith, omega arith, g .is)
+store-operations-requires c κs = let g = found (c .before .before .before) in let least = c .least .ensures in (omega arith, omega arith, g .fine)
 
 returns : tie.Need-returns
-returns c = rw (refused-reading _ _ _ _ (c .before .before .before .before .check-area .ensures .0) (c .before .before .found .given .1), c .node-refusal .ensures) (refl, refl)
+returns c = rw (refused-reading _ _ _ _ _ (c .before .before .before .before .check-area .ensures .0) (c .before .before .found .given .1), c .node-refusal .ensures) (refl, refl)
 
 returns-2 : tie.Need-returns-2
 returns-2 c =

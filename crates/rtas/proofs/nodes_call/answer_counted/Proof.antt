@@ -6,12 +6,12 @@ use native.Mathlib.Omega.{arith}
 use borrow.Author.Needs.{needs}
 use borrow.Author.Tests.{not-true, not-false}
 use denote.Ref.{now}
-use Rattle.journal.specs.Scope.{byRow}
+use Rattle.journal.specs.Scope.{unitsOf, asking}
 use Rattle.journal.specs.Reportable.{reportable}
 use Rattle.nodes.proofs.Answers.{counts-small}
 use Rattle.nodes.proofs.Listed.{total-is}
 use Rattle.nodes.specs.Area.{written}
-use Rattle.node_area.specs.Head.{isReserved}
+use Rattle.node_area.specs.Head.{unitIn, isReserved}
 use Rattle.node_area.specs.State.{total}
 use Rattle.calls.proofs.Areas.{left-answered, Left, state-is, state-within}
 use Rattle.calls.specs.declared.status.Status.the-variants.{Done, Again}
@@ -24,22 +24,22 @@ unfolding areaStatus areaAfter
 returns c = rw (c .before .before .before .before .before .pre .1 .good, ← c .before .is-reserved .ensures, not-true (c .before .is-reserved .result) (c .if1 .taken)) (refl, refl)
 
 is-within-requires : tie.Need-is-within-requires
-is-within-requires c κs = let s = c .before .before .before .before .before .before .before in omega (arith, counts-small (byRow (now (s .args .row))) (now (s .args .j)) (s .args .counts) (s .pre .1 .good) (s .pre .1 .counted))
+is-within-requires c κs = let s = c .before .before .before .before .before .before .before in omega (arith, counts-small (asking (now (s .args .row)) (unitsOf (s .args .scope) (unitIn (now (s .args .area))))) (now (s .args .j)) (s .args .counts) (s .pre .1 .good) (s .pre .1 .counted))
 
 -- the test of the code is that of the definition
-good-is : (c : tie.After-is-within) → c .is-within .result ≡ goodState (byRow (now (c .before .before .before .before .before .before .before .before .args .row))) (now (c .before .before .before .before .before .before .before .before .args .j)) (now (c .before .before .before .before .before .before .before .before .args .area))
-good-is c = let s = c .before .before .before .before .before .before .before .before in c .is-within .ensures ∙ state-is (byRow (now (s .args .row))) (now (s .args .j)) (now (s .args .area)) _ _ (c .before .read .ensures) (s .pre .1 .counted)
+good-is : (c : tie.After-is-within) → c .is-within .result ≡ goodState (asking (now (c .before .before .before .before .before .before .before .before .args .row)) (unitsOf (c .before .before .before .before .before .before .before .before .args .scope) (unitIn (now (c .before .before .before .before .before .before .before .before .args .area))))) (now (c .before .before .before .before .before .before .before .before .args .j)) (now (c .before .before .before .before .before .before .before .before .args .area))
+good-is c = let s = c .before .before .before .before .before .before .before .before in c .is-within .ensures ∙ state-is (asking (now (s .args .row)) (unitsOf (s .args .scope) (unitIn (now (s .args .area))))) (now (s .args .j)) (now (s .args .area)) _ _ (c .before .read .ensures) (s .pre .1 .counted)
 
-reserved-yes : (c : tie.Else1) → isReserved (now (c .before .before .before .before .before .args .area)) ≡ true
+reserved-yes : (c : tie.Else1) → isReserved (c .before .before .before .before .before .args .scope) (now (c .before .before .before .before .before .args .area)) ≡ true
 reserved-yes c = sym (c .before .is-reserved .ensures) ∙ not-false _ (c .if1 .left)
 
-good-yes : (c : tie.Else2) → goodState (byRow (now (c .before .before .before .before .before .before .before .before .before .args .row))) (now (c .before .before .before .before .before .before .before .before .before .args .j)) (now (c .before .before .before .before .before .before .before .before .before .args .area)) ≡ true
+good-yes : (c : tie.Else2) → goodState (asking (now (c .before .before .before .before .before .before .before .before .before .args .row)) (unitsOf (c .before .before .before .before .before .before .before .before .before .args .scope) (unitIn (now (c .before .before .before .before .before .before .before .before .before .args .area))))) (now (c .before .before .before .before .before .before .before .before .before .args .j)) (now (c .before .before .before .before .before .before .before .before .before .args .area)) ≡ true
 good-yes c = sym (good-is (c .before)) ∙ not-false _ (c .if2 .left)
 
 within : (c : tie.Else2) → c .before .before .read .result .0 ≤ total (c .before .before .before .before .before .before .before .before .before .args .counts)
 within c =
     let s = c .before .before .before .before .before .before .before .before .before in
-    rw (c .before .before .read .ensures, s .pre .1 .counted) (rw (← total-is (byRow (now (s .args .row))) (now (s .args .j))) at (state-within (byRow (now (s .args .row))) (now (s .args .j)) (now (s .args .area)) (good-yes c)))
+    rw (c .before .before .read .ensures, s .pre .1 .counted) (rw (← total-is (asking (now (s .args .row)) (unitsOf (s .args .scope) (unitIn (now (s .args .area))))) (now (s .args .j))) at (state-within (asking (now (s .args .row)) (unitsOf (s .args .scope) (unitIn (now (s .args .area))))) (now (s .args .j)) (now (s .args .area)) (good-yes c)))
 
 returns-2 : tie.Need-returns-2
 unfolding areaStatus areaAfter
@@ -48,19 +48,22 @@ returns-2 c =
     rw (formed, reserved-yes (c .before .before .before .before), ← good-is (c .before), not-true (c .before .is-within .result) (c .if2 .taken)) (refl, refl)
 
 write-answer-requires : tie.Need-write-answer-requires
-write-answer-requires c κs = let p = c .before .before .before .before .before .before .before .before .before .before .pre in (p .0, p .1, within (c .before))
+write-answer-requires c κs =
+    let p = c .before .before .before .before .before .before .before .before .before .before .before .before .pre in
+    (p .0, rw (c .before .units-in .ensures) (p .1), within (c .before .before .before))
 
 -- what the writer leaves, with the status that its result tells
 answered : (c : tie.After-write-answer) (more : Bool) → c .write-answer .result ≡ more
-    → let s = c .before .before .before .before .before .before .before .before .before .before .before in
-    Left (byRow (now (s .args .row))) (now (s .args .j)) (now (s .args .area)) (cond more Again Done) (c .write-answer .last .0)
+    → let s = c .before .before .before .before .before .before .before .before .before .before .before .before .before in
+    Left (s .args .scope) (asking (now (s .args .row)) (unitsOf (s .args .scope) (unitIn (now (s .args .area))))) (now (s .args .j)) (now (s .args .area)) (cond more Again Done) (c .write-answer .last .0)
 answered c more told =
-    let s = c .before .before .before .before .before .before .before .before .before .before .before in
-    let e = c .before .before .before .before .read .ensures in
-    let more-is = rw e at (sym (c .write-answer .ensures .0) ∙ told) in
-    let l = left-answered (byRow (now (s .args .row))) (now (s .args .j)) (now (s .args .area)) (s .pre .1 .good)
-    (reserved-yes (c .before .before .before .before .before .before)) (good-yes (c .before .before)) more more-is in
-    (l .0, c .write-answer .ensures .1 .0 ∙ ap (written (now (s .args .area)) (reportable (byRow (now (s .args .row))) (now (s .args .j)))) e ∙ l .1)
+    let s = c .before .before .before .before .before .before .before .before .before .before .before .before .before in
+    let sel = asking (now (s .args .row)) (unitsOf (s .args .scope) (unitIn (now (s .args .area)))) in
+    let e = c .before .before .before .before .before .before .read .ensures in
+    let done = rw (c .before .before .units-in .ensures) at (c .write-answer .ensures) in
+    let more-is = rw e at (sym (done .0) ∙ told) in
+    let l = left-answered (s .args .scope) sel (now (s .args .j)) (now (s .args .area)) (s .pre .1 .good) (reserved-yes (c .before .before .before .before .before .before .before .before)) (good-yes (c .before .before .before .before)) more more-is in
+    (l .0, done .1 .0 ∙ ap (written (sel .units) (now (s .args .area)) (reportable sel (now (s .args .j)))) e ∙ l .1)
 
 returns-3 : tie.Need-returns-3
 returns-3 c = answered (c .before .before .before) true (c .if3 .taken)
@@ -79,6 +82,7 @@ answer-counted-spec =
     is-within-requires
     (λ c. search needs)
     returns-2
+    (λ c κs. search needs)
     write-answer-requires
     (λ c. search needs)
     returns-3
