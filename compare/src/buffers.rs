@@ -31,7 +31,7 @@ pub fn record(kind: u16, body: &[u8]) -> Vec<u8> {
     bytes
 }
 
-/// A journal record; kind 3 alone has the second operand.
+/// A journal record of kinds 1 to 3; kind 3 alone has the second operand.
 pub fn journal_record(kind: u16, node_type: u16, first: u32, second: u32) -> Vec<u8> {
     let mut body = node_type.to_le_bytes().to_vec();
     body.extend(first.to_le_bytes());
@@ -39,6 +39,14 @@ pub fn journal_record(kind: u16, node_type: u16, first: u32, second: u32) -> Vec
         body.extend(second.to_le_bytes());
     }
     record(kind, &body)
+}
+
+/// A journal record of kind 4.
+pub fn unit_record(node_type: u16, unit: u64, phandle: u32) -> Vec<u8> {
+    let mut body = node_type.to_le_bytes().to_vec();
+    body.extend(unit.to_le_bytes());
+    body.extend(phandle.to_le_bytes());
+    record(4, &body)
 }
 
 /// An inventory record.

@@ -20,7 +20,35 @@ pub struct ReadCase {
     pub out: usize,
 }
 
-/// A list of calls over one journal or one inventory, up to status 0. The calls follow from `seed`.
+/// What a call of update-nodes asks for: a scope and, in scope 3, a unit. In all other scopes the unit is 0.
+#[derive(Clone, Copy, PartialEq, Eq)]
+pub struct Wanted {
+    pub scope: u32,
+    pub unit: u64,
+}
+
+impl Wanted {
+    /// The unit, in scope 3 alone.
+    pub fn unit_in_scope_3(&self) -> Option<u64> {
+        (self.scope == 3).then_some(self.unit)
+    }
+
+    /// The sixteen bytes that the area of the first call begins with.
+    pub fn first_bytes(&self) -> [u8; 16] {
+        let mut bytes = [0; 16];
+        bytes[4..12].copy_from_slice(&self.unit.to_be_bytes());
+        bytes
+    }
+
+    fn text(&self) -> String {
+        match self.unit_in_scope_3() {
+            Some(unit) => format!("scope 3, unit {unit:#018x}"),
+            None => format!("scope {:#010x}", self.scope),
+        }
+    }
+}
+
+/// Lists of calls over one journal or one inventory, each up to status 0. The calls follow from `seed`.
 #[derive(Clone)]
 pub struct SessionCase {
     pub seed: u64,
@@ -31,17 +59,21 @@ pub struct SessionCase {
     pub plain: bool,
 }
 
-#[derive(Clone, Copy)]
+#[derive(Clone)]
 pub enum Asked {
-    Nodes { scope: u32 },
-    Indices { flag: u32, kind: u32 },
+    /// A session for each, all at the same time over one journal.
+    Nodes(Vec<Wanted>),
+    Indices {
+        flag: u32,
+        kind: u32,
+    },
 }
 
 #[derive(Clone)]
 #[allow(clippy::large_enum_variant)]
 pub enum Case {
     Call(CallCase),
-    ReadNodes(ReadCase),
+    ReadNodes { scope: u32, read: ReadCase },
     ReadIndices(ReadCase),
     Session(SessionCase),
 }
@@ -63,7 +95,9 @@ impl Case {
     pub fn text(&self) -> String {
         match self {
             Case::Call(call) => call.text(),
-            Case::ReadNodes(read) => format!("node area, out {}\n", read.out) + &text::buffer("area", &read.area),
+            Case::ReadNodes { scope, read } => {
+                format!("node area, scope {scope:#010x}, out {}\n", read.out) + &text::buffer("area", &read.area)
+            }
             Case::ReadIndices(read) => format!("index area, out {}\n", read.out) + &text::buffer("area", &read.area),
             Case::Session(session) => session.text(),
         }
@@ -73,8 +107,11 @@ impl Case {
 impl SessionCase {
     fn text(&self) -> String {
         let between = if self.plain { "no refused calls between" } else { "refused calls between" };
-        let asked = match self.asked {
-            Asked::Nodes { scope } => format!("update-nodes session, scope {scope:#010x}"),
+        let asked = match &self.asked {
+            Asked::Nodes(wanted) => {
+                let wanted: Vec<String> = wanted.iter().map(Wanted::text).collect();
+                format!("update-nodes sessions: {}", wanted.join("; "))
+            }
             Asked::Indices { flag, kind } => format!("get-indices session, flag {flag}, type {kind}"),
         };
         format!("{asked}, {between}\n") + &text::records("records", &self.records)

@@ -107,9 +107,9 @@ pub struct ReadResult<T> {
 /// Numbers behind `out` that nobody may write.
 const GUARD_NUMBERS: usize = 6;
 
-pub fn run_read_nodes(subject: &dyn Subject, case: &ReadCase) -> ReadResult<u32> {
+pub fn run_read_nodes(subject: &dyn Subject, scope: u32, case: &ReadCase) -> ReadResult<u32> {
     let mut out: Vec<u32> = (0..case.out + GUARD_NUMBERS).map(|place| 0xa5a5_0000 + place as u32).collect();
-    let reading = subject.read_nodes(&case.area, &mut out[..case.out]);
+    let reading = subject.read_nodes(&case.area, scope, &mut out[..case.out]);
     ReadResult { reading, out }
 }
 
@@ -154,9 +154,10 @@ pub fn difference(sides: Sides, case: &Case, coverage: &mut Coverage) -> Option<
             coverage.call(call, &pair.paper);
             call_difference(sides, &pair)
         }
-        Case::ReadNodes(read) => {
-            let (paper, tested) = (run_read_nodes(sides.paper, read), run_read_nodes(sides.tested, read));
-            coverage.node_area(read, &paper.reading);
+        Case::ReadNodes { scope, read } => {
+            let paper = run_read_nodes(sides.paper, *scope, read);
+            let tested = run_read_nodes(sides.tested, *scope, read);
+            coverage.node_area(*scope, read, &paper.reading);
             read_difference(sides, &paper, &tested)
         }
         Case::ReadIndices(read) => {

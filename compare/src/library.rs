@@ -71,7 +71,13 @@ mod c {
         ) -> Answer;
 
         /// Three words of `out` for each entry: opcode, first operand, second operand or 0. `out_len` counts words.
-        pub fn draugsten_read_nodes(area: *const u8, area_len: usize, out: *mut u32, out_len: usize) -> NodeReading;
+        pub fn draugsten_read_nodes(
+            area: *const u8,
+            area_len: usize,
+            scope: u32,
+            out: *mut u32,
+            out_len: usize,
+        ) -> NodeReading;
 
         /// Three numbers of `out` for each entry: index, byte offset of the code in the area, length of the code
         /// without its NULs. `out_len` counts numbers.
@@ -121,9 +127,9 @@ impl Subject for Library {
         Answered { number: answer.number, registration: Registration { phase, length, copy }, rule: "" }
     }
 
-    fn read_nodes(&self, area: &[u8], out: &mut [u32]) -> Reading {
+    fn read_nodes(&self, area: &[u8], scope: u32, out: &mut [u32]) -> Reading {
         // SAFETY: as above.
-        let read = unsafe { c::draugsten_read_nodes(area.as_ptr(), area.len(), out.as_mut_ptr(), out.len()) };
+        let read = unsafe { c::draugsten_read_nodes(area.as_ptr(), area.len(), scope, out.as_mut_ptr(), out.len()) };
         Reading {
             refusal: read.refusal,
             state_or_zero: read.state,

@@ -31,7 +31,7 @@ fn bytes_of(case: &Case, part: Part) -> &[u8] {
         (Case::Call(call), Part::Memory) => &call.memory,
         (Case::Call(call), Part::Arguments) => &call.args,
         (Case::Call(call), Part::Copy) => &call.registration.copy,
-        (Case::ReadNodes(read) | Case::ReadIndices(read), Part::Area) => &read.area,
+        (Case::ReadNodes { read, .. } | Case::ReadIndices(read), Part::Area) => &read.area,
         (Case::Session(session), Part::Session) => &session.records,
         _ => &[],
     }
@@ -46,7 +46,7 @@ fn with_bytes(case: &Case, part: Part, bytes: Vec<u8>) -> Case {
         (Case::Call(call), Part::Memory) => call.memory = bytes,
         (Case::Call(call), Part::Arguments) => call.args = bytes,
         (Case::Call(call), Part::Copy) if bytes.len() == 512 => call.registration.copy.copy_from_slice(&bytes),
-        (Case::ReadNodes(read) | Case::ReadIndices(read), Part::Area) => read.area = bytes,
+        (Case::ReadNodes { read, .. } | Case::ReadIndices(read), Part::Area) => read.area = bytes,
         (Case::Session(session), Part::Session) => session.records = bytes,
         _ => {}
     }
@@ -90,7 +90,7 @@ impl Shrinking<'_> {
     fn simplify(&mut self) {
         let candidate = match self.best.clone() {
             Case::Session(session) => Case::Session(SessionCase { plain: true, ..session }),
-            Case::ReadNodes(read) => Case::ReadNodes(ReadCase { out: 0, ..read }),
+            Case::ReadNodes { scope, read } => Case::ReadNodes { scope, read: ReadCase { out: 0, ..read } },
             Case::ReadIndices(read) => Case::ReadIndices(ReadCase { out: 0, ..read }),
             Case::Call(mut call) => {
                 call.registration.length = 0;
@@ -185,8 +185,8 @@ mod tests {
             Answered { number, ..answered }
         }
 
-        fn read_nodes(&self, area: &[u8], out: &mut [u32]) -> Reading {
-            Paper.read_nodes(area, out)
+        fn read_nodes(&self, area: &[u8], scope: u32, out: &mut [u32]) -> Reading {
+            Paper.read_nodes(area, scope, out)
         }
 
         fn read_indices(&self, area: &[u8], out: &mut [u64]) -> Reading {

@@ -30,7 +30,7 @@ pub trait Subject {
     ) -> Answered;
 
     /// With entries, writes three words for each that fits in `out`, and nothing else.
-    fn read_nodes(&self, area: &[u8], out: &mut [u32]) -> Reading;
+    fn read_nodes(&self, area: &[u8], scope: u32, out: &mut [u32]) -> Reading;
 
     /// As above, with three numbers for each entry.
     fn read_indices(&self, area: &[u8], out: &mut [u64]) -> Reading;
@@ -83,8 +83,8 @@ macro_rules! paper_subject {
                 Answered { number: told.number, registration, rule: told.rule }
             }
 
-            fn read_nodes(&self, area: &[u8], out: &mut [u32]) -> Reading {
-                match $rules::readers::read_nodes(area) {
+            fn read_nodes(&self, area: &[u8], scope: u32, out: &mut [u32]) -> Reading {
+                match $rules::readers::read_nodes(area, u64::from(scope)) {
                     Ok(nodes) => {
                         put_entries(out, nodes.operations.iter().map(|o| [o.opcode, o.first, o.second]));
                         let entries = nodes.operations.len() as u64;

@@ -8,7 +8,7 @@ use crate::library::Reading;
 pub const NODE_REFUSALS: &[(u32, &str)] = &[
     (0, "entries"),
     (20, "20 not 4,096 bytes"),
-    (21, "21 bytes 4 to 15 not zero"),
+    (21, "21 bytes 4 to 15, or 12 to 15, not zero"),
     (22, "22 opcode not 1 to 3"),
     (24, "24 operands past the end"),
     (25, "25 odd count for opcode 3"),
@@ -25,13 +25,15 @@ pub const INDEX_REFUSALS: &[(u32, &str)] = &[
 ];
 
 pub struct Facts {
+    /// The scope that the reader is told; 0 for an index area.
+    scope: u32,
     area: Vec<u8>,
     out: u64,
     reading: Reading,
 }
 
-pub fn facts(case: &ReadCase, reading: &Reading) -> Facts {
-    Facts { area: case.area.clone(), out: case.out as u64, reading: *reading }
+pub fn facts(scope: u32, case: &ReadCase, reading: &Reading) -> Facts {
+    Facts { scope, area: case.area.clone(), out: case.out as u64, reading: *reading }
 }
 
 impl Facts {
@@ -41,6 +43,17 @@ impl Facts {
 
     fn refused(&self, number: u32) -> bool {
         self.reading.refusal == number
+    }
+
+    /// Of bytes 4 to 15 this one alone is not zero.
+    fn alone_not_zero(&self, byte: usize) -> bool {
+        let not_zero = (4..16).filter(|&at| self.area.get(at).is_some_and(|&byte| byte != 0));
+        not_zero.eq([byte])
+    }
+
+    /// Refused by the bytes behind the state, at this offset.
+    fn reserved(&self, offset: u64) -> bool {
+        self.refused(21) && self.reading.offset == offset
     }
 
     /// The refused operator: its opcode, its count and the offset that its operands end at.
@@ -139,6 +152,19 @@ pub const NODE_LINES: &[Line<Facts>] = &[
     ("4,095 bytes", |f| f.length() == 4095),
     ("4,096 bytes", |f| f.length() == 4096),
     ("4,097 bytes", |f| f.length() == 4097),
+    ("scope 3, byte 4 alone not zero, read", |f| f.scope == 3 && f.refused(0) && f.alone_not_zero(4)),
+    ("scope 3, byte 11 alone not zero, read", |f| f.scope == 3 && f.refused(0) && f.alone_not_zero(11)),
+    ("scope 3, byte 12 alone not zero: 21 at 12", |f| f.scope == 3 && f.reserved(12) && f.alone_not_zero(12)),
+    ("scope 3, byte 15 alone not zero: 21 at 12", |f| f.scope == 3 && f.reserved(12) && f.alone_not_zero(15)),
+    ("scope 1, byte 4 alone not zero: 21 at 4", |f| f.scope == 1 && f.reserved(4) && f.alone_not_zero(4)),
+    ("scope 1, byte 11 alone not zero: 21 at 4", |f| f.scope == 1 && f.reserved(4) && f.alone_not_zero(11)),
+    ("scope 1, byte 12 alone not zero: 21 at 4", |f| f.scope == 1 && f.reserved(4) && f.alone_not_zero(12)),
+    ("scope 1, byte 15 alone not zero: 21 at 4", |f| f.scope == 1 && f.reserved(4) && f.alone_not_zero(15)),
+    ("scope 0, entries", |f| f.scope == 0 && f.entries()),
+    ("scope 4, entries", |f| f.scope == 4 && f.entries()),
+    ("scope 4, a unit: 21 at 4", |f| f.scope == 4 && f.reserved(4)),
+    ("scope 0x103, a unit: 21 at 4", |f| f.scope == 0x103 && f.reserved(4)),
+    ("scope 0x80000003, a unit: 21 at 4", |f| f.scope == 0x8000_0003 && f.reserved(4)),
     ("terminator at byte 16", |f| f.refused(0) && f.reading.entries == 0),
     ("terminator in the last word", |f| f.entries() && f.operands_to_4092()),
     ("22: opcode 0 with a count", |f| f.refused(22) && f.operator().0 == 0),

@@ -4,19 +4,24 @@ use crate::case::CallCase;
 use crate::compare::CallResult;
 use crate::paper::records;
 
-const SCOPES: [&str; 3] = ["negative", "1", "2"];
+const SCOPES: [&str; 4] = ["negative", "1", "2", "3"];
 
 /// Journals above this many bytes are not counted.
 const MOST_BYTES: usize = 1000;
 
 /// How often an answered call met a record of this scope, node type and opcode, reported or passed over.
 pub struct Combinations {
-    times: [[[u64; 3]; 14]; 3],
+    times: [[[u64; 3]; 16]; 4],
+}
+
+/// Node types 15 and 16 have updates alone.
+fn is_possible(node_type: usize, opcode: usize) -> bool {
+    node_type <= 14 || opcode == 2
 }
 
 impl Combinations {
     pub fn new() -> Combinations {
-        Combinations { times: [[[0; 3]; 14]; 3] }
+        Combinations { times: [[[0; 3]; 16]; 4] }
     }
 
     pub fn count(&mut self, case: &CallCase, result: &CallResult, scope: u64) {
@@ -30,21 +35,28 @@ impl Combinations {
         }
     }
 
-    pub fn missing(&self) -> Vec<String> {
-        let mut missing = Vec::new();
+    /// Every scope, node type and opcode that can come up, and how often it did.
+    fn cells(&self) -> Vec<(String, u64)> {
+        let mut cells = Vec::new();
         for (row, scope) in SCOPES.iter().enumerate() {
-            for cell in 0..14 * 3 {
-                let (node_type, opcode) = (cell / 3, cell % 3);
-                if self.times[row][node_type][opcode] == 0 {
-                    missing.push(format!("scope {scope}, node type {}, opcode {}", node_type + 1, opcode + 1));
+            for cell in 0..16 * 3 {
+                let (node_type, opcode) = (cell / 3 + 1, cell % 3 + 1);
+                if is_possible(node_type, opcode) {
+                    let name = format!("scope {scope}, node type {node_type}, opcode {opcode}");
+                    cells.push((name, self.times[row][node_type - 1][opcode - 1]));
                 }
             }
         }
-        missing
+        cells
+    }
+
+    pub fn missing(&self) -> Vec<String> {
+        self.cells().into_iter().filter(|cell| cell.1 == 0).map(|cell| cell.0).collect()
     }
 
     pub fn print(&self) {
-        let least = self.times.iter().flatten().flatten().min().copied().unwrap_or(0);
-        println!("\nscope rows x node types x opcodes in answered calls: 126, the rarest {least} times");
+        let cells = self.cells();
+        let (number, least) = (cells.len(), cells.iter().map(|cell| cell.1).min().unwrap_or(0));
+        println!("\nscope rows x node types x opcodes in answered calls: {number}, the rarest {least} times");
     }
 }

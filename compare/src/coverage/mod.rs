@@ -7,7 +7,7 @@ mod indices;
 mod nodes;
 
 use crate::buffers::{record_places, word_at};
-use crate::case::{CallCase, ReadCase};
+use crate::case::{Asked, CallCase, ReadCase};
 use crate::compare::CallResult;
 use crate::library::Reading;
 use combinations::Combinations;
@@ -89,7 +89,7 @@ const BUFFER_RULES: [&str; 7] = [
     "-3: counts unlike the call's own",
 ];
 
-const SESSION_ROWS: [&str; 8] = [
+const SESSION_ROWS: [&str; 11] = [
     "update-nodes sessions to the end",
     "get-indices sessions to the end",
     "answered calls in sessions",
@@ -98,6 +98,9 @@ const SESSION_ROWS: [&str; 8] = [
     "sessions of five or more answered calls",
     "entries that update-nodes handed out",
     "entries that get-indices handed out",
+    "update-nodes sessions of a unit to the end",
+    "two units over one journal at the same time",
+    "a unit and another scope over one journal at the same time",
 ];
 
 pub struct Coverage {
@@ -173,24 +176,44 @@ impl Coverage {
         }
     }
 
-    pub fn node_area(&mut self, case: &ReadCase, reading: &Reading) {
+    pub fn node_area(&mut self, scope: u32, case: &ReadCase, reading: &Reading) {
         count_refusal(&mut self.node_areas, areas::NODE_REFUSALS, reading.refusal);
-        self.node_area_lines.count_lines(areas::NODE_LINES, &areas::facts(case, reading));
+        self.node_area_lines.count_lines(areas::NODE_LINES, &areas::facts(scope, case, reading));
     }
 
     pub fn index_area(&mut self, case: &ReadCase, reading: &Reading) {
         count_refusal(&mut self.index_areas, areas::INDEX_REFUSALS, reading.refusal);
-        self.index_area_lines.count_lines(areas::INDEX_LINES, &areas::facts(case, reading));
+        self.index_area_lines.count_lines(areas::INDEX_LINES, &areas::facts(0, case, reading));
     }
 
-    /// A session that came to its end.
-    pub fn session(&mut self, of_nodes: bool, answered: u64, refused: u64, entries: u64) {
-        self.sessions.add(SESSION_ROWS[usize::from(!of_nodes)], 1);
+    /// Sessions over one journal or one inventory that came to their ends.
+    pub fn session(&mut self, asked: &Asked, answered: u64, refused: u64, entries: u64) {
         self.sessions.add(SESSION_ROWS[2], answered);
         self.sessions.add(SESSION_ROWS[3], refused);
+        match asked {
+            Asked::Nodes(wanted) => {
+                let sessions = wanted.len() as u64;
+                let units = wanted.iter().filter(|wanted| wanted.scope == 3).count() as u64;
+                let two_units = wanted.iter().any(|one| one.scope == 3 && wanted[0].scope == 3 && *one != wanted[0]);
+                self.sessions.add(SESSION_ROWS[0], sessions);
+                self.sessions.add(SESSION_ROWS[6], entries);
+                self.sessions.add(SESSION_ROWS[8], units);
+                self.sessions.add(SESSION_ROWS[9], u64::from(two_units));
+                self.sessions.add(SESSION_ROWS[10], u64::from(units > 0 && units < sessions));
+                self.calls_in_a_session(answered / sessions);
+            }
+            Asked::Indices { .. } => {
+                self.sessions.add(SESSION_ROWS[1], 1);
+                self.sessions.add(SESSION_ROWS[7], entries);
+                self.calls_in_a_session(answered);
+            }
+        }
+    }
+
+    /// Counts by the answered calls of a session; of sessions at the same time, those that each has on the average.
+    fn calls_in_a_session(&mut self, answered: u64) {
         self.sessions.add(SESSION_ROWS[4], u64::from(answered >= 2));
         self.sessions.add(SESSION_ROWS[5], u64::from(answered >= 5));
-        self.sessions.add(SESSION_ROWS[if of_nodes { 6 } else { 7 }], entries);
     }
 
     fn tables(&self) -> [&Table; 12] {

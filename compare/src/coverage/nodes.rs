@@ -5,7 +5,7 @@ use crate::case::CallCase;
 use crate::compare::CallResult;
 use crate::paper::{readers, records, scope, update_nodes};
 
-pub const RULES: [&str; 11] = [
+pub const RULES: [&str; 12] = [
     "answered",
     "address no multiple of 4,096",
     "area not inside memory",
@@ -16,6 +16,7 @@ pub const RULES: [&str; 11] = [
     "malformed: length",
     "malformed: node type",
     "bytes 4 to 15 not zero",
+    "bytes 12 to 15 not zero",
     "state",
 ];
 
@@ -26,8 +27,11 @@ pub struct Facts {
     rule: &'static str,
     journal_bytes: usize,
     journal_good: bool,
-    reserved_zero: bool,
+    /// The area's bytes 4 to 15.
+    behind_state: Vec<u8>,
     state: u64,
+    /// The units of a small journal's records, where it is good.
+    units: Vec<u64>,
     /// The first record that is malformed: its kind and length, its node type.
     bad_record: Option<(u64, u64)>,
     bad_node_type: Option<u64>,
@@ -51,8 +55,9 @@ pub fn facts(case: &CallCase, result: &CallResult, inputs: &[u64]) -> Facts {
         rule: result.rule,
         journal_bytes: case.journal.len(),
         journal_good: records::journal(&case.journal).is_ok(),
-        reserved_zero: area.iter().skip(4).take(12).all(|&byte| byte == 0),
+        behind_state: area.iter().skip(4).take(12).copied().collect(),
         state: area.get(..4).map_or(0, super::big),
+        units: units(&case.journal),
         bad_record: bad.map(|record| (super::little(&record[2..4]), super::little(&record[..2]))),
         bad_node_type: bad.and_then(|record| record.get(4..6)).map(super::little),
         list: None,
@@ -60,7 +65,7 @@ pub fn facts(case: &CallCase, result: &CallResult, inputs: &[u64]) -> Facts {
         opcodes: [0; 3],
     };
     if matches!(result.rule, "" | "state") {
-        facts.list = list_length(case, scope);
+        facts.list = list_length(case, scope, area);
     }
     if result.rule.is_empty() {
         note_run(&mut facts, &result.memory.content()[at..at + 4096], result.status() == Some(1));
@@ -68,13 +73,19 @@ pub fn facts(case: &CallCase, result: &CallResult, inputs: &[u64]) -> Facts {
     facts
 }
 
-fn list_length(case: &CallCase, scope: u64) -> Option<u64> {
+fn list_length(case: &CallCase, scope: u64, area: &[u8]) -> Option<u64> {
     let changes = records::journal(&case.journal).ok()?;
-    Some(scope::reportable_list(&changes, &scope::row(scope)?).len() as u64)
+    let unit = update_nodes::unit_asked_for(scope, area);
+    Some(scope::reportable_list(&changes, &scope::row(scope)?, unit).len() as u64)
+}
+
+fn units(journal: &[u8]) -> Vec<u64> {
+    let changes = if journal.len() <= 4096 { records::journal(journal).unwrap_or_default() } else { Vec::new() };
+    changes.iter().filter_map(|change| change.unit).collect()
 }
 
 fn note_run(facts: &mut Facts, area: &[u8], remain: bool) {
-    let Ok(nodes) = readers::read_nodes(area) else {
+    let Ok(nodes) = readers::read_nodes(area, facts.scope) else {
         return;
     };
     facts.handed_out = Some((update_nodes::cost(&nodes.operations), remain));
@@ -101,6 +112,36 @@ fn bad_node_type(facts: &Facts, node_type: u64) -> bool {
     facts.rule == RULES[8] && facts.bad_node_type == Some(node_type)
 }
 
+/// The first malformed record is of this kind, and its node type is what is wrong with it.
+fn bad_type_in(facts: &Facts, kind: u64, node_type: u64) -> bool {
+    bad_node_type(facts, node_type) && facts.bad_record.is_some_and(|record| record.0 == kind)
+}
+
+fn answered(facts: &Facts, scope: u64) -> bool {
+    facts.rule.is_empty() && facts.scope == scope
+}
+
+/// Of the area's bytes 4 to 15 this one alone is not zero.
+fn alone_not_zero(facts: &Facts, byte: usize) -> bool {
+    let not_zero = facts.behind_state.iter().enumerate().filter(|place| *place.1 != 0);
+    not_zero.map(|place| 4 + place.0).eq([byte])
+}
+
+/// The unit that an answered call of scope 3 asks for.
+fn unit(facts: &Facts) -> Option<u64> {
+    answered(facts, 3).then(|| super::big(&facts.behind_state[..8]))
+}
+
+/// An answered call of scope 3 over a journal with its unit and with one that differs from it so.
+fn beside_unit(facts: &Facts, differs: fn(u64, u64) -> bool) -> bool {
+    unit(facts).is_some_and(|unit| facts.units.contains(&unit) && facts.units.iter().any(|&other| differs(unit, other)))
+}
+
+/// An answered call of another scope passes over records of kind 4.
+fn passes_over_units(facts: &Facts) -> bool {
+    facts.rule.is_empty() && facts.scope != 3 && !facts.units.is_empty()
+}
+
 pub const LINES: &[Line<Facts>] = &[
     ("the area ends where memory ends", |f| aligned_end(f) == Some(f.memory)),
     ("the area ends one byte past memory", |f| aligned_end(f) == Some(f.memory + 1)),
@@ -116,22 +157,73 @@ pub const LINES: &[Line<Facts>] = &[
     ("scope 0xffffffff", |f| f.scope == 0xffff_ffff),
     ("address refused over a malformed journal", |f| f.rule == RULES[1] && !f.journal_good),
     ("scope refused over a malformed journal", |f| f.rule == "scope" && !f.journal_good),
-    ("journal refused, bytes 4 to 15 not zero", |f| malformed(f) && !f.reserved_zero),
+    ("journal refused, bytes 4 to 15 not zero", |f| malformed(f) && f.behind_state.iter().any(|&byte| byte != 0)),
+    ("journal refused in scope 3, byte 12 not zero", |f| malformed(f) && f.scope == 3 && f.behind_state[8] != 0),
+    ("scope 1 refused, byte 4 alone not zero", |f| f.rule == RULES[9] && f.scope == 1 && alone_not_zero(f, 4)),
+    ("scope 1 refused, byte 11 alone not zero", |f| f.rule == RULES[9] && f.scope == 1 && alone_not_zero(f, 11)),
+    ("scope 1 refused, byte 12 alone not zero", |f| f.rule == RULES[9] && f.scope == 1 && alone_not_zero(f, 12)),
+    ("scope 1 refused, byte 15 alone not zero", |f| f.rule == RULES[9] && f.scope == 1 && alone_not_zero(f, 15)),
+    ("scope 0x80000003 refused, byte 4 not zero", |f| {
+        f.rule == RULES[9] && f.scope == 0x8000_0003 && f.behind_state[0] != 0
+    }),
+    ("scope 3 answered, byte 4 alone not zero", |f| answered(f, 3) && alone_not_zero(f, 4)),
+    ("scope 3 answered, byte 11 alone not zero", |f| answered(f, 3) && alone_not_zero(f, 11)),
+    ("scope 3 refused, byte 12 alone not zero", |f| f.rule == RULES[10] && alone_not_zero(f, 12)),
+    ("scope 3 refused, byte 15 alone not zero", |f| f.rule == RULES[10] && alone_not_zero(f, 15)),
     ("journal refused, state 0xffffffff", |f| malformed(f) && f.state == 0xffff_ffff),
     ("journal refused, kind 0", |f| bad(f, 0, 8)),
     ("journal refused, kind 4 of length 8", |f| bad(f, 4, 8)),
     ("journal refused, kind 4 of length 12", |f| bad(f, 4, 12)),
+    ("journal refused, kind 4 of length 15", |f| bad(f, 4, 15)),
+    ("journal refused, kind 4 of length 17", |f| bad(f, 4, 17)),
+    ("journal refused, kind 5 of length 16", |f| bad(f, 5, 16)),
+    ("journal refused, node type 14 in kind 4", |f| bad_type_in(f, 4, 14)),
+    ("journal refused, node type 17 in kind 4", |f| bad_type_in(f, 4, 17)),
+    ("journal refused, node type 0 in kind 4", |f| bad_type_in(f, 4, 0)),
+    ("journal refused, node type 0x10f in kind 4", |f| bad_type_in(f, 4, 0x10f)),
+    ("journal refused, node type 15 in kind 1", |f| bad_type_in(f, 1, 15)),
+    ("journal refused, node type 15 in kind 2", |f| bad_type_in(f, 2, 15)),
+    ("journal refused, node type 15 in kind 3", |f| bad_type_in(f, 3, 15)),
+    ("journal refused, node type 16 in kind 1", |f| bad_type_in(f, 1, 16)),
+    ("journal refused, node type 16 in kind 2", |f| bad_type_in(f, 2, 16)),
+    ("journal refused, node type 16 in kind 3", |f| bad_type_in(f, 3, 16)),
+    ("journal refused, node type 17 in kind 2", |f| bad_type_in(f, 2, 17)),
     ("journal refused, delete of length 7", |f| bad(f, 1, 7)),
     ("journal refused, delete of length 9", |f| bad(f, 1, 9)),
     ("journal refused, update of length 12", |f| bad(f, 2, 12)),
     ("journal refused, addition of length 8", |f| bad(f, 3, 8)),
     ("journal refused, addition of length 16", |f| bad(f, 3, 16)),
     ("journal refused, node type 0", |f| bad_node_type(f, 0)),
-    ("journal refused, node type 15", |f| bad_node_type(f, 15)),
     ("journal refused, node type 0x101", |f| bad_node_type(f, 0x101)),
     ("journal empty", |f| f.journal_bytes == 0),
     ("journal of 1,048,576 bytes, good", |f| f.journal_bytes == 1_048_576 && f.journal_good),
     ("journal above 1,048,576 bytes", |f| f.journal_bytes > 1_048_576),
+    ("kind 4 passed over in scope 1", |f| passes_over_units(f) && f.scope == 1),
+    ("kind 4 passed over in scope 2", |f| passes_over_units(f) && f.scope == 2),
+    ("kind 4 passed over in a negative scope", |f| passes_over_units(f) && f.scope >= 0x8000_0000),
+    ("unit 0, with records", |f| unit(f) == Some(0) && f.units.contains(&0)),
+    ("unit 0, without a record", |f| unit(f) == Some(0) && !f.units.is_empty() && !f.units.contains(&0)),
+    ("a unit without a record beside others", |f| {
+        unit(f).is_some_and(|u| !f.units.is_empty() && !f.units.contains(&u))
+    }),
+    ("a unit of the high word alone", |f| unit(f).is_some_and(|u| f.units.contains(&u) && u as u32 == 0 && u > 0)),
+    ("a unit of the low word alone", |f| unit(f).is_some_and(|u| f.units.contains(&u) && u >> 32 == 0 && u > 0)),
+    ("beside a unit with another high word alone", |f| beside_unit(f, |u, o| u as u32 == o as u32 && u != o)),
+    ("beside a unit with another low word alone", |f| beside_unit(f, |u, o| u >> 32 == o >> 32 && u != o)),
+    ("beside a unit with another high byte alone", |f| beside_unit(f, |u, o| u << 8 == o << 8 && u != o)),
+    ("beside a unit with another low byte alone", |f| beside_unit(f, |u, o| u >> 8 == o >> 8 && u != o)),
+    ("beside a unit with its bytes turned round", |f| beside_unit(f, |u, o| u.swap_bytes() == o && u != o)),
+    ("beside a unit with its words exchanged", |f| beside_unit(f, |u, o| u.rotate_left(32) == o && u != o)),
+    ("beside unit 0", |f| beside_unit(f, |u, o| o == 0 && u != 0)),
+    ("a unit's state equal to its list's length, below the number of units' records", |f| {
+        f.rule == RULES[11] && f.scope == 3 && f.list == Some(f.state) && f.state < f.units.len() as u64
+    }),
+    ("a unit's 1,018 updates, nothing remains", |f| f.scope == 3 && f.handed_out == Some((1019, false))),
+    ("a unit's 1,018 updates, more remain", |f| f.scope == 3 && f.handed_out == Some((1019, true))),
+    ("a unit's 1,017 updates, nothing remains", |f| f.scope == 3 && f.handed_out == Some((1018, false))),
+    ("a unit, state above 0, nothing remains", |f| {
+        unit(f).is_some() && f.state > 0 && f.handed_out.is_some_and(|r| !r.1)
+    }),
     ("list empty, state 0", |f| f.list == Some(0) && f.state == 0),
     ("list empty, state above 0", |f| f.list == Some(0) && f.state > 0),
     ("state one below the list's length, above 0", |f| f.state > 0 && f.list == Some(f.state + 1)),

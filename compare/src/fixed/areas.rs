@@ -1,6 +1,6 @@
 //! The readings of work areas.
 
-use super::AreaReading;
+use super::{AreaReading, Of};
 use crate::buffers::words;
 
 /// A node area of these words and 0 to the end.
@@ -18,26 +18,37 @@ fn filled(list: &[u32]) -> Vec<u8> {
     words(&all)
 }
 
+/// A node area of scope 1.
 fn nodes(name: &str, area: Vec<u8>, state: u32, entries: &[[u64; 3]]) -> AreaReading {
-    AreaReading { name: String::from(name), area, of_nodes: true, state, result: Ok(entries.to_vec()) }
+    let of = Of::Nodes { scope: 1 };
+    AreaReading { name: String::from(name), area, of, state, result: Ok(entries.to_vec()) }
 }
 
 fn nodes_refused(name: &str, area: Vec<u8>, refusal: u32, offset: u64) -> AreaReading {
-    AreaReading { name: String::from(name), area, of_nodes: true, state: 0, result: Err((refusal, offset)) }
+    let of = Of::Nodes { scope: 1 };
+    AreaReading { name: String::from(name), area, of, state: 0, result: Err((refusal, offset)) }
+}
+
+/// The same reading, with the reader told another scope.
+fn in_scope(scope: u32, reading: AreaReading) -> AreaReading {
+    AreaReading { of: Of::Nodes { scope }, name: format!("{}, scope {scope:#x}", reading.name), ..reading }
 }
 
 fn indices(name: &str, area: &[u8], entries: &[[u64; 3]]) -> AreaReading {
     let result = Ok(entries.to_vec());
-    AreaReading { name: String::from(name), area: area.to_vec(), of_nodes: false, state: 0, result }
+    AreaReading { name: String::from(name), area: area.to_vec(), of: Of::Indices, state: 0, result }
 }
 
 fn indices_refused(name: &str, area: &[u8], refusal: u32, offset: u64) -> AreaReading {
     let result = Err((refusal, offset));
-    AreaReading { name: String::from(name), area: area.to_vec(), of_nodes: false, state: 0, result }
+    AreaReading { name: String::from(name), area: area.to_vec(), of: Of::Indices, state: 0, result }
 }
 
 pub fn readings() -> Vec<AreaReading> {
-    [node_readings(), node_refusals(), node_ends(), index_readings(), index_refusals()].into_iter().flatten().collect()
+    [node_readings(), node_refusals(), node_scopes(), node_ends(), index_readings(), index_refusals()]
+        .into_iter()
+        .flatten()
+        .collect()
 }
 
 fn node_readings() -> Vec<AreaReading> {
@@ -68,12 +79,44 @@ fn node_readings() -> Vec<AreaReading> {
     ]
 }
 
+/// An area without operators in which this byte is 1 and all others are zero.
+fn reserved(byte: usize) -> Vec<u8> {
+    let mut area = node_area(&[]);
+    area[byte] = 1;
+    area
+}
+
+/// M-100: "in scope 3 only bytes 12 to 15 are tested for zero, by writer and reader (21 at offset 12)". Every other
+/// value, also one that is no scope, is read as scope 1 is.
+fn node_scopes() -> Vec<AreaReading> {
+    let unit = [7, 0x8000_0000, 0x2000_0002, 0, 0x0200_0002, 0x1000, 0x1001];
+    let updates = [[2, 0x1000, 0], [2, 0x1001, 0]];
+    let of_unit = || node_area(&unit);
+    let mut both = reserved(4);
+    both[12] = 1;
+    let mut readings = vec![
+        in_scope(3, nodes("two updates of a unit", of_unit(), 7, &updates)),
+        in_scope(3, nodes("byte 4", reserved(4), 0, &[])),
+        in_scope(3, nodes("byte 11", reserved(11), 0, &[])),
+        in_scope(3, nodes_refused("byte 12", reserved(12), 21, 12)),
+        in_scope(3, nodes_refused("byte 15", reserved(15), 21, 12)),
+        in_scope(3, nodes_refused("bytes 4 and 12", both.clone(), 21, 12)),
+        in_scope(3, nodes_refused("4,095 bytes", vec![0; 4095], 20, 0)),
+        in_scope(3, nodes_refused("opcode 4", filled(&[0x0400_0001]), 22, 16)),
+        in_scope(3, nodes("unit 0", node_area(&[]), 0, &[])),
+    ];
+    for scope in [0, 1, 2, 4, 0x103, 0x0300_0000, 0x7fff_ffff, 0x8000_0000, 0x8000_0003, 0xffff_ffff] {
+        readings.push(in_scope(scope, nodes("no operators", node_area(&[]), 0, &[])));
+        readings.push(in_scope(scope, nodes_refused("two updates of a unit", of_unit(), 21, 4)));
+        readings.push(in_scope(scope, nodes_refused("byte 4", reserved(4), 21, 4)));
+        readings.push(in_scope(scope, nodes_refused("byte 11", reserved(11), 21, 4)));
+        readings.push(in_scope(scope, nodes_refused("byte 12", reserved(12), 21, 4)));
+        readings.push(in_scope(scope, nodes_refused("bytes 4 and 12", both.clone(), 21, 4)));
+    }
+    readings
+}
+
 fn node_refusals() -> Vec<AreaReading> {
-    let reserved = |byte: usize| {
-        let mut area = node_area(&[]);
-        area[byte] = 1;
-        area
-    };
     vec![
         nodes_refused("no bytes", Vec::new(), 20, 0),
         nodes_refused("4,095 bytes", vec![0; 4095], 20, 0),

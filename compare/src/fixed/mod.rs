@@ -81,11 +81,18 @@ impl CallReading {
     }
 }
 
+/// What an area is read as. The reader of node areas is told the scope.
+#[derive(Clone, Copy)]
+enum Of {
+    Nodes { scope: u32 },
+    Indices,
+}
+
 /// An area and the reading that it has to have.
 pub struct AreaReading {
     name: String,
     area: Vec<u8>,
-    of_nodes: bool,
+    of: Of,
     state: u32,
     result: Result<Vec<[u64; 3]>, (u32, u64)>,
 }
@@ -99,12 +106,15 @@ impl AreaReading {
 
     fn failure_with_room(&self, subject: &dyn Subject, out: usize) -> Option<String> {
         let case = ReadCase { area: self.area.clone(), out };
-        let (reading, got) = if self.of_nodes {
-            let result = run_read_nodes(subject, &case);
-            (result.reading, result.entries().iter().map(|entry| entry.map(u64::from)).collect())
-        } else {
-            let result = run_read_indices(subject, &case);
-            (result.reading, result.entries())
+        let (reading, got) = match self.of {
+            Of::Nodes { scope } => {
+                let result = run_read_nodes(subject, scope, &case);
+                (result.reading, result.entries().iter().map(|entry| entry.map(u64::from)).collect())
+            }
+            Of::Indices => {
+                let result = run_read_indices(subject, &case);
+                (result.reading, result.entries())
+            }
         };
         let told = (reading.refusal, reading.state_or_zero, reading.offset, reading.entries);
         let (expected, list) = match &self.result {

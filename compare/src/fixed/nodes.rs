@@ -1,7 +1,7 @@
 //! The readings of update-nodes.
 
 use super::{CallReading, NONE};
-use crate::buffers::{arguments, journal_record, put_word, words};
+use crate::buffers::{arguments, journal_record, put_word, unit_record, words};
 use crate::case::CallCase;
 
 /// Where the work area stands.
@@ -25,6 +25,20 @@ pub fn call(journal: &[u8], scope: u32, state: u32) -> CallCase {
         inventory: Vec::new(),
         registration: NONE,
     }
+}
+
+/// A call in scope 3 for this unit; all other bytes of memory are 0xee.
+pub fn call_for_unit(journal: &[u8], unit: u64, state: u32) -> CallCase {
+    let mut case = call(journal, 3, state);
+    let at = ADDRESS as usize + 4;
+    case.memory[at..at + 8].copy_from_slice(&unit.to_be_bytes());
+    case
+}
+
+/// The same call with another byte of the work area.
+fn with_byte(mut case: CallCase, byte: usize, value: u8) -> CallCase {
+    case.memory[ADDRESS as usize + byte] = value;
+    case
 }
 
 /// A call that is answered with this status and these words.
@@ -53,7 +67,9 @@ fn pairs(first: u32, number: u32) -> Vec<u32> {
 }
 
 pub fn readings() -> Vec<CallReading> {
-    [deletes(), additions(), mixed(), lines(), checks()].into_iter().flatten().collect()
+    let parts =
+        [deletes(), additions(), mixed(), lines(), checks(), units(), unit_lists(), unit_bytes(), unit_records()];
+    parts.into_iter().flatten().collect()
 }
 
 /// "1,018 reportable deletes: one call. 1,019: status 1, state 1,018; then one delete, status 0."
@@ -110,7 +126,6 @@ fn lines() -> Vec<CallReading> {
         answered("scope 0x80000000", call(&one, 0x8000_0000, 0), 0, &one_delete),
         answered("scope 0xffffffff", call(&one, 0xffff_ffff, 0), 0, &one_delete),
         refused("scope 0", call(&one, 0, 0), -3),
-        refused("scope 3", call(&one, 3, 0), -3),
         refused("scope 4", call(&one, 4, 0), -3),
         refused("scope 0x7fffffff", call(&one, 0x7fff_ffff, 0), -3),
         refused("state 1, one delete", call(&one, 1, 1), -3),
@@ -139,11 +154,9 @@ fn at(address: u32, memory: usize) -> CallCase {
 
 /// The checks and their order.
 fn checks() -> Vec<CallReading> {
-    let malformed = [8, 0, 4, 0, 10, 0, 1, 2, 3, 4];
-    let mut reserved = call(&[], 1, 0);
-    reserved.memory[4096 + 15] = 1;
-    let mut malformed_and_reserved = call(&malformed, 1, 0);
-    malformed_and_reserved.memory[4096 + 4] = 1;
+    let malformed = [8, 0, 5, 0, 10, 0, 1, 2, 3, 4];
+    let reserved = with_byte(call(&[], 1, 0), 15, 1);
+    let malformed_and_reserved = with_byte(call(&malformed, 1, 0), 4, 1);
     vec![
         refused("address 4,097", at(4097, 12288), -3),
         refused("address 2,048", at(2048, 12288), -3),
@@ -171,4 +184,125 @@ fn checks() -> Vec<CallReading> {
 /// Four additions and this many deletes, none of which scope 2 reports; 104,852 make 1,048,576 bytes.
 fn full(deletes: u32) -> Vec<u8> {
     [records(3, 0, 4), records(1, 0, deletes)].concat()
+}
+
+/// Two units that differ in the high word alone, and words as their areas have them.
+const UNIT_A: u64 = 0x8000_0000_2000_0002;
+const UNIT_B: u64 = 0x8000_0001_2000_0002;
+const A: [u32; 2] = [0x8000_0000, 0x2000_0002];
+const B: [u32; 2] = [0x8000_0001, 0x2000_0002];
+
+/// Five records of the two units in turn, the first of them of A, with one of another sort between.
+fn two_units() -> Vec<u8> {
+    [
+        unit_record(15, UNIT_A, 0x100),
+        unit_record(16, UNIT_B, 0x200),
+        journal_record(2, 3, 0x2a, 0),
+        unit_record(16, UNIT_A, 0x101),
+        unit_record(15, UNIT_B, 0x201),
+        unit_record(16, UNIT_A, 0x100),
+    ]
+    .concat()
+}
+
+/// The words of an area in scope 3: the state, the unit, four zero bytes, then these updates and the terminator.
+fn unit_area(state: u32, unit: [u32; 2], updates: &[u32]) -> Vec<u32> {
+    let operator = [0x0200_0000 + updates.len() as u32];
+    let operator = if updates.is_empty() { [].as_slice() } else { &operator };
+    [&[state, unit[0], unit[1], 0], operator, updates, &[0]].concat()
+}
+
+/// M-100: "reports only that unit's records". The state counts in that unit's list.
+fn units() -> Vec<CallReading> {
+    let both = two_units();
+    let zero = [unit_record(15, 1, 7), unit_record(16, 0, 8), unit_record(15, 1 << 32, 9)].concat();
+    vec![
+        answered("scope 3, unit A", call_for_unit(&both, UNIT_A, 0), 0, &unit_area(0, A, &[0x100, 0x101, 0x100])),
+        answered("scope 3, unit B", call_for_unit(&both, UNIT_B, 0), 0, &unit_area(0, B, &[0x200, 0x201])),
+        answered("scope 3, unit A, state 1", call_for_unit(&both, UNIT_A, 1), 0, &unit_area(0, A, &[0x101, 0x100])),
+        answered("scope 3, unit A, state 2", call_for_unit(&both, UNIT_A, 2), 0, &unit_area(0, A, &[0x100])),
+        answered("scope 3, unit B, state 1", call_for_unit(&both, UNIT_B, 1), 0, &unit_area(0, B, &[0x201])),
+        refused("scope 3, unit A, state 3", call_for_unit(&both, UNIT_A, 3), -3),
+        refused("scope 3, unit B, state 2", call_for_unit(&both, UNIT_B, 2), -3),
+        refused("scope 3, unit B, state 5", call_for_unit(&both, UNIT_B, 5), -3),
+        answered("a unit without a record", call_for_unit(&both, 7, 0), 0, &unit_area(0, [0, 7], &[])),
+        refused("a unit without a record, state 1", call_for_unit(&both, 7, 1), -3),
+        answered("unit 0 without a record", call_for_unit(&both, 0, 0), 0, &unit_area(0, [0, 0], &[])),
+        answered("unit 0", call_for_unit(&zero, 0, 0), 0, &unit_area(0, [0, 0], &[8])),
+        answered("unit 1", call_for_unit(&zero, 1, 0), 0, &unit_area(0, [0, 1], &[7])),
+        answered("unit 2^32", call_for_unit(&zero, 1 << 32, 0), 0, &unit_area(0, [1, 0], &[9])),
+        answered("scope 3, empty journal", call_for_unit(&[], UNIT_A, 0), 0, &unit_area(0, A, &[])),
+        answered("scope 1 over kind 4", call(&both, 1, 0), 0, &area(0, &[&[0x0200_0001, 0x2a]])),
+        answered("scope 2 over kind 4", call(&both, 2, 0), 0, &area(0, &[&[0x0200_0001, 0x2a]])),
+        answered("scope 0x80000003 over kind 4", call(&both, 0x8000_0003, 0), 0, &area(0, &[])),
+        refused("scope 0 over kind 4", call(&both, 0, 0), -3),
+        refused("scope 4 over kind 4", call(&both, 4, 0), -3),
+        refused("scope 0x103 over kind 4", call(&both, 0x103, 0), -3),
+    ]
+}
+
+/// 1,018 updates of a unit: one call. 1,019: two, the second from the bytes that the first left.
+fn unit_lists() -> Vec<CallReading> {
+    let of = |number: u32| -> Vec<u8> {
+        let pair = |phandle: u32| [unit_record(15, UNIT_A, phandle), unit_record(15, UNIT_B, phandle + 0x7000_0000)];
+        (0..number).flat_map(pair).flatten().collect()
+    };
+    let first = counting(0, 1018);
+    let (some, more) = (of(1018), of(1019));
+    vec![
+        answered("1,018 updates of a unit", call_for_unit(&some, UNIT_A, 0), 0, &unit_area(0, A, &first)),
+        answered("1,019 of a unit, first call", call_for_unit(&more, UNIT_A, 0), 1, &unit_area(1018, A, &first)),
+        answered("1,019 of a unit, second call", call_for_unit(&more, UNIT_A, 1018), 0, &unit_area(0, A, &[1018])),
+        answered(
+            "1,019 of a unit, second call of the other",
+            call_for_unit(&more, UNIT_B, 1018),
+            0,
+            &unit_area(0, B, &[0x7000_03fa]),
+        ),
+        refused("1,019 of a unit, state 1,019", call_for_unit(&more, UNIT_A, 1019), -3),
+    ]
+}
+
+/// The bytes behind the state: in scope 3 only 12 to 15 are tested, in the others 4 to 15.
+fn unit_bytes() -> Vec<CallReading> {
+    let both = two_units();
+    let scope_3 = |byte: usize| with_byte(call_for_unit(&both, UNIT_A, 0), byte, 1);
+    let scope_1 = |byte: usize| with_byte(call(&both, 1, 0), byte, 1);
+    let malformed = unit_record(14, UNIT_A, 1);
+    vec![
+        answered("scope 3, byte 4 is 1", scope_3(4), 0, &unit_area(0, [0x0100_0000, 0x2000_0002], &[])),
+        answered("scope 3, byte 7 is 1: unit B", scope_3(7), 0, &unit_area(0, B, &[0x200, 0x201])),
+        answered("scope 3, byte 11 is 1", scope_3(11), 0, &unit_area(0, [0x8000_0000, 0x2000_0001], &[])),
+        refused("scope 3, byte 12 is 1", scope_3(12), -3),
+        refused("scope 3, byte 15 is 1", scope_3(15), -3),
+        refused("scope 1, byte 4 is 1", scope_1(4), -3),
+        refused("scope 1, byte 11 is 1", scope_1(11), -3),
+        refused("scope 1, byte 12 is 1", scope_1(12), -3),
+        refused("malformed journal in scope 3, byte 12 is 1", with_byte(call(&malformed, 3, 0), 12, 1), -1),
+        refused("malformed journal in scope 3, state 9", call_for_unit(&malformed, UNIT_A, 9), -1),
+        refused("state 9 in scope 3, byte 12 is 1", with_byte(call_for_unit(&both, UNIT_A, 9), 12, 1), -3),
+    ]
+}
+
+/// M-100: "length 16, for these types alone" and "these types in kinds 1 to 3 are malformed", in every scope.
+fn unit_records() -> Vec<CallReading> {
+    let good = unit_record(16, UNIT_A, 1);
+    let cut = |length: u8| [&[length, 0], &[good.as_slice(), &[0, 0]].concat()[2..2 + length as usize]].concat();
+    let mut readings = vec![answered("length 16", call_for_unit(&cut(16), UNIT_A, 0), 0, &unit_area(0, A, &[1]))];
+    for scope in [1, 2, 3, 0x8000_0000] {
+        let malformed =
+            |name: &str, journal: &[u8]| refused(&format!("{name}, {scope:#x}"), call(journal, scope, 0), -1);
+        for length in [8, 12, 15, 17] {
+            readings.push(malformed("another length of kind 4", &cut(length)));
+        }
+        for node_type in [0, 1, 14, 17, 0x10f, 0x0f00] {
+            readings.push(malformed("another node type in kind 4", &unit_record(node_type, UNIT_A, 1)));
+        }
+        for kind in 1..=3 {
+            readings.push(malformed("node type 15 in kinds 1 to 3", &journal_record(kind, 15, 1, 1)));
+            readings.push(malformed("node type 16 in kinds 1 to 3", &journal_record(kind, 16, 1, 1)));
+        }
+        readings.push(malformed("a record of kind 4 cut off", &good[..17]));
+    }
+    readings
 }

@@ -1,6 +1,6 @@
 //! Damage to journals and inventories.
 
-use crate::buffers::{inventory_record, journal_record, record, record_places};
+use crate::buffers::{inventory_record, journal_record, record, record_places, unit_record};
 use crate::random::Random;
 
 /// Puts one record more into a buffer of records.
@@ -14,11 +14,14 @@ fn insert(random: &mut Random, buffer: &mut Vec<u8>, record: &[u8]) {
 fn bad_journal_record(random: &mut Random) -> Vec<u8> {
     let kind = random.between(1, 3) as u16;
     let body = [10, 0, 1, 2, 3, 4, 5, 6, 7, 8, 9, 10, 11, 12];
-    match random.below(5) {
-        0 => journal_record(kind, random.pick(&[0, 15, 15, 16, 0x101, 0x0a00, 0xffff]), 7, 7),
+    let unit_body = [15, 0, 1, 2, 3, 4, 5, 6, 7, 8, 9, 10, 11, 12, 13, 14];
+    match random.below(7) {
+        0 => journal_record(kind, random.pick(&[0, 15, 15, 16, 16, 17, 0x101, 0x0a00, 0xffff]), 7, 7),
         1 => record(kind, &body[..if kind == 3 { 6 } else { 10 }]),
         2 => record(kind, &body[..random.pick(&[0, 1, 2, 5, 7, 9, 11, 14])]),
-        _ => record(random.pick(&[0, 4, 4, 5, 16, 0x101, 0xffff]), &body[..random.pick(&[6, 10])]),
+        3 => unit_record(random.pick(&[0, 1, 10, 14, 14, 17, 17, 0x10f, 0x0f00, 0xffff]), 7, 7),
+        4 => record(4, &unit_body[..random.pick(&[0, 2, 6, 10, 13, 13, 15, 15, 16])]),
+        _ => record(random.pick(&[0, 5, 5, 16, 0x101, 0x104, 0xffff]), &body[..random.pick(&[6, 10, 14])]),
     }
 }
 

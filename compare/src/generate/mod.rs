@@ -13,7 +13,8 @@ mod nodes_call;
 pub mod registrations;
 mod structures;
 
-use crate::case::{Asked, CallCase, Case, SessionCase};
+use crate::buffers::record_places;
+use crate::case::{Asked, CallCase, Case, SessionCase, Wanted};
 use crate::random::Random;
 use journals::Size;
 
@@ -21,7 +22,7 @@ pub fn case(seed: u64, number: u64) -> Case {
     let mut random = Random::for_case(seed, number);
     match random.below(100) {
         0..=71 => Case::Call(call(&mut random)),
-        72..=83 => Case::ReadNodes(node_areas::case(&mut random)),
+        72..=83 => node_areas::case(&mut random),
         84..=93 => Case::ReadIndices(index_areas::case(&mut random)),
         94..=96 => Case::Session(node_session(&mut random)),
         _ => Case::Session(index_session(&mut random)),
@@ -68,15 +69,47 @@ fn room(random: &mut Random, entries: usize) -> usize {
 }
 
 fn node_session(random: &mut Random) -> SessionCase {
-    let scope = journals::good_scope(random);
+    let first = journals::wanted(random);
     let size = match random.below(3000) {
         0 => Size::Full,
         1..=100 => Size::Areas,
         101..=400 => Size::Area,
         _ => Size::Small,
     };
-    let records = journals::journal(random, scope, size);
-    SessionCase { seed: random.next(), records, asked: Asked::Nodes { scope }, plain: random.one_in(4) }
+    let mut wanted = vec![first];
+    let mut records = journals::journal(random, first, size);
+    while wanted.len() < 4 && random.one_in(2) {
+        let beside = beside(random, first);
+        if size != Size::Full {
+            let more = journals::journal(random, beside, size);
+            records = mixed(random, &records, &more);
+        }
+        wanted.push(beside);
+    }
+    SessionCase { seed: random.next(), records, asked: Asked::Nodes(wanted), plain: random.one_in(4) }
+}
+
+/// What another session over the same journal asks for.
+fn beside(random: &mut Random, first: Wanted) -> Wanted {
+    match random.below(4) {
+        0 => first,
+        1 | 2 if first.scope == 3 => Wanted { unit: journals::near_unit(random, first.unit), ..first },
+        _ => journals::wanted(random),
+    }
+}
+
+/// The records of two journals, each in its order, with those of the other between.
+fn mixed(random: &mut Random, left: &[u8], right: &[u8]) -> Vec<u8> {
+    let mut parts = [left, right].map(|journal| {
+        let places = record_places(journal).into_iter();
+        places.map(|(from, to)| &journal[from..to]).collect::<Vec<&[u8]>>().into_iter()
+    });
+    let mut journal = Vec::new();
+    while parts.iter().any(|part| part.len() > 0) {
+        let of = usize::from(random.below(parts[0].len() + parts[1].len()) >= parts[0].len());
+        journal.extend(parts[of].next().into_iter().flatten());
+    }
+    journal
 }
 
 fn index_session(random: &mut Random) -> SessionCase {

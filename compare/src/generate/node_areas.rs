@@ -2,37 +2,41 @@
 
 use super::journals::{self, Size};
 use crate::buffers::{arguments, put_word, word_at};
-use crate::case::ReadCase;
+use crate::case::{Case, ReadCase};
 use crate::paper;
 use crate::random::Random;
 
-pub fn case(random: &mut Random) -> ReadCase {
-    let mut area = match random.below(10) {
+pub fn case(random: &mut Random) -> Case {
+    let (mut area, mut scope) = match random.below(10) {
         0..=2 => written(random),
         _ => built(random),
     };
+    // No scope is refused by the reader.
+    if random.one_in(6) {
+        scope = random.pick(&[0, 1, 2, 3, 4, 0x103, 0x0300_0000, 0x8000_0003, 0xffff_ffff]);
+    }
     if random.one_in(3) {
         damage(random, &mut area);
     }
     if random.one_in(25) {
         area.resize(random.pick(&[0, 1, 15, 16, 4092, 4095, 4097, 4100, 8192]), 0);
     }
-    let out = room(random, &area);
-    ReadCase { area, out }
+    let out = room(random, &area, scope);
+    Case::ReadNodes { scope, read: ReadCase { area, out } }
 }
 
-/// An area that update-nodes wrote over any bytes.
-fn written(random: &mut Random) -> Vec<u8> {
-    let scope = journals::good_scope(random);
+/// An area that update-nodes wrote over any bytes, and the scope.
+fn written(random: &mut Random) -> (Vec<u8>, u32) {
+    let wanted = journals::wanted(random);
     let size = if random.one_in(12) { Size::Area } else { Size::Small };
-    let journal = journals::journal(random, scope, size);
+    let journal = journals::journal(random, wanted, size);
     let mut area = vec![0; 4096];
     random.fill(&mut area[16..]);
-    area[0..16].fill(0);
+    area[0..16].copy_from_slice(&wanted.first_bytes());
     let registration = paper::Registration { phase: paper::Phase::None, length: 0, copy: [0; 512] };
-    let mut args = arguments(1, &[0, scope], &[0]);
+    let mut args = arguments(1, &[0, wanted.scope], &[0]);
     paper::call(&mut args, &mut area, &journal, &[], registration);
-    area
+    (area, wanted.scope)
 }
 
 /// Operators with no operands, which are passed over whatever their opcode.
@@ -60,11 +64,12 @@ fn operator(random: &mut Random, at: usize, last: u32) -> u32 {
     opcode << 24 | if odd_addition { count + 1 } else { count } & 0xff_ffff
 }
 
-/// An area built of operators around the lines; the terminator comes by chance, or never.
-fn built(random: &mut Random) -> Vec<u8> {
+/// An area built of operators around the lines, and its scope; the terminator comes by chance, or never.
+fn built(random: &mut Random) -> (Vec<u8>, u32) {
+    let wanted = journals::wanted(random);
     let mut area = vec![0; 4096];
     random.fill(&mut area);
-    area[4..16].fill(0);
+    area[4..16].copy_from_slice(&wanted.first_bytes()[4..]);
     if random.one_in(2) {
         area[0..4].fill(0);
     }
@@ -87,12 +92,15 @@ fn built(random: &mut Random) -> Vec<u8> {
         last = last.max((operator >> 24).min(3));
         at += 4 + 4 * (operator & 0xff_ffff) as usize;
     }
-    area
+    (area, wanted.scope)
 }
 
 fn damage(random: &mut Random, area: &mut [u8]) {
     match random.below(4) {
-        0 => area[random.between(4, 15)] = random.nonzero_byte(),
+        0 => {
+            let at = if random.one_in(2) { random.between(4, 15) } else { random.pick(&[4, 11, 12, 15]) };
+            area[at] = random.nonzero_byte();
+        }
         1 => area[random.between(16, 40)] ^= random.nonzero_byte(),
         2 => {
             let at = 16 + 4 * random.below(8);
@@ -106,8 +114,8 @@ fn damage(random: &mut Random, area: &mut [u8]) {
 }
 
 /// Room for all entries, a number less or more, nothing, or much.
-fn room(random: &mut Random, area: &[u8]) -> usize {
-    let entries = match paper::readers::read_nodes(area) {
+fn room(random: &mut Random, area: &[u8], scope: u32) -> usize {
+    let entries = match paper::readers::read_nodes(area, u64::from(scope)) {
         Ok(nodes) => nodes.operations.len(),
         Err(_) => word_at(area, 16).map_or(0, |word| (word & 0xff) as usize),
     };

@@ -3,7 +3,7 @@
 use super::journals::{self, Size};
 use super::{arguments, damage, faults, memories, registrations};
 use crate::buffers::put_word;
-use crate::case::CallCase;
+use crate::case::{CallCase, Wanted};
 use crate::paper::{records, scope};
 use crate::random::Random;
 
@@ -14,7 +14,8 @@ struct Plan {
     scope: u32,
     journal: Vec<u8>,
     state: u32,
-    reserved: [u8; 12],
+    /// What stands behind the state: in scope 3 the unit and four zero bytes, otherwise twelve zero bytes.
+    behind: [u8; 12],
     /// The length of the reportable list.
     list: u32,
 }
@@ -29,21 +30,27 @@ pub fn call(random: &mut Random) -> CallCase {
 }
 
 /// The length of the reportable list of a well-formed journal.
-pub fn list_length(journal: &[u8], scope: u32) -> u32 {
-    let row = scope::row(u64::from(scope));
+fn list_length(journal: &[u8], wanted: Wanted) -> u32 {
+    let row = scope::row(u64::from(wanted.scope));
     match (records::journal(journal), row) {
-        (Ok(changes), Some(row)) => scope::reportable_list(&changes, &row).len() as u32,
+        (Ok(changes), Some(row)) => scope::reportable_list(&changes, &row, wanted.unit_in_scope_3()).len() as u32,
         _ => 0,
     }
 }
 
 fn good_plan(random: &mut Random, size: Size) -> Plan {
-    let scope = journals::good_scope(random);
-    let journal = journals::journal(random, scope, size);
-    let list = list_length(&journal, scope);
+    let mut wanted = journals::wanted(random);
+    let journal = journals::journal(random, wanted, size);
+    // A unit of few records, or of none.
+    if wanted.scope == 3 && random.one_in(8) {
+        wanted.unit = journals::near_unit(random, wanted.unit);
+    }
+    let list = list_length(&journal, wanted);
     let (memory, address) = memories::page(random);
     let state = good_state(random, list, size);
-    Plan { memory, address, scope, journal, state, reserved: [0; 12], list }
+    let mut behind = [0; 12];
+    behind.copy_from_slice(&wanted.first_bytes()[4..]);
+    Plan { memory, address, scope: wanted.scope, journal, state, behind, list }
 }
 
 /// A state at the beginning, at the end or within the list.
@@ -87,10 +94,12 @@ fn spoil_address(random: &mut Random, plan: &mut Plan) {
     }
 }
 
-fn bad_scope(random: &mut Random) -> u32 {
-    match random.below(3) {
-        0 => random.pick(&[0, 3, 4]),
-        1 => random.pick(&[5, 0x101, 0x1_0001, 0x0100_0000, 0x7fff_ffff]),
+/// A scope that is none, or one of the others.
+fn other_scope(random: &mut Random) -> u32 {
+    match random.below(4) {
+        0 => random.pick(&[0, 4]),
+        1 => random.pick(&[5, 0x101, 0x103, 0x1_0001, 0x0100_0000, 0x0300_0000, 0x7fff_ffff]),
+        2 => random.pick(&[1, 2, 3, 0x8000_0000, 0x8000_0003]),
         _ => random.word() >> 1 | 4,
     }
 }
@@ -98,9 +107,12 @@ fn bad_scope(random: &mut Random) -> u32 {
 fn spoil(random: &mut Random, plan: &mut Plan) {
     match random.below(8) {
         0 | 1 => spoil_address(random, plan),
-        2 => plan.scope = bad_scope(random),
+        2 => plan.scope = other_scope(random),
         3 | 4 => damage::damage_journal(random, &mut plan.journal),
-        5 => plan.reserved[random.below(12)] = random.nonzero_byte(),
+        5 => {
+            let place = if random.one_in(2) { random.below(12) } else { random.pick(&[0, 7, 8, 11]) };
+            plan.behind[place] = random.nonzero_byte();
+        }
         _ => plan.state = bad_state(random, plan),
     }
 }
@@ -110,7 +122,7 @@ fn write(random: &mut Random, plan: Plan) -> CallCase {
     let at = plan.address as usize;
     if at + 16 <= memory.len() {
         put_word(&mut memory, at, plan.state);
-        memory[at + 4..at + 16].copy_from_slice(&plan.reserved);
+        memory[at + 4..at + 16].copy_from_slice(&plan.behind);
     }
     // "a malformed inventory doesn't stop update-nodes"
     let mut inventory = vec![0; random.pick(&[0, 0, 5])];

@@ -1,4 +1,5 @@
-//! Document 01, written out in its order and words. Nothing here is meant to be fast.
+//! Document 01, written out in its order and words, with the requests of document 02 that landed. Nothing here is meant
+//! to be fast.
 
 pub mod get_indices;
 pub mod kernel_dump;

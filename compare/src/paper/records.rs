@@ -1,6 +1,7 @@
 //! "Journal and inventory"
 
 use super::words::{as_word, little};
+use std::ops::RangeInclusive;
 
 /// "Journal, at most 1,048,576 bytes", "Inventory, same limit".
 const MOST_BYTES: usize = 1_048_576;
@@ -21,9 +22,10 @@ pub struct Operation {
     pub second: u32,
 }
 
-/// One journal record: the node type and the operation.
+/// One journal record: the node type, the unit address where it has one, and the operation.
 pub struct Change {
     pub node_type: u64,
+    pub unit: Option<u64>,
     pub operation: Operation,
 }
 
@@ -64,21 +66,36 @@ fn records(buffer: &[u8]) -> Result<Vec<Record<'_>>, Malformed> {
 }
 
 /// "kinds 1 (delete) and 2 (update) hold a two-byte node type and a phandle, length 8; kind 3 (add) holds node type,
-/// parent phandle and drc-index, length 12." Node types are 1 to 14.
+/// parent phandle and drc-index, length 12." M-100: "Journal kind 4 holds type, an eight-byte unit address and a phandle,
+/// length 16".
 fn change(record: &Record) -> Result<Change, Malformed> {
-    let second = match (record.kind, record.length) {
-        (1 | 2, 8) => 0,
-        (3, 12) => as_word(little(&record.body[6..10])),
-        (1..=3, _) => return Err("malformed: length"),
+    match (record.kind, record.length) {
+        (1 | 2, 8) | (3, 12) | (4, 16) => {}
+        (1..=4, _) => return Err("malformed: length"),
         _ => return Err("malformed: kind"),
-    };
+    }
     let node_type = little(&record.body[0..2]);
-    if !(1..=14).contains(&node_type) {
+    if !node_types(record.kind).contains(&node_type) {
         return Err("malformed: node type");
     }
-    let first = as_word(little(&record.body[2..6]));
-    let opcode = as_word(record.kind);
-    Ok(Change { node_type, operation: Operation { opcode, first, second } })
+    let word = |at: usize| as_word(little(&record.body[at..at + 4]));
+    let (unit, operation) = match record.kind {
+        // M-100: "it is an update"
+        4 => (Some(little(&record.body[2..10])), Operation { opcode: 2, first: word(10), second: 0 }),
+        3 => (None, Operation { opcode: 3, first: word(2), second: word(6) }),
+        kind => (None, Operation { opcode: as_word(kind), first: word(2), second: 0 }),
+    };
+    Ok(Change { node_type, unit, operation })
+}
+
+/// Node types are 1 to 14, and in kind 4 they are 15 and 16. M-100: "for these types alone" and "these types in kinds 1
+/// to 3 are malformed".
+fn node_types(kind: u64) -> RangeInclusive<u64> {
+    if kind == 4 {
+        15..=16
+    } else {
+        1..=14
+    }
 }
 
 /// "kind 16 holds two bytes (0 indicator, 1 sensor), a four-byte type, a four-byte index and a location code of 1 to

@@ -2,7 +2,7 @@
 
 use super::records::{self, Operation};
 use super::scope;
-use super::words::{as_word, put_word, word};
+use super::words::{as_word, big, put_word, word};
 use super::{refused, Refusal};
 
 /// "the work area is the 4,096 bytes of partition memory that start at the given address"
@@ -12,7 +12,8 @@ const AREA: u64 = 4096;
 pub const MOST_WORDS: u64 = 1019;
 
 /// The status of the call, or the rule that refuses it. "Checks in order: address a multiple of 4,096 and the area
-/// inside memory (-3); scope (-3); journal (-1); bytes 4 to 15 of the area zero (-3); state (-3)."
+/// inside memory (-3); scope (-3); journal (-1); bytes 4 to 15 of the area zero (-3); state (-3)." M-100: "in scope 3 only
+/// bytes 12 to 15 are tested for zero".
 pub fn update_nodes(memory: &mut [u8], journal: &[u8], address: u64, scope: u64) -> Result<u32, Refusal> {
     if !address.is_multiple_of(AREA) {
         return refused(-3, "address no multiple of 4,096");
@@ -28,15 +29,28 @@ pub fn update_nodes(memory: &mut [u8], journal: &[u8], address: u64, scope: u64)
         Err(rule) => return refused(-1, rule),
     };
     let area = &mut memory[address as usize..(address + AREA) as usize];
-    if area[4..16].iter().any(|&byte| byte != 0) {
+    if scope != 3 && area[4..16].iter().any(|&byte| byte != 0) {
         return refused(-3, "bytes 4 to 15 not zero");
     }
-    let list = scope::reportable_list(&changes, &row);
+    if scope == 3 && area[12..16].iter().any(|&byte| byte != 0) {
+        return refused(-3, "bytes 12 to 15 not zero");
+    }
+    let unit = unit_asked_for(scope, area);
+    let list = scope::reportable_list(&changes, &row, unit);
     let state = word(area, 0);
     if !state_is_good(state, list.len() as u64) {
         return refused(-3, "state");
     }
-    Ok(answer(area, &list, state as usize))
+    Ok(answer(area, &list, state as usize, unit))
+}
+
+/// M-100: in scope 3 the area carries "state 0, unit address (eight bytes, big-endian) and four zero bytes".
+pub fn unit_asked_for(scope: u64, area: &[u8]) -> Option<u64> {
+    if scope == 3 {
+        Some(big(&area[4..12]))
+    } else {
+        None
+    }
 }
 
 /// "The state is 0, or above 0 and below the length of the reportable list."
@@ -68,14 +82,16 @@ pub fn longest_run(rest: &[Operation]) -> &[Operation] {
 }
 
 /// "The answer: new state (0 when nothing remains), twelve zero bytes, one operator and its operands for each opcode
-/// present, then 0x00000000." "Status 1 when operations remain, otherwise 0."
-fn answer(area: &mut [u8], list: &[Operation], state: usize) -> u32 {
+/// present, then 0x00000000." "Status 1 when operations remain, otherwise 0." M-100: "000 zeroes twelve bytes on return,
+/// yet a continuation must name its unit, so we return the address there".
+fn answer(area: &mut [u8], list: &[Operation], state: usize, unit: Option<u64>) -> u32 {
     let run = longest_run(&list[state..]);
     let handed_out = state + run.len();
     let remain = handed_out < list.len();
     let new_state = if remain { handed_out as u64 } else { 0 };
     put_word(area, 0, as_word(new_state));
-    area[4..16].fill(0);
+    area[4..12].copy_from_slice(&unit.unwrap_or(0).to_be_bytes());
+    area[12..16].fill(0);
     let mut at = 16;
     for word in run_words(run) {
         put_word(area, at, word);

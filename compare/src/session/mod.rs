@@ -1,4 +1,4 @@
-//! Sessions: a list of calls over one journal or one inventory up to status 0, with refused calls of any sort between.
+//! Sessions: lists of calls over one journal or one inventory up to status 0, with refused calls of any sort between.
 //! Beside the comparison of every byte, the answered calls have to hand out the whole list, in order, once.
 
 mod indices;
@@ -31,13 +31,13 @@ pub fn difference(sides: Sides, case: &SessionCase, coverage: &mut Coverage) -> 
     let memory = generate::memories::memory(&mut random, 4096 * pages);
     let registration = generate::registrations::any(&mut random);
     let mut run = Run { sides, case, random, memory, registration, answered: 0, refused: 0 };
-    let handed_out = match case.asked {
-        Asked::Nodes { scope } => nodes::run(&mut run, scope),
-        Asked::Indices { flag, kind } => indices::run(&mut run, flag, kind),
+    let handed_out = match &case.asked {
+        Asked::Nodes(wanted) => nodes::run(&mut run, wanted),
+        Asked::Indices { flag, kind } => indices::run(&mut run, *flag, *kind),
     };
     match handed_out {
         Ok(entries) => {
-            coverage.session(matches!(case.asked, Asked::Nodes { .. }), run.answered, run.refused, entries);
+            coverage.session(&case.asked, run.answered, run.refused, entries);
             None
         }
         Err(text) => Some(format!("after {} answered and {} refused calls\n{text}", run.answered, run.refused)),
@@ -88,11 +88,11 @@ impl Run<'_> {
         self.random.fill(&mut self.memory[at..end]);
     }
 
-    /// The entries of a node area, on which both readers have to agree.
-    fn read_nodes(&self, area: &[u8]) -> Result<Vec<[u32; 3]>, String> {
+    /// The entries of a node area of this scope, on which both readers have to agree.
+    fn read_nodes(&self, area: &[u8], scope: u32) -> Result<Vec<[u32; 3]>, String> {
         let case = ReadCase { area: area.to_vec(), out: ROOM };
-        let paper = compare::run_read_nodes(self.sides.paper, &case);
-        let tested = compare::run_read_nodes(self.sides.tested, &case);
+        let paper = compare::run_read_nodes(self.sides.paper, scope, &case);
+        let tested = compare::run_read_nodes(self.sides.tested, scope, &case);
         match (compare::read_difference(self.sides, &paper, &tested), paper.reading.refusal) {
             (Some(text), _) => Err(text),
             (None, 0) => Ok(paper.entries()),
