@@ -1,0 +1,1 @@
+s/Some(big(&area\[4\.\.12\]))/Some(big(\&area[4..12]).swap_bytes())/
