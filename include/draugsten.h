@@ -112,7 +112,7 @@ struct draugsten_registration draugsten_no_registration(void);
  *
  * args       The argument buffer, big-endian words of 32 bits: token, number of inputs, number of outputs, the inputs,
  *            the outputs. Bytes may follow.
- *              update-nodes, 2 inputs:           address, scope (negative, 1 or 2)
+ *              update-nodes, 2 inputs:           address, scope (negative, 1, 2 or 3)
  *                            1 output:           status
  *              get-indices, 5 inputs:            0 indicator or 1 sensor, type, address, size, Starting Number
  *                           2 outputs:           status, Next Starting Number
@@ -126,14 +126,18 @@ struct draugsten_registration draugsten_no_registration(void);
  *            Never: any byte behind these, any byte outside the area, and any byte by a refused call or a dump command.
  * journal    The changes that update-nodes reports; no other call looks at them. Records, little-endian: length (2
  *            bytes, counts what follows), kind (2), node type (2), then for kind 1 (delete) and 2 (update) the phandle
- *            (4), for kind 3 (add) the parent's phandle (4) and the drc-index (4).
+ *            (4), for kind 3 (add) the parent's phandle (4) and the drc-index (4), for kind 4 (update of a unit's node)
+ *            the unit address (8) and the phandle (4). Node types are 1 to 14, and 15 and 16 in kind 4 alone.
  * inventory  What get-indices lists; no other call looks at it. Records, little-endian: length (2), kind 16 (2),
  *            0 indicator or 1 sensor (2), type (4), index (4), location code (1 to 79 bytes, none zero).
  * registration  As the partition's last call gave it. Only an answered configure-kernel-dump changes it.
  *
- * A session of update-nodes begins with sixteen zero bytes at the head of the area. While the status is 1, the next
- * call finds there the sixteen bytes that the last answered one left. A session of get-indices begins with Starting
- * Number 1; while the status is 1, the next call has the Next Starting Number.
+ * A session of update-nodes begins with sixteen zero bytes at the head of the area, in scope 3 with four zero bytes, the
+ * unit address (8 bytes, big-endian) and four zero bytes. While the status is 1, the next call finds there the sixteen
+ * bytes that the last answered one left: the new state, then twelve zero bytes, in scope 3 the same unit address and four
+ * zero bytes, with status 0 as with 1. Scope 3 reports the records of that unit alone, and of a unit that no record names
+ * it reports nothing: status 0. The other scopes pass over kind 4. A session of get-indices begins with Starting Number
+ * 1; while the status is 1, the next call has the Next Starting Number.
  */
 struct draugsten_answer draugsten_call(uint8_t *args, size_t args_length, uint8_t *memory, size_t memory_length,
                                        const uint8_t *journal, size_t journal_length, const uint8_t *inventory,
@@ -146,7 +150,7 @@ enum draugsten_refusal {
     DRAUGSTEN_REFUSAL_NONE = 0,
     /* node areas */
     DRAUGSTEN_REFUSAL_AREA_SIZE = 20,           /* not 4,096 bytes; at 0 */
-    DRAUGSTEN_REFUSAL_RESERVED = 21,            /* bytes 4 to 15 not zero; at 4 */
+    DRAUGSTEN_REFUSAL_RESERVED = 21,            /* bytes 4 to 15 not zero; at 4. In scope 3: 12 to 15; at 12 */
     DRAUGSTEN_REFUSAL_OPCODE = 22,              /* opcode not 1 to 3; 22 to 26 at the operator */
     /* 23, operand count zero, is withdrawn and not used again: such an operator is passed over */
     DRAUGSTEN_REFUSAL_OPERANDS_PAST_END = 24,
@@ -183,12 +187,14 @@ struct draugsten_index_reading {
  * Reads a node area, as update-nodes leaves it.
  *
  * area  The whole area. Only read.
+ * scope The scope of the call. In scope 3 bytes 4 to 11 hold the unit address and only bytes 12 to 15 have to be zero.
+ *       With any other number, also one that is no scope, bytes 4 to 15 have to be zero. No scope is refused.
  * out   Written, where nothing is refused: for each operation three words, opcode, first operand, second operand or 0,
  *       as many whole operations as out_length words have room for; 3 x 1,018 words hold any area's. Never: the words
  *       behind these, and any word with a refusal.
  */
-struct draugsten_node_reading draugsten_read_nodes(const uint8_t *area, size_t area_length, uint32_t *out,
-                                                   size_t out_length);
+struct draugsten_node_reading draugsten_read_nodes(const uint8_t *area, size_t area_length, uint32_t scope,
+                                                   uint32_t *out, size_t out_length);
 
 /*
  * Reads an index area, as get-indices leaves it. Bytes behind the last entry are not looked at.

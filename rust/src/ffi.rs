@@ -47,7 +47,13 @@ extern "C" {
         registration: Registration,
     ) -> Answer;
 
-    fn draugsten_read_nodes(area: *const u8, area_length: usize, out: *mut u32, out_length: usize) -> NodeReading;
+    fn draugsten_read_nodes(
+        area: *const u8,
+        area_length: usize,
+        scope: u32,
+        out: *mut u32,
+        out_length: usize,
+    ) -> NodeReading;
 
     fn draugsten_read_indices(area: *const u8, area_length: usize, out: *mut u64, out_length: usize) -> IndexReading;
 }
@@ -82,9 +88,9 @@ pub fn call(
 }
 
 /// Three words of `out` for each operation: opcode, first operand, second operand or 0.
-pub fn read_nodes(area: &[u8], out: &mut [u32]) -> NodeReading {
+pub fn read_nodes(area: &[u8], scope: u32, out: &mut [u32]) -> NodeReading {
     // SAFETY: both pointers are slices', with their lengths; `out`, which is written, is borrowed by `&mut`.
-    unsafe { draugsten_read_nodes(area.as_ptr(), area.len(), out.as_mut_ptr(), out.len()) }
+    unsafe { draugsten_read_nodes(area.as_ptr(), area.len(), scope, out.as_mut_ptr(), out.len()) }
 }
 
 /// Three numbers of `out` for each entry: index, byte offset of its code in the area, length of the code.

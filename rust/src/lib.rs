@@ -14,7 +14,7 @@
 //! let answer = call(&mut args, &mut memory, &journal, &[], &mut registration);
 //!
 //! assert_eq!(answer, Ok(Answer::Done));
-//! assert_eq!(read_nodes(&memory[4096..]), Ok(vec![Operation::Delete { phandle: 0x2a }]));
+//! assert_eq!(read_nodes(&memory[4096..], 1), Ok(vec![Operation::Delete { phandle: 0x2a }]));
 //! ```
 
 #![deny(unsafe_code)]

@@ -52,7 +52,7 @@ pub struct Refusal {
 pub enum Reason {
     /// Not 4,096 bytes.
     AreaSize = 20,
-    /// Bytes 4 to 15 not zero.
+    /// Bytes 4 to 15 not zero; in scope 3, bytes 12 to 15.
     Reserved = 21,
     /// An opcode not 1 to 3.
     Opcode = 22,
@@ -82,17 +82,18 @@ impl fmt::Display for Refusal {
 
 impl std::error::Error for Refusal {}
 
-/// The operations of a node area, in order.
-pub fn read_nodes(area: &[u8]) -> Result<Vec<Operation>, Refusal> {
+/// The operations of a node area, in order. In scope 3 the area names a unit; every other number, also one that is no
+/// scope, is an area that names none.
+pub fn read_nodes(area: &[u8], scope: i32) -> Result<Vec<Operation>, Refusal> {
     let mut words = [0; 3 * OPERATIONS_LIMIT];
-    let reading = ffi::read_nodes(area, &mut words);
+    let reading = ffi::read_nodes(area, scope as u32, &mut words);
     accepted(reading.refusal, reading.offset)?;
     Ok(words.chunks_exact(3).take(reading.entries).map(operation).collect())
 }
 
-/// The State Variable of a node area whose operations can be read.
-pub fn read_state(area: &[u8]) -> Result<u32, Refusal> {
-    let reading = ffi::read_nodes(area, &mut []);
+/// The State Variable of a node area whose operations can be read, in the same scope.
+pub fn read_state(area: &[u8], scope: i32) -> Result<u32, Refusal> {
+    let reading = ffi::read_nodes(area, scope as u32, &mut []);
     accepted(reading.refusal, reading.offset)?;
     Ok(reading.state)
 }

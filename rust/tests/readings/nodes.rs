@@ -30,13 +30,17 @@ fn partition_of(list: &[Operation]) -> Partition {
 
 /// Runs the session of scope 1: the answer, state and number of operations of each call. What is handed out is the list.
 fn session(list: &[Operation]) -> Vec<(Answer, u32, usize)> {
-    let mut partition = partition_of(list);
+    session_in(&mut partition_of(list), 1, list)
+}
+
+/// Runs a session from the bytes that the area begins with.
+fn session_in(partition: &mut Partition, scope: i32, list: &[Operation]) -> Vec<(Answer, u32, usize)> {
     let mut calls = vec![];
     let mut handed_out = vec![];
     loop {
-        let answer = partition.update_nodes(1).unwrap();
-        let area = read_nodes(partition.node_area()).unwrap();
-        calls.push((answer, read_state(partition.node_area()).unwrap(), area.len()));
+        let answer = partition.update_nodes(scope).unwrap();
+        let area = read_nodes(partition.node_area(), scope).unwrap();
+        calls.push((answer, read_state(partition.node_area(), scope).unwrap(), area.len()));
         handed_out.extend(area);
         if answer == Answer::Done {
             assert_eq!(handed_out, list);
@@ -80,15 +84,17 @@ fn an_empty_journal_is_a_terminator() {
     partition.memory.fill(0xff);
     partition.memory[NODE_AREA..NODE_AREA + 16].fill(0);
     assert_eq!(partition.update_nodes(1), Ok(Answer::Done));
-    assert_eq!(read_nodes(partition.node_area()), Ok(vec![]));
+    assert_eq!(read_nodes(partition.node_area(), 1), Ok(vec![]));
     assert_eq!(partition.node_area()[..20], [0; 20]);
     assert!(partition.node_area()[20..].iter().all(|&byte| byte == 0xff));
 }
 
 #[test]
 fn scopes() {
-    assert_eq!(Partition::new().update_nodes(i32::MIN), Ok(Answer::Done));
-    for scope in [0, 3, 4, i32::MAX] {
+    for scope in [i32::MIN, -1, 1, 2, 3] {
+        assert_eq!(Partition::new().update_nodes(scope), Ok(Answer::Done));
+    }
+    for scope in [0, 4, i32::MAX] {
         assert_eq!(Partition::new().update_nodes(scope), Err(Fault::Parameter));
     }
 }
@@ -102,7 +108,7 @@ fn a_state_of_the_lists_length_is_refused() {
     assert_eq!(partition.memory, before);
     partition.memory[NODE_AREA + 3] = 4;
     assert_eq!(partition.update_nodes(1), Ok(Answer::Done));
-    assert_eq!(read_nodes(partition.node_area()), Ok(vec![Operation::Update { phandle: 4 }]));
+    assert_eq!(read_nodes(partition.node_area(), 1), Ok(vec![Operation::Update { phandle: 4 }]));
 }
 
 #[test]
@@ -115,9 +121,9 @@ fn a_malformed_journal_is_refused() {
 #[test]
 fn the_printed_area() {
     let area = area(&[0, 0, 0, 0, 0x01000001, 0x0000002a, 0x02000001, 0x00001000, 0x03000002, 0x00001000, 0x10000005]);
-    assert_eq!(read_state(&area), Ok(0));
+    assert_eq!(read_state(&area, 1), Ok(0));
     assert_eq!(
-        read_nodes(&area),
+        read_nodes(&area, 1),
         Ok(vec![
             Operation::Delete { phandle: 0x2a },
             Operation::Update { phandle: 0x1000 },
@@ -128,6 +134,7 @@ fn the_printed_area() {
 
 #[test]
 fn node_areas_are_refused() {
+    let read_nodes = |area: &[u8]| read_nodes(area, 1);
     assert_eq!(read_nodes(&[]), refused(Reason::AreaSize, 0));
     assert_eq!(read_nodes(&area(&[0, 0, 0, 1])), refused(Reason::Reserved, 4));
     assert_eq!(read_nodes(&area(&[0, 0, 0, 0, 5])), refused(Reason::Opcode, 16));
@@ -138,4 +145,124 @@ fn node_areas_are_refused() {
     let unterminated = read_nodes(&area(&[0, 0, 0, 0, 0x010003fb]));
     assert_eq!(unterminated, refused(Reason::NoTerminator, 4096));
     assert_eq!(unterminated.unwrap_err().to_string(), "refused 27 at 4096");
+}
+
+const UNIT: u64 = 0x8000_0000_2000_0002;
+/// A unit with another high word alone.
+const OTHER_UNIT: u64 = 0x8000_0001_2000_0002;
+
+/// A journal record of kind 4, of node type 15.
+fn unit_record(unit: u64, phandle: u32) -> Vec<u8> {
+    let head = [16, 4, 15].into_iter().flat_map(u16::to_le_bytes);
+    head.chain(unit.to_le_bytes()).chain(phandle.to_le_bytes()).collect()
+}
+
+fn updates(phandles: std::ops::Range<u32>) -> Vec<Operation> {
+    phandles.map(|phandle| Operation::Update { phandle }).collect()
+}
+
+/// A partition whose journal has so many updates of each unit in turn, and whose area asks for a unit. The other unit's
+/// phandles count from 5,000.
+fn partition_of_units(number: u32, asked: u64) -> Partition {
+    let mut partition = Partition::new();
+    let pair = |phandle: u32| [unit_record(UNIT, phandle), unit_record(OTHER_UNIT, 5000 + phandle)];
+    partition.journal = (0..number).flat_map(pair).flatten().collect();
+    partition.memory[NODE_AREA + 4..NODE_AREA + 12].copy_from_slice(&asked.to_be_bytes());
+    partition
+}
+
+#[test]
+fn scope_3_reports_one_unit() {
+    for (unit, first) in [(UNIT, 0), (OTHER_UNIT, 5000)] {
+        let mut partition = partition_of_units(1018, unit);
+        assert_eq!(session_in(&mut partition, 3, &updates(first..first + 1018)), [(Answer::Done, 0, 1018)]);
+
+        let mut partition = partition_of_units(1019, unit);
+        let calls = session_in(&mut partition, 3, &updates(first..first + 1019));
+        assert_eq!(calls, [(Answer::CallAgain, 1018, 1018), (Answer::Done, 0, 1)]);
+    }
+}
+
+#[test]
+fn an_answer_names_its_unit() {
+    let carried = |partition: &Partition| partition.node_area()[..16].to_vec();
+    let mut partition = partition_of_units(1019, UNIT);
+    assert_eq!(partition.update_nodes(3), Ok(Answer::CallAgain));
+    assert_eq!(carried(&partition), [0, 0, 3, 0xfa, 0x80, 0, 0, 0, 0x20, 0, 0, 2, 0, 0, 0, 0]);
+    assert_eq!(partition.update_nodes(3), Ok(Answer::Done));
+    assert_eq!(carried(&partition), [0, 0, 0, 0, 0x80, 0, 0, 0, 0x20, 0, 0, 2, 0, 0, 0, 0]);
+}
+
+#[test]
+fn a_unit_without_a_record_has_an_empty_list() {
+    for unit in [0, 7, UNIT >> 32, UNIT << 32] {
+        let mut partition = partition_of_units(3, unit);
+        assert_eq!(session_in(&mut partition, 3, &[]), [(Answer::Done, 0, 0)]);
+    }
+}
+
+#[test]
+fn other_scopes_pass_over_units() {
+    for scope in [i32::MIN, -1, 1, 2] {
+        assert_eq!(session_in(&mut partition_of_units(3, 0), scope, &[]), [(Answer::Done, 0, 0)]);
+    }
+}
+
+#[test]
+fn the_bytes_behind_the_state() {
+    for (scope, byte, expected) in [
+        (3, 4, Ok(Answer::Done)),
+        (3, 11, Ok(Answer::Done)),
+        (3, 12, Err(Fault::Parameter)),
+        (3, 15, Err(Fault::Parameter)),
+        (1, 4, Err(Fault::Parameter)),
+        (1, 11, Err(Fault::Parameter)),
+        (1, 12, Err(Fault::Parameter)),
+        (1, 15, Err(Fault::Parameter)),
+    ] {
+        let mut partition = partition_of_units(3, 0);
+        partition.memory[NODE_AREA + byte] = 1;
+        assert_eq!(partition.update_nodes(scope), expected, "scope {scope}, byte {byte}");
+    }
+}
+
+#[test]
+fn the_reader_is_told_the_scope() {
+    let mut unit = area(&[7, 0x80000000, 0x20000002, 0, 0x02000001, 0x1000]);
+    assert_eq!(read_nodes(&unit, 3), Ok(vec![Operation::Update { phandle: 0x1000 }]));
+    assert_eq!(read_state(&unit, 3), Ok(7));
+    for scope in [i32::MIN, -1, 0, 1, 2, 4, 0x103, i32::MAX] {
+        assert_eq!(read_nodes(&unit, scope), refused(Reason::Reserved, 4));
+        assert_eq!(read_nodes(&area(&[]), scope), Ok(vec![]));
+    }
+    for byte in 12..16 {
+        unit[byte] = 1;
+        assert_eq!(read_nodes(&unit, 3), refused(Reason::Reserved, 12));
+        assert_eq!(read_state(&unit, 3), Err(Refusal { reason: Reason::Reserved, offset: 12 }));
+        unit[byte] = 0;
+    }
+}
+
+#[test]
+fn node_types_15_and_16_are_of_kind_4_alone() {
+    let with_type = |mut record: Vec<u8>, node_type: u8| {
+        record[4] = node_type;
+        record
+    };
+    let update = record(Operation::Update { phandle: 1 });
+    for (journal, expected) in [
+        (with_type(update.clone(), 14), Ok(Answer::Done)),
+        (with_type(update.clone(), 15), Err(Fault::Malformed)),
+        (with_type(update, 16), Err(Fault::Malformed)),
+        (with_type(unit_record(UNIT, 1), 14), Err(Fault::Malformed)),
+        (unit_record(UNIT, 1), Ok(Answer::Done)),
+        (with_type(unit_record(UNIT, 1), 16), Ok(Answer::Done)),
+        (with_type(unit_record(UNIT, 1), 17), Err(Fault::Malformed)),
+    ] {
+        for scope in [-1, 1, 2, 3] {
+            let mut partition = Partition::new();
+            partition.journal = journal.clone();
+            assert_eq!(partition.update_nodes(scope), expected);
+        }
+    }
 }
