@@ -1,6 +1,7 @@
 /*
- * One partition's calls from beginning to end: a session of update-nodes, a session of get-indices, and a kernel dump
- * structure that is registered and unregistered. Exits with 1 where something is not as it should be.
+ * One partition's calls from beginning to end: a session of update-nodes, another one for one unit, a session of
+ * get-indices, and a kernel dump structure that is registered and unregistered. Exits with 1 where something is not as it
+ * should be.
  */
 #include "draugsten.h"
 
@@ -11,12 +12,14 @@
 
 enum {
     RECORDS = 1500,
+    UNIT_RECORDS = 7,
     NODE_AREA = 0x1000,     /* addresses in the partition's memory */
     INDEX_AREA = 0x2000,
     STRUCTURE = 0x2800,
     MEMORY_SIZE = 0x3000,
     STRUCTURE_SIZE = 80,
     SCOPE = 1,
+    UNIT_SCOPE = 3,
     INDICATOR = 0,
     SENSOR = 1,
     TYPE = 9006
@@ -151,9 +154,9 @@ static size_t count_reportable(const struct partition *partition)
     return count;
 }
 
-static uint32_t update_nodes(struct partition *partition, uint32_t address)
+static uint32_t update_nodes(struct partition *partition, uint32_t address, uint32_t scope)
 {
-    uint32_t inputs[2] = {address, SCOPE};
+    uint32_t inputs[2] = {address, scope};
     uint32_t status;
 
     call(partition, DRAUGSTEN_TOKEN_UPDATE_NODES, inputs, 2, &status, 1);
@@ -175,12 +178,12 @@ static void print_operation(const uint32_t *words)
 }
 
 /* Reads the area that an answered call left; gives the number of its operations. */
-static size_t read_node_area(const struct partition *partition, uint32_t status)
+static size_t read_node_area(const struct partition *partition, uint32_t status, uint32_t scope)
 {
     uint32_t words[DRAUGSTEN_ENTRY_ELEMENTS * DRAUGSTEN_NODE_OPERATIONS_LIMIT] = {0};
     struct draugsten_node_reading reading;
 
-    reading = draugsten_read_nodes(partition->memory + NODE_AREA, DRAUGSTEN_NODE_AREA_SIZE, words,
+    reading = draugsten_read_nodes(partition->memory + NODE_AREA, DRAUGSTEN_NODE_AREA_SIZE, scope, words,
                                    sizeof words / sizeof words[0]);
     expect(reading.refusal == DRAUGSTEN_REFUSAL_NONE, "the node area is read");
     expect(reading.entries > 0, "the node area has operations");
@@ -200,7 +203,7 @@ static void call_misaligned(struct partition *partition)
     uint32_t status;
 
     memcpy(before, partition->memory, sizeof before);
-    status = update_nodes(partition, address);
+    status = update_nodes(partition, address, SCOPE);
     expect(status == DRAUGSTEN_STATUS_PARAMETER, "a misaligned address is refused");
     expect(memcmp(before, partition->memory, sizeof before) == 0, "a refused call leaves memory as it is");
     printf("  status %" PRId32 ", address %08" PRIx32 "\n", (int32_t)status, address);
@@ -218,12 +221,60 @@ static void run_node_session(struct partition *partition)
     for (calls = 0; status == DRAUGSTEN_STATUS_CALL_AGAIN; calls++) {
         if (calls == 1)
             call_misaligned(partition);
-        status = update_nodes(partition, NODE_AREA);
+        status = update_nodes(partition, NODE_AREA, SCOPE);
         expect(is_answered(status), "update-nodes is answered");
-        operations += read_node_area(partition, status);
+        operations += read_node_area(partition, status, SCOPE);
     }
     expect(operations == count_reportable(partition), "every reportable operation is handed out");
     printf("  %zu operations in %d areas\n", operations, calls);
+}
+
+/* ---- update-nodes for one unit */
+
+/* The address of a coherent platform facility, as the area has it, and that of another one. */
+static const uint32_t unit[2] = {0x80000000, 0x20000002};
+static const uint32_t other_unit[2] = {0x80000001, 0x20000002};
+
+static size_t put_unit_change(uint8_t *to, uint32_t node_type, const uint32_t *address, uint32_t phandle)
+{
+    put_le16(to, 16);
+    put_le16(to + 2, 4);
+    put_le16(to + 4, node_type);
+    put_le32(to + 6, address[1]);
+    put_le32(to + 10, address[0]);
+    put_le32(to + 14, phandle);
+    return 18;
+}
+
+/* Updates of the two units in turn, the first of them of `unit`; each has nodes of types 15 and 16. */
+static void make_unit_journal(struct partition *partition)
+{
+    size_t at = 0;
+    uint32_t i;
+
+    for (i = 0; i < UNIT_RECORDS; i++)
+        at += put_unit_change(partition->journal + at, 15 + i / 2 % 2, i % 2 ? other_unit : unit, 0x2000 + i);
+    partition->journal_length = at;
+}
+
+/* One call has room for the records of the unit. It leaves the unit's address where it found it. */
+static void run_unit_session(struct partition *partition)
+{
+    uint8_t *area = partition->memory + NODE_AREA;
+    uint32_t status;
+    size_t operations;
+
+    make_unit_journal(partition);
+    printf("update-nodes, %d records, scope %d, unit %08" PRIx32 "%08" PRIx32 "\n", UNIT_RECORDS, UNIT_SCOPE, unit[0],
+           unit[1]);
+    memset(area, 0, 16);
+    put_be32(area + 4, unit[0]);
+    put_be32(area + 8, unit[1]);
+    status = update_nodes(partition, NODE_AREA, UNIT_SCOPE);
+    expect(status == DRAUGSTEN_STATUS_DONE, "one call hands out all records of the unit");
+    expect(be32(area + 4) == unit[0] && be32(area + 8) == unit[1], "the answer names the unit");
+    operations = read_node_area(partition, status, UNIT_SCOPE);
+    expect(operations == (UNIT_RECORDS + 1) / 2, "every record of the unit is handed out, and no other");
 }
 
 /* ---- get-indices */
@@ -365,6 +416,7 @@ int main(void)
 
     partition.registration = draugsten_no_registration();
     run_node_session(&partition);
+    run_unit_session(&partition);
     run_index_session(&partition);
     run_dump_commands(&partition);
     expect(fflush(stdout) == 0, "the output is written");
