@@ -1,7 +1,8 @@
 //! Holds the three sides to each other before they are measured: every answer and every byte.
 
-use crate::interface::{Asked, Judged, Side, MALFORMED, SIDES};
-use crate::partition::{Partition, AREA_SIZE, SCOPE};
+use crate::interface::{Asked, Judged, Side, Wanted, MALFORMED, SIDES};
+use crate::journal::UNITS;
+use crate::partition::{Partition, AREA_SIZE};
 use std::fmt::Debug;
 
 /// What all sides answer; panics where they differ.
@@ -21,9 +22,10 @@ pub fn no_registration() {
 /// The scan of a journal, whole and with its last byte cut off.
 pub fn journal_scan(journal: &[u8]) {
     let cut = &journal[..journal.len() - 1];
-    for scope in [u32::MAX, 1, 2, 3] {
-        assert_ne!(same("scan", |side| (side.scan_journal)(journal, scope)), MALFORMED);
-        assert_eq!(same("scan", |side| (side.scan_journal)(cut, scope)), MALFORMED);
+    for (scope, unit) in [(u32::MAX, 0), (1, 0), (2, 0), (3, 0), (3, UNITS[0]), (3, UNITS[1]), (4, 0)] {
+        let wanted = Wanted { scope, unit };
+        assert_ne!(same("scan", |side| (side.scan_journal)(journal, wanted)), MALFORMED);
+        assert_eq!(same("scan", |side| (side.scan_journal)(cut, wanted)), MALFORMED);
     }
 }
 
@@ -85,15 +87,17 @@ fn session(mut partition: Partition) {
 }
 
 /// The calls of a session of update-nodes, and a refusal by each rule.
-pub fn update_nodes(journal: &[u8]) {
-    let partition = Partition::of_journal(journal);
-    let cut = Partition::of_journal(&journal[..journal.len() - 1]);
-    let length = (SIDES[0].scan_journal)(journal, SCOPE) as u32;
+pub fn update_nodes(journal: &[u8], wanted: Wanted) {
+    let partition = Partition::of_journal(journal, wanted);
+    let cut = Partition::of_journal(&journal[..journal.len() - 1], wanted);
+    let length = (SIDES[0].scan_journal)(journal, wanted) as u32;
     refusal(&partition, -3, |own| own.put_word(12, 1));
     refusal(&partition, -3, |own| own.put_word(12, 3 * AREA_SIZE as u32));
-    refusal(&partition, -3, |own| own.put_word(16, 3));
+    refusal(&partition, -3, |own| own.put_word(16, 4));
     refusal(&cut, -1, |_| ());
-    refusal(&partition, -3, |own| own.area()[15] = 1);
+    for at in if wanted.scope == 3 { [12, 15] } else { [4, 15] } {
+        refusal(&partition, -3, |own| own.area()[at] = 1);
+    }
     refusal(&partition, -3, |own| own.begin(length));
     session(partition);
 }
@@ -118,15 +122,25 @@ pub fn get_indices(inventory: &[u8], asked: Asked) {
     session(partition);
 }
 
-/// The reading of a node area: it is good, and refused where it is short of a byte, or where the reserved bytes, the
-/// first operator's opcode or its number of operands is changed.
+/// The reading of a node area that names no unit: it is good, and refused where it is short of a byte, or where the
+/// reserved bytes, the first operator's opcode or its number of operands is changed. In scope 3 it may name a unit.
 pub fn read_nodes(area: &[u8], room: usize) {
+    for scope in [1, 3] {
+        read_nodes_in(scope, area, room);
+    }
+    let mut of_unit = area.to_vec();
+    of_unit[11] = 1;
+    let refusals = [1, 3].map(|scope| same("a unit", |side| read_nodes_with(side, scope, &of_unit, room)).0);
+    assert_eq!(refusals, [21, 0]);
+}
+
+fn read_nodes_in(scope: u32, area: &[u8], room: usize) {
     let refused = |what: &str, bytes: &[u8]| {
-        let reading = same(what, |side| read_nodes_with(side, bytes, room)).0;
+        let reading = same(what, |side| read_nodes_with(side, scope, bytes, room)).0;
         assert_ne!(reading, 0, "{what}");
     };
-    assert_eq!(same("reading", |side| read_nodes_with(side, area, room)).0, 0);
-    same("reading", |side| read_nodes_with(side, area, room / 2));
+    assert_eq!(same("reading", |side| read_nodes_with(side, scope, area, room)).0, 0);
+    same("reading", |side| read_nodes_with(side, scope, area, room / 2));
     refused("short", &area[..area.len() - 1]);
     for at in [15, 16, 19] {
         let mut changed = area.to_vec();
@@ -135,9 +149,9 @@ pub fn read_nodes(area: &[u8], room: usize) {
     }
 }
 
-fn read_nodes_with(side: &Side, area: &[u8], room: usize) -> (u32, Vec<u32>) {
+fn read_nodes_with(side: &Side, scope: u32, area: &[u8], room: usize) -> (u32, Vec<u32>) {
     let mut out = vec![0xa5a5_a5a5; room];
-    let reading = (side.read_nodes)(area, &mut out);
+    let reading = (side.read_nodes)(area, scope, &mut out);
     out.extend([reading.state, reading.offset as u32, reading.entries as u32]);
     (reading.refusal, out)
 }

@@ -1,17 +1,18 @@
 //! The independent side: document 01 written out plainly (compare/src/paper), which is not meant to be fast.
 
-use crate::interface::{Answer, Asked, IndexReading, Judged, NodeReading, Registration, Side, MALFORMED};
+use crate::interface::{Answer, Asked, IndexReading, Judged, NodeReading, Registration, Side, Wanted, MALFORMED};
 use draugsten_compare::paper::{self, readers, records, scope, Phase};
 
 pub const SIDE: Side =
     Side { name: "independent", scan_journal, scan_inventory, search, no_registration, call, read_nodes, read_indices };
 
-fn scan_journal(journal: &[u8], scope: u32) -> u64 {
+fn scan_journal(journal: &[u8], wanted: Wanted) -> u64 {
     let Ok(changes) = records::journal(journal) else {
         return MALFORMED;
     };
-    let row = scope::row(u64::from(scope));
-    row.map_or(0, |row| scope::reportable_list(&changes, &row).len() as u64)
+    let unit = (wanted.scope == 3).then_some(wanted.unit);
+    let row = scope::row(u64::from(wanted.scope));
+    row.map_or(0, |row| scope::reportable_list(&changes, &row, unit).len() as u64)
 }
 
 fn scan_inventory(inventory: &[u8], asked: Asked) -> u64 {
@@ -77,8 +78,8 @@ fn put_entries<T: Copy>(out: &mut [T], entries: impl Iterator<Item = [T; 3]>) {
     }
 }
 
-pub fn read_nodes(area: &[u8], out: &mut [u32]) -> NodeReading {
-    match readers::read_nodes(area) {
+pub fn read_nodes(area: &[u8], scope: u32, out: &mut [u32]) -> NodeReading {
+    match readers::read_nodes(area, u64::from(scope)) {
         Ok(nodes) => {
             let operations = nodes.operations.iter();
             put_entries(out, operations.map(|each| [each.opcode, each.first, each.second]));

@@ -1,11 +1,16 @@
 //! The journals, inventories and work areas that are measured, with their names.
 
-use crate::interface::{Asked, LIMIT, SIDES};
+use crate::interface::{Asked, Wanted, LIMIT, SIDES};
 use crate::partition::Partition;
 use crate::{inventory, journal};
 
+/// The scope that is asked for where no other is named.
+pub const SCOPE_1: Wanted = Wanted { scope: 1, unit: 0 };
+/// The first of the two units.
+pub const SCOPE_3: Wanted = Wanted { scope: 3, unit: journal::UNITS[0] };
+
 pub struct Inputs {
-    pub journals: Vec<(&'static str, Vec<u8>)>,
+    pub journals: Vec<(&'static str, Vec<u8>, Wanted)>,
     /// Measured by scans, calls and sessions.
     pub inventories: Vec<Inventory>,
     /// Of several types, measured by the search and by one call alone.
@@ -30,15 +35,20 @@ impl Inputs {
 
 pub fn inputs() -> Inputs {
     let journals = vec![
-        ("uniform", journal::uniform(LIMIT)),
-        ("mixed", journal::mixed(LIMIT)),
-        ("uniform", journal::uniform(57_600)),
-        ("mixed", journal::mixed(57_600)),
+        ("uniform", journal::uniform(LIMIT), SCOPE_1),
+        ("mixed", journal::mixed(LIMIT), SCOPE_1),
+        ("uniform", journal::uniform(57_600), SCOPE_1),
+        ("mixed", journal::mixed(57_600), SCOPE_1),
+        ("two units, scope 3", journal::two_units(LIMIT), SCOPE_3),
+        ("four kinds, scope 1", journal::four_kinds(LIMIT), SCOPE_1),
+        ("four kinds, scope 3", journal::four_kinds(LIMIT), SCOPE_3),
     ];
     let inventories: Vec<_> = [(79, 1), (79, 16), (20, 1), (8, 1)].map(full_inventory).into();
     let listings = [(79, 2), (8, 16), (8, 2)].map(full_inventory).into();
-    let node_areas =
-        vec![("deletes", node_area(&journal::uniform(LIMIT))), ("all three opcodes", node_area(&journal::mixed(14_000)))];
+    let node_areas = vec![
+        ("deletes", node_area(&journal::uniform(LIMIT))),
+        ("all three opcodes", node_area(&journal::mixed(14_000))),
+    ];
     let index_areas = [&inventories[0], &inventories[3]].map(|(name, bytes, asked)| {
         let mut partition = Partition::of_inventory(bytes, *asked);
         partition.answered_call(&SIDES[0], asked.number);
@@ -59,7 +69,7 @@ fn full_inventory((length, kinds): (usize, u32)) -> Inventory {
 
 /// The area that the first call over a journal fills.
 fn node_area(journal: &[u8]) -> Vec<u8> {
-    let mut partition = Partition::of_journal(journal);
+    let mut partition = Partition::of_journal(journal, SCOPE_1);
     partition.answered_call(&SIDES[0], 0);
     partition.area().to_vec()
 }

@@ -45,6 +45,13 @@ pub struct IndexReading {
     pub entries: usize,
 }
 
+/// What is asked of a journal: the operations of a scope and, in scope 3, of a unit. In all other scopes the unit is 0.
+#[derive(Clone, Copy)]
+pub struct Wanted {
+    pub scope: u32,
+    pub unit: u64,
+}
+
 /// The entries of an inventory that are asked for. They are numbered from 1.
 #[derive(Clone, Copy)]
 pub struct Asked {
@@ -88,15 +95,15 @@ pub type Call = fn(&mut [u8], &mut [u8], &[u8], &[u8], Registration) -> Answer;
 /// One implementation of the rules. A scan answers how many operations or entries there are.
 pub struct Side {
     pub name: &'static str,
-    pub scan_journal: fn(&[u8], u32) -> u64,
+    pub scan_journal: fn(&[u8], Wanted) -> u64,
     pub scan_inventory: fn(&[u8], Asked) -> u64,
     /// The index of the last entry asked for, or 0 where there is none.
     pub search: fn(Judged) -> u32,
     /// The registration that a partition starts with.
     pub no_registration: fn() -> Registration,
     pub call: Call,
-    /// Three words for each operation: opcode, first operand, second operand or 0.
-    pub read_nodes: fn(&[u8], &mut [u32]) -> NodeReading,
+    /// Three words for each operation: opcode, first operand, second operand or 0. The number is the scope.
+    pub read_nodes: fn(&[u8], u32, &mut [u32]) -> NodeReading,
     /// Three numbers for each entry: index, place of the code in the area, length of the code without its NULs.
     pub read_indices: fn(&[u8], &mut [u64]) -> IndexReading,
 }

@@ -1,7 +1,7 @@
 //! The proved side: the two archives over their C interface. With the feature `stand-in` there is no libdraugsten.a,
 //! and the independent program answers in its place, but for the scans and the search.
 
-use crate::interface::{Asked, Judged, Side};
+use crate::interface::{Asked, Judged, Side, Wanted};
 
 #[cfg(feature = "stand-in")]
 use crate::independent::{call, no_registration, read_indices, read_nodes};
@@ -23,14 +23,14 @@ pub const SIDE: Side = Side {
 };
 
 extern "C" {
-    fn draugsten_bench_scan(journal: *const u8, length: usize, scope: u32) -> u64;
+    fn draugsten_bench_scan(journal: *const u8, length: usize, scope: u32, unit: u64) -> u64;
     fn draugsten_bench_inventory(inventory: *const u8, length: usize, flag: u32, kind: u32, number: u32) -> u64;
     fn draugsten_bench_search(inventory: *const u8, length: usize, flag: u32, kind: u32, count: u64) -> u32;
 }
 
-fn scan_journal(journal: &[u8], scope: u32) -> u64 {
+fn scan_journal(journal: &[u8], wanted: Wanted) -> u64 {
     // SAFETY: the function reads the slice that is lent to it, writes nothing of ours, and keeps no pointer.
-    unsafe { draugsten_bench_scan(journal.as_ptr(), journal.len(), scope) }
+    unsafe { draugsten_bench_scan(journal.as_ptr(), journal.len(), wanted.scope, wanted.unit) }
 }
 
 fn scan_inventory(inventory: &[u8], asked: Asked) -> u64 {
@@ -64,7 +64,13 @@ mod archive {
             registration: Registration,
         ) -> Answer;
 
-        fn draugsten_read_nodes(area: *const u8, area_len: usize, out: *mut u32, out_len: usize) -> NodeReading;
+        fn draugsten_read_nodes(
+            area: *const u8,
+            area_len: usize,
+            scope: u32,
+            out: *mut u32,
+            out_len: usize,
+        ) -> NodeReading;
 
         fn draugsten_read_indices(area: *const u8, area_len: usize, out: *mut u64, out_len: usize) -> IndexReading;
     }
@@ -97,9 +103,9 @@ mod archive {
         }
     }
 
-    pub fn read_nodes(area: &[u8], out: &mut [u32]) -> NodeReading {
+    pub fn read_nodes(area: &[u8], scope: u32, out: &mut [u32]) -> NodeReading {
         // SAFETY: as above.
-        unsafe { draugsten_read_nodes(area.as_ptr(), area.len(), out.as_mut_ptr(), out.len()) }
+        unsafe { draugsten_read_nodes(area.as_ptr(), area.len(), scope, out.as_mut_ptr(), out.len()) }
     }
 
     pub fn read_indices(area: &[u8], out: &mut [u64]) -> IndexReading {

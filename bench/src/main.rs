@@ -57,8 +57,8 @@ fn options(words: impl Iterator<Item = String>) -> Option<Options> {
 
 /// Measures all rows, and tells each.
 fn rows(inputs: &Inputs, effort: Effort, mut tell: impl FnMut(Row)) {
-    for (name, journal) in &inputs.journals {
-        tell(scans::journal(name, journal, effort));
+    for (name, journal, wanted) in &inputs.journals {
+        tell(scans::journal(name, journal, *wanted, effort));
     }
     for (name, inventory, asked) in &inputs.inventories {
         tell(scans::inventory(name, inventory, *asked, effort));
@@ -67,8 +67,8 @@ fn rows(inputs: &Inputs, effort: Effort, mut tell: impl FnMut(Row)) {
         tell(scans::search(name, inventory, *asked, effort));
     }
     for measure in [update_nodes::one_call, update_nodes::session] {
-        for (name, journal) in &inputs.journals {
-            tell(measure(name, journal, effort));
+        for (name, journal, wanted) in &inputs.journals {
+            tell(measure(name, journal, *wanted, effort));
         }
     }
     for (name, inventory, asked) in inputs.all_inventories() {
@@ -88,9 +88,9 @@ fn rows(inputs: &Inputs, effort: Effort, mut tell: impl FnMut(Row)) {
 /// Holds the sides to each other over all that is measured; panics where they differ.
 fn check_sides(inputs: &Inputs) {
     check::no_registration();
-    for (_, journal) in &inputs.journals {
+    for (_, journal, wanted) in &inputs.journals {
         check::journal_scan(journal);
-        check::update_nodes(journal);
+        check::update_nodes(journal, *wanted);
     }
     for (_, inventory, asked) in inputs.all_inventories() {
         check::inventory_scan(inventory, *asked);
@@ -104,7 +104,7 @@ fn check_sides(inputs: &Inputs) {
         check::read_indices(area, readers::INDICES_ROOM);
     }
     for size in growth::SIZES {
-        check::update_nodes(&journal::mixed(size));
+        check::update_nodes(&journal::mixed(size), inputs::SCOPE_1);
     }
 }
 

@@ -1,10 +1,8 @@
 //! A partition that makes calls: its argument buffer, memory and registration, and what the platform has for it.
 
-use crate::interface::{Asked, Registration, Side};
+use crate::interface::{Asked, Registration, Side, Wanted};
 use crate::library;
 
-/// The scope of every update-nodes call.
-pub const SCOPE: u32 = 1;
 /// The place and the size of every work area.
 pub const AREA_AT: usize = 4096;
 pub const AREA_SIZE: usize = 4096;
@@ -23,6 +21,8 @@ pub struct Partition<'a> {
     pub journal: &'a [u8],
     pub inventory: &'a [u8],
     pub registration: Registration,
+    /// The unit that the first sixteen bytes of a node area name.
+    unit: u64,
 }
 
 impl<'a> Partition<'a> {
@@ -33,12 +33,14 @@ impl<'a> Partition<'a> {
             journal,
             inventory,
             registration: (library::SIDE.no_registration)(),
+            unit: 0,
         }
     }
 
     /// A partition that asks for the node updates of a journal.
-    pub fn of_journal(journal: &'a [u8]) -> Partition<'a> {
-        Partition::new(&[UPDATE_NODES, 2, 1, AREA_AT as u32, SCOPE, 0], journal, &[])
+    pub fn of_journal(journal: &'a [u8], wanted: Wanted) -> Partition<'a> {
+        let args = [UPDATE_NODES, 2, 1, AREA_AT as u32, wanted.scope, 0];
+        Partition { unit: wanted.unit, ..Partition::new(&args, journal, &[]) }
     }
 
     /// A partition that asks for entries of an inventory.
@@ -63,8 +65,10 @@ impl<'a> Partition<'a> {
     /// Makes ready for a call from a state or a Starting Number on.
     pub fn begin(&mut self, from: u32) {
         if self.word(0) == UPDATE_NODES {
-            self.area()[..16].fill(0);
+            let unit = self.unit.to_be_bytes();
             self.area()[..4].copy_from_slice(&from.to_be_bytes());
+            self.area()[4..12].copy_from_slice(&unit);
+            self.area()[12..16].fill(0);
         } else {
             self.put_word(STARTING_NUMBER, from);
         }

@@ -7,8 +7,8 @@ use crate::interface::{NodeReading, NODE_AREA};
 type Refused = (u32, usize);
 
 /// The operations go to `out`, as many as it has room for.
-pub fn read_nodes(area: &[u8], out: &mut [u32]) -> NodeReading {
-    match entries(area) {
+pub fn read_nodes(area: &[u8], scope: u32, out: &mut [u32]) -> NodeReading {
+    match entries(area, scope) {
         Ok(entries) => {
             write_operations(area, out);
             NodeReading { refusal: 0, state: be32(area, 0), offset: 0, entries }
@@ -23,12 +23,13 @@ fn split(operator: u32) -> (u32, usize) {
 }
 
 /// Judges the area and counts its operations.
-fn entries(area: &[u8]) -> Result<usize, Refused> {
+fn entries(area: &[u8], scope: u32) -> Result<usize, Refused> {
     if area.len() != NODE_AREA {
         return Err((20, 0));
     }
-    if area[4..16].iter().any(|&byte| byte != 0) {
-        return Err((21, 4));
+    let reserved_at = if scope == 3 { 12 } else { 4 };
+    if area[reserved_at..16].iter().any(|&byte| byte != 0) {
+        return Err((21, reserved_at));
     }
     let (mut at, mut last, mut entries) = (16, 0, 0);
     while at < NODE_AREA {

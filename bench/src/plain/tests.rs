@@ -8,6 +8,8 @@ use std::collections::BTreeMap;
 const SIDES: [Side; 2] = [plain::SIDE, independent::SIDE];
 const CASES: usize = 20_000;
 const AREA: usize = 4096;
+/// Units that are easily taken for each other.
+const UNITS: [u64; 4] = [0, 1, 1 << 32, 1 << 56];
 
 fn pick<T: Copy>(random: &mut Xorshift, from: &[T]) -> T {
     from[usize::from(random.below(from.len() as u64))]
@@ -23,14 +25,19 @@ fn spoil(random: &mut Xorshift, bytes: &mut [u8], within: usize) {
 }
 
 fn journal(random: &mut Xorshift) -> Vec<u8> {
-    let (few, kinds) = (random.below(2) == 0, 1 + u64::from(random.below(3)));
-    let records = if few { random.below(20) } else { 1000 + random.below(2500) };
+    let kinds = pick(random, &[&[1][..], &[1, 2], &[1, 2, 3], &[1, 2, 3, 4], &[4]]);
+    let records = if random.below(2) == 0 { random.below(20) } else { 1000 + random.below(2500) };
     let mut journal = Vec::new();
     for _ in 0..records {
-        let kind = 1 + random.below(kinds);
-        let length: u16 = if kind == 3 { 12 } else { 8 };
-        [length, kind, 1 + random.below(14)].iter().for_each(|half| journal.extend(half.to_le_bytes()));
-        journal.extend(&random.next().to_le_bytes()[..usize::from(length) - 4]);
+        let kind: u16 = pick(random, kinds);
+        let length: u16 = [8, 8, 12, 16][usize::from(kind) - 1];
+        let node = if kind == 4 { 15 + random.below(2) } else { 1 + random.below(14) };
+        [length, kind, node].iter().for_each(|half| journal.extend(half.to_le_bytes()));
+        if kind == 4 {
+            journal.extend(pick(random, &UNITS).to_le_bytes());
+        }
+        let operands = if kind == 3 { 8 } else { 4 };
+        journal.extend(&random.next().to_le_bytes()[..operands]);
     }
     spoil(random, &mut journal, AREA);
     journal
@@ -53,7 +60,7 @@ fn inventory(random: &mut Xorshift) -> Vec<u8> {
 fn arguments(random: &mut Xorshift) -> Vec<u8> {
     let at = pick(random, &[0, 4096, 4096, 4096, 8192, 4097]);
     let words = if random.below(2) == 0 {
-        vec![1, 2, 1, at, pick(random, &[1, 1, 2, 3, u32::MAX]), 7]
+        vec![1, 2, 1, at, pick(random, &[1, 1, 2, 3, 3, 4, u32::MAX]), 7]
     } else {
         let size = pick(random, &[4096, 4096, 100, 92, 15, 3, u32::MAX]);
         let number = pick(random, &[0, 1, 1, 2, 20, 1000]);
@@ -73,16 +80,22 @@ fn memory(random: &mut Xorshift) -> Vec<u8> {
     let state = pick(random, &[0u32, 0, 1, 10, 500, 1018, 1100]);
     memory[AREA..AREA + 16].fill(0);
     memory[AREA..AREA + 4].copy_from_slice(&state.to_be_bytes());
+    if random.below(2) == 0 {
+        memory[AREA + 4..AREA + 12].copy_from_slice(&pick(random, &UNITS).to_be_bytes());
+    }
     spoil(random, &mut memory[AREA..], 16);
     memory
 }
 
 /// The readings of an area and what they write, on one side.
 fn readings(side: &Side, area: &[u8]) -> impl PartialEq {
-    let (mut words, mut numbers) = (vec![7; 1500], vec![7; 300]);
-    let nodes = (side.read_nodes)(area, &mut words);
+    let mut numbers = vec![7; 300];
+    let nodes = [1, 3, 4].map(|scope| {
+        let mut words = vec![7; 1500];
+        ((side.read_nodes)(area, scope, &mut words), words)
+    });
     let indices = (side.read_indices)(area, &mut numbers);
-    (nodes, indices, words, numbers)
+    (nodes, indices, numbers)
 }
 
 /// What a call answered: its token, number and status.

@@ -1,7 +1,7 @@
 //! ibm,update-nodes.
 
 use super::journal::{self, Row};
-use super::words::{be32, le16, le32, put_be32};
+use super::words::{be32, be64, le16, le32, le64, put_be32};
 use super::{MALFORMED, PARAMETER};
 use crate::interface::NODE_AREA;
 
@@ -24,16 +24,19 @@ pub fn update_nodes(inputs: &[u8], memory: &mut [u8], journal: &[u8]) -> Result<
         return Err(PARAMETER);
     }
     let area = memory.get_mut(address..address + NODE_AREA).ok_or(PARAMETER)?;
-    let row = journal::row(be32(inputs, 4)).ok_or(PARAMETER)?;
-    let counts = journal::counts(journal, row).ok_or(MALFORMED)?;
+    let scope = be32(inputs, 4);
+    let row = journal::row(scope).ok_or(PARAMETER)?;
+    let unit = be64(area, 4);
+    let counts = journal::counts(journal, row, unit).ok_or(MALFORMED)?;
     let length: usize = counts.iter().sum();
     let state = be32(area, 0) as usize;
-    if area[4..16].iter().any(|&byte| byte != 0) || state > 0 && state >= length {
+    let reserved_at = if scope == 3 { 12 } else { 4 };
+    if area[reserved_at..16].iter().any(|&byte| byte != 0) || state > 0 && state >= length {
         return Err(PARAMETER);
     }
     let run = longest_run(counts, state);
     let places = write_operators(area, &run);
-    write_operands(area, places, journal, row, run);
+    write_operands(area, places, journal, (row, unit), run);
     let reported = state + run.iter().map(|part| part.take).sum::<usize>();
     let remain = reported < length;
     put_be32(area, 0, if remain { reported as u32 } else { 0 });
@@ -74,16 +77,24 @@ fn write_operators(area: &mut [u8], run: &[Part; 3]) -> [usize; 3] {
     places
 }
 
-/// Walks a good journal from its first record on and writes the operands of the run.
-fn write_operands(area: &mut [u8], mut places: [usize; 3], journal: &[u8], row: &Row, mut run: [Part; 3]) {
+/// Walks a good journal from its first record on and writes the operands of the run: what the row reports, of kind 4 the
+/// records of the unit.
+fn write_operands(
+    area: &mut [u8],
+    mut places: [usize; 3],
+    journal: &[u8],
+    (row, unit): (&Row, u64),
+    mut run: [Part; 3],
+) {
     let mut left: usize = run.iter().map(|part| part.take).sum();
     let mut rest = journal;
     while left > 0 {
         let (record, behind) = rest.split_at(2 + usize::from(le16(rest, 0)));
         rest = behind;
-        let opcode = usize::from(le16(record, 2)) - 1;
+        let of_unit = le16(record, 2) == 4;
+        let (opcode, operands) = if of_unit { (1, 14) } else { (usize::from(le16(record, 2)) - 1, 6) };
         let part = &mut run[opcode];
-        if row[usize::from(le16(record, 4))] >> opcode & 1 == 0 {
+        if row[usize::from(le16(record, 4))] >> opcode & 1 == 0 || of_unit && le64(record, 6) != unit {
             continue;
         }
         if part.skip > 0 {
@@ -91,7 +102,7 @@ fn write_operands(area: &mut [u8], mut places: [usize; 3], journal: &[u8], row: 
         } else if part.take > 0 {
             part.take -= 1;
             left -= 1;
-            put_be32(area, places[opcode], le32(record, 6));
+            put_be32(area, places[opcode], le32(record, operands));
             if opcode == 2 {
                 put_be32(area, places[opcode] + 4, le32(record, 10));
             }

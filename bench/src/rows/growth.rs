@@ -1,8 +1,9 @@
 //! How a session of update-nodes grows with the journal.
 
+use crate::inputs::SCOPE_1;
 use crate::interface::{Side, SIDES};
 use crate::journal;
-use crate::partition::{Partition, SCOPE};
+use crate::partition::Partition;
 use crate::timing::{medians, Effort, Work};
 
 pub const SIZES: [usize; 4] = [64 << 10, 256 << 10, 512 << 10, 1 << 20];
@@ -24,12 +25,12 @@ pub fn growth(effort: Effort) -> Vec<Growth> {
 fn over(journal: &[u8], effort: Effort) -> Growth {
     let [plain, _, library] = &SIDES;
     let session = |side: &'static Side| -> Work {
-        let mut partition = Partition::of_journal(journal);
+        let mut partition = Partition::of_journal(journal, SCOPE_1);
         Box::new(move || partition.session(side))
     };
     let [rust, proved] = medians([session(plain), session(library)], effort);
-    let operations = (plain.scan_journal)(journal, SCOPE);
-    let calls = Partition::of_journal(journal).session(plain);
+    let operations = (plain.scan_journal)(journal, SCOPE_1);
+    let calls = Partition::of_journal(journal, SCOPE_1).session(plain);
     Growth { bytes: journal.len(), operations, calls, rust, proved }
 }
 

@@ -2,6 +2,7 @@
 
 use super::{Row, Subject};
 use crate::bare;
+use crate::inputs::SCOPE_1;
 use crate::partition::AREA_SIZE;
 use crate::timing::Effort;
 use std::hint::black_box;
@@ -15,7 +16,8 @@ pub fn nodes(over: &str, area: &[u8], effort: Effort) -> Row {
     let subject = Subject { what: "reading a node area", over, bytes: area, passes: 1, stepping };
     subject.measure(effort, |side| {
         let mut out = vec![0; NODES_ROOM];
-        Box::new(move || (side.read_nodes)(black_box(area), black_box(&mut out)).entries as u64)
+        let scope = SCOPE_1.scope;
+        Box::new(move || (side.read_nodes)(black_box(area), black_box(scope), black_box(&mut out)).entries as u64)
     })
 }
 

@@ -2,15 +2,14 @@
 
 use super::{Row, Subject};
 use crate::bare;
-use crate::interface::{Asked, Judged};
-use crate::partition::SCOPE;
+use crate::interface::{Asked, Judged, Wanted};
 use crate::timing::Effort;
 use std::hint::black_box;
 
-pub fn journal(over: &str, journal: &[u8], effort: Effort) -> Row {
+pub fn journal(over: &str, journal: &[u8], wanted: Wanted, effort: Effort) -> Row {
     let stepping = bare::stepping_records;
     let subject = Subject { what: "journal scan", over, bytes: journal, passes: 1, stepping };
-    subject.measure(effort, |side| Box::new(|| (side.scan_journal)(black_box(journal), black_box(SCOPE))))
+    subject.measure(effort, |side| Box::new(move || (side.scan_journal)(black_box(journal), black_box(wanted))))
 }
 
 pub fn inventory(over: &str, inventory: &[u8], asked: Asked, effort: Effort) -> Row {

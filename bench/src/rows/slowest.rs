@@ -28,8 +28,8 @@ pub struct Slowest {
 
 /// The slowest call over each journal and each inventory.
 pub fn slowest(inputs: &Inputs, effort: Effort) -> Vec<Slowest> {
-    let journals = inputs.journals.iter().map(|(name, journal)| {
-        let partition = Partition::of_journal(journal);
+    let journals = inputs.journals.iter().map(|(name, journal, wanted)| {
+        let partition = Partition::of_journal(journal, *wanted);
         of_session("update-nodes", name, journal.len(), partition, effort)
     });
     let inventories = inputs.inventories.iter().map(|(name, inventory, asked)| {
