@@ -1,7 +1,7 @@
 /*
  * One partition's calls from beginning to end: a session of update-nodes, another one for one unit, a session of
- * get-indices, and a kernel dump structure that is registered and unregistered. Exits with 1 where something is not as it
- * should be.
+ * get-indices, and a kernel dump structure that is registered and unregistered. Exits with 1 where something is not as
+ * it should be.
  */
 #include "draugsten.h"
 

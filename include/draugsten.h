@@ -126,18 +126,20 @@ struct draugsten_registration draugsten_no_registration(void);
  *            Never: any byte behind these, any byte outside the area, and any byte by a refused call or a dump command.
  * journal    The changes that update-nodes reports; no other call looks at them. Records, little-endian: length (2
  *            bytes, counts what follows), kind (2), node type (2), then for kind 1 (delete) and 2 (update) the phandle
- *            (4), for kind 3 (add) the parent's phandle (4) and the drc-index (4), for kind 4 (update of a unit's node)
- *            the unit address (8) and the phandle (4). Node types are 1 to 14, and 15 and 16 in kind 4 alone.
+ *            (4), for kind 3 (add) the parent's phandle (4) and the drc-index (4), for kind 4 (update in a unit) the
+ *            unit address (8) and the phandle (4). Node types are 1 to 14 in kinds 1 to 3, and 15 and 16 in kind 4.
  * inventory  What get-indices lists; no other call looks at it. Records, little-endian: length (2), kind 16 (2),
  *            0 indicator or 1 sensor (2), type (4), index (4), location code (1 to 79 bytes, none zero).
  * registration  As the partition's last call gave it. Only an answered configure-kernel-dump changes it.
  *
- * A session of update-nodes begins with sixteen zero bytes at the head of the area, in scope 3 with four zero bytes, the
- * unit address (8 bytes, big-endian) and four zero bytes. While the status is 1, the next call finds there the sixteen
- * bytes that the last answered one left: the new state, then twelve zero bytes, in scope 3 the same unit address and four
- * zero bytes, with status 0 as with 1. Scope 3 reports the records of that unit alone, and of a unit that no record names
- * it reports nothing: status 0. The other scopes pass over kind 4. A session of get-indices begins with Starting Number
- * 1; while the status is 1, the next call has the Next Starting Number.
+ * A session of update-nodes begins with sixteen zero bytes at the head of the area. In scope 3 it begins with four zero
+ * bytes, the unit address (8 bytes, big-endian) and four zero bytes, and only records of that unit are reported. An
+ * answered call leaves the new state there and twelve zero bytes; in scope 3, with status 0 as with 1, the new state, the
+ * same unit address and four zero bytes. While the status is 1, the next call finds the sixteen bytes that the last
+ * answered one left. A unit that no record names has nothing to report: status 0. All other scopes pass over kind 4.
+ *
+ * A session of get-indices begins with Starting Number 1; while the status is 1, the next call has the Next Starting
+ * Number.
  */
 struct draugsten_answer draugsten_call(uint8_t *args, size_t args_length, uint8_t *memory, size_t memory_length,
                                        const uint8_t *journal, size_t journal_length, const uint8_t *inventory,

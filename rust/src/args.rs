@@ -35,8 +35,8 @@ pub enum Command {
     Complete = 3,
 }
 
-/// The argument buffer of update-nodes. The work area is the 4,096 bytes of memory at `address`. In scope 3 its bytes 4 to
-/// 11 hold the unit address, big-endian.
+/// The argument buffer of update-nodes. The work area is the 4,096 bytes of memory at `address`. In scope 3 its bytes 4
+/// to 11 hold the unit address, big-endian.
 pub fn update_nodes(address: u32, scope: i32) -> [u8; 24] {
     buffer(1, &[address, scope as u32])
 }

@@ -77,8 +77,8 @@ fn write_operators(area: &mut [u8], run: &[Part; 3]) -> [usize; 3] {
     places
 }
 
-/// Walks a good journal from its first record on and writes the operands of the run: what the row reports, of kind 4 the
-/// records of the unit.
+/// Walks a good journal from its first record on and writes the operands of the run: what the row reports, of kind 4
+/// the records of the unit.
 fn write_operands(
     area: &mut [u8],
     mut places: [usize; 3],

@@ -28,8 +28,8 @@ fn refused_at<T>(number: u32, offset: usize) -> Result<T, Refused> {
 }
 
 /// "Node areas: 20 not 4,096 bytes (offset 0); 21 bytes 4 to 15 not zero (offset 4). Then operators from byte 16: word
-/// zero ends the list" and "27 the area ends without a terminator (offset 4096)". M-100: "in scope 3 only bytes 12 to 15
-/// are tested for zero, by writer and reader (21 at offset 12); the reader is told the scope".
+/// zero ends the list" and "27 the area ends without a terminator (offset 4096)". M-100: "in scope 3 only bytes 12 to
+/// 15 are tested for zero, by writer and reader (21 at offset 12); the reader is told the scope".
 pub fn read_nodes(area: &[u8], scope: u64) -> Result<Nodes, Refused> {
     if area.len() != 4096 {
         return refused_at(20, 0);

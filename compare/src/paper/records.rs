@@ -66,8 +66,8 @@ fn records(buffer: &[u8]) -> Result<Vec<Record<'_>>, Malformed> {
 }
 
 /// "kinds 1 (delete) and 2 (update) hold a two-byte node type and a phandle, length 8; kind 3 (add) holds node type,
-/// parent phandle and drc-index, length 12." M-100: "Journal kind 4 holds type, an eight-byte unit address and a phandle,
-/// length 16".
+/// parent phandle and drc-index, length 12." M-100: "Journal kind 4 holds type, an eight-byte unit address and a
+/// phandle, length 16".
 fn change(record: &Record) -> Result<Change, Malformed> {
     match (record.kind, record.length) {
         (1 | 2, 8) | (3, 12) | (4, 16) => {}

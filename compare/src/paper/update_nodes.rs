@@ -12,8 +12,8 @@ const AREA: u64 = 4096;
 pub const MOST_WORDS: u64 = 1019;
 
 /// The status of the call, or the rule that refuses it. "Checks in order: address a multiple of 4,096 and the area
-/// inside memory (-3); scope (-3); journal (-1); bytes 4 to 15 of the area zero (-3); state (-3)." M-100: "in scope 3 only
-/// bytes 12 to 15 are tested for zero".
+/// inside memory (-3); scope (-3); journal (-1); bytes 4 to 15 of the area zero (-3); state (-3)." M-100: "in scope 3
+/// only bytes 12 to 15 are tested for zero".
 pub fn update_nodes(memory: &mut [u8], journal: &[u8], address: u64, scope: u64) -> Result<u32, Refusal> {
     if !address.is_multiple_of(AREA) {
         return refused(-3, "address no multiple of 4,096");
@@ -82,8 +82,8 @@ pub fn longest_run(rest: &[Operation]) -> &[Operation] {
 }
 
 /// "The answer: new state (0 when nothing remains), twelve zero bytes, one operator and its operands for each opcode
-/// present, then 0x00000000." "Status 1 when operations remain, otherwise 0." M-100: "000 zeroes twelve bytes on return,
-/// yet a continuation must name its unit, so we return the address there".
+/// present, then 0x00000000." "Status 1 when operations remain, otherwise 0." M-100: "000 zeroes twelve bytes on
+/// return, yet a continuation must name its unit, so we return the address there".
 fn answer(area: &mut [u8], list: &[Operation], state: usize, unit: Option<u64>) -> u32 {
     let run = longest_run(&list[state..]);
     let handed_out = state + run.len();
