@@ -90,7 +90,7 @@ static void calling(void)
 
 static void reading_nodes(void)
 {
-    node_reading = read_nodes(memory + NODE_AREA, 4096, words, 64);
+    node_reading = read_nodes(memory + NODE_AREA, 4096, 1, words, 64);
 }
 
 static void reading_indices(void)
