@@ -239,7 +239,7 @@ good scope area x n told e = go (reading scope area) refl told
   where
     go : (y : Reading Operation Refusal) → reading scope area ≡ y → x ≡ checkOf y → Good scope area n
     go (read os) g h = let ahead = entries-in-order scope area os g in record { size = area-size scope area os g; is = rw ahead g; fine = good-words scope area os g; entries = rw ahead (cc) }
-    go (refused r at) g h = record { size = cc; is = cc; entries = cc }
+    go (refused r at) g h = record { size = cc; is = cc; fine = cc; entries = cc }
 
 -- taking more than all takes all
 take-min : (os : List Operation) (k : ℕ) → take (min (length os) k) os ≡ take k os
