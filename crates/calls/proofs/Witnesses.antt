@@ -45,6 +45,7 @@ nodes-witness =
       of-scope-1 =
           record {
             bytes = bytes-by additions refl;
+            fits = ltb-true 0 18446744073709551616 refl;
             formed = refl;
             scoped = refl;
             session = (
@@ -66,6 +67,7 @@ nodes-witness =
       of-unit-7 =
           record {
             bytes = bytes-by functions refl;
+            fits = ltb-true 7 18446744073709551616 refl;
             formed = refl;
             scoped = refl;
             session = (

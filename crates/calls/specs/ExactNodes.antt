@@ -26,7 +26,7 @@ pub record Asked (m : List ℕ) (address scope : ℕ) : Type 0 where
   pub inside : address + 4096 ≤ length m
   pub scoped : (2147483648 ≤ scope) ⊎ ((scope ≡ 1) ⊎ ((scope ≡ 2) ⊎ (scope ≡ 3)))
 
--- the bytes that are zero
+-- the reserved bytes are zero: 4 to 15, in scope 3 only 12 to 15
 pub record Clear (scope : ℕ) (area : List ℕ) : Type 0 where
   pub other : (scope ≡ 3 → ⊥) → zeros (slice 4 16 area) ≡ true
   pub unit : scope ≡ 3 → zeros (slice 12 16 area) ≡ true

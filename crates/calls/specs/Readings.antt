@@ -57,10 +57,11 @@ ofUnit j high low state status n next =
     (eqb (be32 (x .args) 20) status && (reads n (node-area.reading 3 (x .memory)) && eqb (be32 (x .memory) 0) next))
     && (eqb (be32 (x .memory) 4) high && eqb (be32 (x .memory) 8) low)
 
--- an update of the unit 7, one of a unit that differs in its highest byte alone, and one of the unit 7 again; and one of the unit 0
+-- an update of the unit 7, one of a unit that differs in its highest byte alone, and one of the unit 7 again
 abbrev pub twoUnits : List ℕ
 twoUnits = unit 16 4 15 ++ ((16 ∷ 0 ∷ 4 ∷ 0 ∷ 16 ∷ 0 ∷ 7 ∷ 0 ∷ 0 ∷ 0 ∷ 0 ∷ 0 ∷ 0 ∷ 1 ∷ 43 ∷ 0 ∷ 0 ∷ 0 ∷ []) ++ unit 16 4 16)
 
+-- an update of the unit 0
 abbrev pub unitZero : List ℕ
 unitZero = 16 ∷ 0 ∷ 4 ∷ 0 ∷ 15 ∷ 0 ∷ 0 ∷ 0 ∷ 0 ∷ 0 ∷ 0 ∷ 0 ∷ 0 ∷ 0 ∷ 44 ∷ 0 ∷ 0 ∷ 0 ∷ []
 
@@ -149,6 +150,12 @@ nodesBytes =
     callOf (found (0 ∷ 0 ∷ 0 ∷ 1 ∷ 0 ∷ 0 ∷ 0 ∷ 2 ∷ 0 ∷ 0 ∷ 0 ∷ 1 ∷ 0 ∷ 0 ∷ 0 ∷ 0 ∷ 0 ∷ 0 ∷ 0 ∷ 1 ∷ 9 ∷ 9 ∷ 9 ∷ 9 ∷ []) (replicate 16 0 ++ replicate 4080 7)
     ((8 ∷ 0 ∷ 1 ∷ 0 ∷ 11 ∷ 0 ∷ 8 ∷ 7 ∷ 6 ∷ 5 ∷ []) ++ ((12 ∷ 0 ∷ 3 ∷ 0 ∷ 10 ∷ 0 ∷ 4 ∷ 3 ∷ 2 ∷ 1 ∷ 12 ∷ 11 ∷ 10 ∷ 9 ∷ []) ++ (8 ∷ 0 ∷ 1 ∷ 0 ∷ 10 ∷ 0 ∷ 2 ∷ 0 ∷ 0 ∷ 0 ∷ []))) [] none)
 
+-- update-nodes of scope 3: an update of a unit, one of a unit that differs in one byte, and one of the first unit with a lower phandle
+abbrev pub unitBytes : Left
+unitBytes =
+    callOf (found (0 ∷ 0 ∷ 0 ∷ 1 ∷ 0 ∷ 0 ∷ 0 ∷ 2 ∷ 0 ∷ 0 ∷ 0 ∷ 1 ∷ 0 ∷ 0 ∷ 0 ∷ 0 ∷ 0 ∷ 0 ∷ 0 ∷ 3 ∷ 9 ∷ 9 ∷ 9 ∷ 9 ∷ []) ((0 ∷ 0 ∷ 0 ∷ 0 ∷ 8 ∷ 7 ∷ 6 ∷ 5 ∷ 4 ∷ 3 ∷ 2 ∷ 1 ∷ 0 ∷ 0 ∷ 0 ∷ 0 ∷ []) ++ replicate 4080 7)
+    ((16 ∷ 0 ∷ 4 ∷ 0 ∷ 15 ∷ 0 ∷ 1 ∷ 2 ∷ 3 ∷ 4 ∷ 5 ∷ 6 ∷ 7 ∷ 8 ∷ 12 ∷ 11 ∷ 10 ∷ 9 ∷ []) ++ ((16 ∷ 0 ∷ 4 ∷ 0 ∷ 16 ∷ 0 ∷ 1 ∷ 2 ∷ 3 ∷ 5 ∷ 5 ∷ 6 ∷ 7 ∷ 8 ∷ 1 ∷ 0 ∷ 0 ∷ 0 ∷ []) ++ (16 ∷ 0 ∷ 4 ∷ 0 ∷ 16 ∷ 0 ∷ 1 ∷ 2 ∷ 3 ∷ 4 ∷ 5 ∷ 6 ∷ 7 ∷ 8 ∷ 2 ∷ 0 ∷ 0 ∷ 0 ∷ []))) [] none)
+
 -- get-indices of sensors of type 0x01020304 among others, in an area at address 8
 abbrev pub indicesBytes : Left
 indicesBytes =
@@ -200,6 +207,8 @@ cases =
     -- Our own, in bytes
     ∷ same (drop 20 (nodesBytes .args)) (0 ∷ 0 ∷ 0 ∷ 0 ∷ [])
     ∷ same (take 45 (nodesBytes .memory)) (replicate 16 0 ++ (1 ∷ 0 ∷ 0 ∷ 2 ∷ 5 ∷ 6 ∷ 7 ∷ 8 ∷ 0 ∷ 0 ∷ 0 ∷ 2 ∷ 3 ∷ 0 ∷ 0 ∷ 2 ∷ 1 ∷ 2 ∷ 3 ∷ 4 ∷ 9 ∷ 10 ∷ 11 ∷ 12 ∷ 0 ∷ 0 ∷ 0 ∷ 0 ∷ 7 ∷ []))
+    ∷ same (drop 20 (unitBytes .args)) (0 ∷ 0 ∷ 0 ∷ 0 ∷ [])
+    ∷ same (take 33 (unitBytes .memory)) (0 ∷ 0 ∷ 0 ∷ 0 ∷ 8 ∷ 7 ∷ 6 ∷ 5 ∷ 4 ∷ 3 ∷ 2 ∷ 1 ∷ 0 ∷ 0 ∷ 0 ∷ 0 ∷ 2 ∷ 0 ∷ 0 ∷ 2 ∷ 9 ∷ 10 ∷ 11 ∷ 12 ∷ 0 ∷ 0 ∷ 0 ∷ 2 ∷ 0 ∷ 0 ∷ 0 ∷ 0 ∷ 7 ∷ [])
     ∷ same (drop 32 (indicesBytes .args)) (0 ∷ 0 ∷ 0 ∷ 0 ∷ 0 ∷ 0 ∷ 0 ∷ 1 ∷ [])
     ∷ same (take 41 (indicesBytes .memory)) (replicate 8 7 ++ (0 ∷ 0 ∷ 0 ∷ 2 ∷ 5 ∷ 6 ∷ 7 ∷ 8 ∷ 0 ∷ 0 ∷ 0 ∷ 4 ∷ 85 ∷ 55 ∷ 56 ∷ 0 ∷ 0 ∷ 0 ∷ 0 ∷ 3 ∷ 0 ∷ 0 ∷ 0 ∷ 8 ∷ 65 ∷ 66 ∷ 67 ∷ 68 ∷ 0 ∷ 0 ∷ 0 ∷ 0 ∷ 7 ∷ []))
     ∷ same (drop 24 (dumpBytes .args)) (0 ∷ 0 ∷ 0 ∷ 0 ∷ [])

@@ -51,6 +51,7 @@ abbrev pub asksFor : ℕ → List ℕ → Selection
 asksFor scope area = selectionOf scope (unitIn area)
 
 -- 01: "Checks in order: address .. (-3); scope (-3); journal (-1); bytes 4 to 15 of the area zero (-3); state (-3)."
+-- 02, M-100: "in scope 3 only bytes 12 to 15 are tested for zero"
 unfoldable pub nodesStatus : List ℕ → ℕ → ℕ → List ℕ → Status
 nodesStatus m address scope j =
     cond (placed m address)

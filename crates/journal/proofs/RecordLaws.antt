@@ -7,7 +7,7 @@ use native.Mathlib.Nat.{add-assoc}
 use native.Mathlib.Omega.{arith}
 use lib.Dec.{leb, eqb}
 use lib.ListN.{length, getD, drop}
-use borrow.Author.Tests.{le-leb, lt-leb, ne-eqb, leb-true, leb-false, eqb-true, eqb-false}
+use borrow.Author.Tests.{le-leb, lt-leb, eq-eqb, ne-eqb, leb-true, leb-false, eqb-true, eqb-false}
 use Rattle.words.specs.Numbers.{Bytes, le}
 use Rattle.words.proofs.Numbers.{le-split, le-below}
 use Rattle.records.specs.Records.{lengthOf, kindOf, sizeOf, firstRecord, whole}
@@ -24,7 +24,7 @@ use Rattle.journal.specs.Scope.{holds, asking, Selection}
 use Rattle.journal.specs.Reportable.{asks, reports}
 use Rattle.journal.specs.Marks.{countLimit, count}
 use Rattle.journal.specs.Scanning.{IsKind, opcodeFor, lengthFor, goodAt, goodHere, shapeAt, verdictAt, largestWeight, weightOf, isUnit, asked, Weighed, Known, AllAsked}
-use Rattle.words.proofs.Choice.{choose, and-left, and-right}
+use Rattle.words.proofs.Choice.{choose, decide, and-left, and-right}
 use Rattle.journal.proofs.Opcodes.{each-code, kind-1, kind-2, kind-3, kind-4, each-kind, kind-opcode}
 
 -- ---- length and kind
@@ -36,11 +36,8 @@ frame-is len = each-kind (λ (k : ℕ). ((eqb k 1 && eqb len 8) || ((eqb k 2 && 
     (or-false (eqb len 8)) (or-false (eqb len 8)) (or-false (eqb len 12)) refl
 
 -- and the code's arithmetic of it
-pub length-one : (kind : ℕ) → IsKind kind → kind < 2 → 8 ≡ lengthFor kind
-length-one = each-kind (λ (k : ℕ). k < 2 → 8 ≡ lengthFor k) (λ h. refl) (λ h. refl) (λ h. absurd (omega arith)) (λ h. absurd (omega arith))
-
-pub length-more : (kind : ℕ) → IsKind kind → 2 ≤ kind → 4 * kind ≡ lengthFor kind
-length-more = each-kind (λ (k : ℕ). 2 ≤ k → 4 * k ≡ lengthFor k) (λ h. absurd (omega arith)) (λ h. refl) (λ h. refl) (λ h. refl)
+pub length-plain : (kind : ℕ) → IsOpcode kind → 8 + (kind + 1) / 4 * 4 ≡ lengthFor kind
+length-plain = each-code (λ (k : ℕ). 8 + (k + 1) / 4 * 4 ≡ lengthFor k) refl refl refl
 
 pub frame-none : (len kind : ℕ) → (IsKind kind → ⊥) → goodFrame len kind ≡ false
 unfolding goodFrame
@@ -101,14 +98,23 @@ typed kind node = go (eqb kind 4) refl
 -- ---- the test of a record in code
 
 module _ (left len kind node : ℕ) where
-  pub bad-frame : goodFrame len kind ≡ false → false ≡ goodAt left len kind node
-  bad-frame e = sym (simp (e, and-false))
+  -- without a unit
+  pub plain-cut : left < len + 2 → false ≡ (leb kind 3 && goodAt left len kind node)
+  plain-cut h = sym (simp (lt-leb (len + 2) left h, and-false))
 
-  pub cut-off : left < len + 2 → false ≡ goodAt left len kind node
-  cut-off h = rw (lt-leb (len + 2) left h)
+  pub plain-none : (leb kind 3 && goodFrame len kind) ≡ false → false ≡ (leb kind 3 && goodAt left len kind node)
+  plain-none = go (leb kind 3) (goodFrame len kind)
+    where
+      go : (a b : Bool) → (a && b) ≡ false → false ≡ (a && (leb (len + 2) left && (b && goodType kind node)))
+      go false b e = refl
+      go true false e = sym (and-false (leb (len + 2) left))
+      go true true e = let z : _≡_ {A = ℕ} 0 1 = cc in absurd (omega arith)
 
-  pub type-only : len + 2 ≤ left → goodFrame len kind ≡ true → goodType kind node ≡ goodAt left len kind node
-  type-only h e = rw (le-leb (len + 2) left h, e)
+  pub plain-type : len + 2 ≤ left → (leb kind 3 && goodFrame len kind) ≡ true → within 1 14 node ≡ (leb kind 3 && goodAt left len kind node)
+  plain-type h e =
+      let three = and-left (leb kind 3) (goodFrame len kind) e in
+      let other = ne-eqb kind 4 (λ q. omega (arith, leb-true kind 3 three)) in
+      rw (le-leb (len + 2) left h, and-right (leb kind 3) (goodFrame len kind) e, three, other)
 
   -- what a good record tells
   pub room : goodAt left len kind node ≡ true → len + 2 ≤ left
@@ -122,6 +128,34 @@ module _ (left len kind node : ℕ) where
 
   pub type-good : goodAt left len kind node ≡ true → Typed kind node
   type-good e = typed kind node (and-right (goodFrame len kind) _ (and-right (leb (len + 2) left) _ e))
+
+-- with a unit, and one or the other
+module _ (left len kind node : ℕ) where
+  unit-frame : (eqb kind 4 && goodAt left len kind node) ≡ true → len ≡ 16
+  unit-frame e =
+      let four = eqb-true kind 4 (and-left (eqb kind 4) _ e) in
+      frame left len kind node (and-right (eqb kind 4) _ e) .length-is ∙ ap lengthFor four
+
+  pub unit-length : (len ≡ 16 → ⊥) → false ≡ (eqb kind 4 && goodAt left len kind node)
+  unit-length n = decide (eqb kind 4 && goodAt left len kind node) (λ e. absurd (n (unit-frame e))) (λ e. sym e)
+
+  pub unit-cut : left < 18 → false ≡ (eqb kind 4 && goodAt left len kind node)
+  unit-cut h = decide (eqb kind 4 && goodAt left len kind node)
+      (λ e. absurd (omega (arith, unit-frame e, room left len kind node (and-right (eqb kind 4) _ e)))) (λ e. sym e)
+
+  pub unit-type : kind ≡ 4 → len ≡ 16 → 18 ≤ left → within 15 16 node ≡ (eqb kind 4 && goodAt left len kind node)
+  unfolding goodFrame
+  unit-type p q h = rw (p, q, le-leb 18 left h)
+
+  pub plain-good : (leb kind 3 && goodAt left len kind node) ≡ true → true ≡ goodAt left len kind node
+  plain-good e = sym (and-right (leb kind 3) _ e)
+
+  pub unit-good : (leb kind 3 && goodAt left len kind node) ≡ false → (eqb kind 4 && goodAt left len kind node) ≡ goodAt left len kind node
+  unit-good e = decide (goodAt left len kind node)
+      (λ g. let high = frame left len kind node g .of .high in
+      let low = leb-false kind 3 (sym (and-true (leb kind 3)) ∙ ap (λ (t : Bool). leb kind 3 && t) (sym g) ∙ e) in
+      rw (eq-eqb kind 4 (omega arith)))
+      (λ g. rw g (and-false (eqb kind 4)))
 
 -- the same record is good wherever it fits
 pub good-again : (left left′ len kind node : ℕ) → goodAt left len kind node ≡ true → len + 2 ≤ left′ → goodAt left′ len kind node ≡ true

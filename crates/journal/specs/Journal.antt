@@ -59,7 +59,7 @@ operationOf r =
     (cond (eqb (kindOf r) 3) (Add (le32 r 6) (le32 r 10))
     (Update (le32 r 14))))
 
--- the unit address of a record of kind 4; the others have none
+-- the unit address of a record of kind 4; 0 for the others, where nothing looks at it
 unfoldable pub unitOf : List ℕ → ℕ
 unitOf r = cond (eqb (kindOf r) 4) (le 8 r 6) 0
 

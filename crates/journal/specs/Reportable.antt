@@ -17,7 +17,7 @@ use Rattle.journal.specs.Scope.{holds, Selection}
 abbrev pub operation : Entry → Operation
 operation e = e .operation
 
--- 02, M-100: ".. and reports only that unit's records": of nodes that have a unit, those of types 15 and 16
+-- 02, M-100: ".. and reports only that unit's records". Types 1 to 14 have no unit; a row that reports them reports them whatever unit is asked for.
 abbrev pub asks : Units → Entry → Bool
 asks All e = true
 asks (One unit) e = leb (e .node) 14 || eqb (e .unit) unit

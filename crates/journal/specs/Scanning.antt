@@ -109,7 +109,7 @@ pub record Known (selection : Selection) (j : List ℕ) (s : Same) : Type 0 wher
   pub narrow : s .weight ≤ largestWeight
   pub here : (at : ℕ) → at + s .size ≤ length j → le 6 j at ≡ s .header → Weighed selection j at (s .size) (asked (selection .units) j at (s .weight))
 
--- a record of this header is one of kind 4, or none of them has a unit that is not asked for
+-- every record of this header is asked for
 abbrev pub AllAsked : Selection → List ℕ → Same → Type 0
 AllAsked selection j s = (at : ℕ) → at + s .size ≤ length j → le 6 j at ≡ s .header → asks (selection .units) (entryOf (firstRecord (drop at j))) ≡ true
 

@@ -7,7 +7,8 @@ ghost use lib.ListN.{getD};
 ghost use Rattle.journal.specs.Scope.{rows, unitsOf, scopeRow};
 ghost use Rattle.journal.specs.Claims.{ScopeRows};
 
-// One row for each scope that has one, by node type from 0 to 16, of which there are 1 to 16: negative scopes, scopes 1, 2 and 3.
+// One row for each scope that has one: negative scopes, scopes 1, 2 and 3. A row has an entry for each number from 0 to 16; node types are
+// 1 to 16.
 // An entry is the set of opcodes that the scope reports of the type: 1 delete, 2 update, 4 add, added up.
 const ROWS: [[u8; 17]; 4] = [
     [0, 0, 0, 0, 0, 2, 0, 0, 2, 2, 7, 7, 7, 7, 7, 0, 0],

@@ -20,12 +20,13 @@ headSize = 16
 abbrev pub headOf : List ℕ → List ℕ
 headOf area = take headSize area
 
--- 01: "new state (0 when nothing remains), twelve zero bytes"; 02, M-100: "In scope 3 the first call carries state 0, unit address
--- (eight bytes, big-endian) and four zero bytes", "a continuation must name its unit, so we return the address there".
+-- the address that stands behind the state: 0 where all units are asked for
 abbrev pub addressOf : Units → ℕ
 addressOf All = 0
 addressOf (One unit) = unit
 
+-- 01: "new state (0 when nothing remains), twelve zero bytes"; 02, M-100: "In scope 3 the first call carries state 0, unit address
+-- (eight bytes, big-endian) and four zero bytes", "a continuation must name its unit, so we return the address there".
 abbrev pub headWords : Units → ℕ → List ℕ
 headWords units state = state ∷ (addressOf units / 4294967296) ∷ (addressOf units % 4294967296) ∷ 0 ∷ []
 
@@ -36,7 +37,7 @@ carriedHead units state = wordBytes (headWords units state)
 abbrev pub stateIn : List ℕ → ℕ
 stateIn area = be32 area 0
 
--- the unit address
+-- the unit address, in scope 3
 abbrev pub unitIn : List ℕ → ℕ
 unitIn area = be64 area 4
 

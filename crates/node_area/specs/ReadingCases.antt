@@ -49,7 +49,9 @@ readingCases =
     ∷ marked-in 3 15 (refusal 21 12)
     ∷ marked-in 0 11 (refusal 21 4)
     ∷ marked-in 4 11 (refusal 21 4)
-    ∷ marked-in 2147483648 11 (refusal 21 4)
+    ∷ marked-in 2 11 (refusal 21 4)
+    ∷ marked-in 2147483651 11 (refusal 21 4)
+    ∷ marked-in 4294967295 11 (refusal 21 4)
     -- "word zero ends the list"
     ∷ area (0 ∷ []) (entries 0)
     ∷ area (16777217 ∷ 0 ∷ 33554433 ∷ 8 ∷ 50331650 ∷ 9 ∷ 9 ∷ 0 ∷ []) (entries 3)

@@ -47,7 +47,7 @@ impl StateVariable {
         self.0 == 0 || self.has_more(all)
     }
 
-    // How many deletes, updates and additions lie behind the state: where each opcode's operations go on.
+    // From which operation on each opcode continues; past its end where all were reported.
     pub fn passed(self, all: Counts) -> Counts
         ensures { λ r. ⌜ r ≡ passedOf all (self .0) ⌝ }
     {

@@ -32,7 +32,7 @@ unfoldable pub body : List Operation → List ℕ
 body os = part 1 (operandsOf 1 os) ++ (part 2 (operandsOf 2 os) ++ part 3 (operandsOf 3 os))
 
 -- 01: "The answer: new state (0 when nothing remains), twelve zero bytes, one operator and its operands for each opcode present, then 0x00000000."
--- For all units, or with the address of one (02, M-100).
+-- 02, M-100: for one unit its address stands in the first eight of the twelve bytes.
 unfoldable pub answer : Units → List Operation → ℕ → List ℕ
 answer units os state = headWords units (nextState os state) ++ (body (run os state) ++ (0 ∷ []))
 

@@ -53,7 +53,7 @@ struct Part {
 
 // The operands of the operations of a part, from a record's place on, stored behind its operator. A record that is passed over is
 // stored too, and the next one that counts in its place, so that no branch depends on a record.
-fn write_operands(area: &mut [u8], j: &[u8], row: &[u8; 17], units: Units, part: Part, from: usize)
+fn write_each(area: &mut [u8], j: &[u8], row: &[u8; 17], units: Units, part: Part, from: usize)
     requires { ⌜ Due (asking (now row) units) (now j) (part .code) from (part .count) × (part .to + 4 + 4 * (width (part .code) * part .count) ≤ length (now area)) ⌝ }
     ensures { λ _. ⌜ now (area .exit) ≡ sets (now (area .entry)) (part .to + 4) (wordBytes (dueWords (asking (now (row .entry)) units) (now (j .entry)) (part .code) from (part .count))) ⌝ }
 {
@@ -68,6 +68,17 @@ fn write_operands(area: &mut [u8], j: &[u8], row: &[u8; 17], units: Units, part:
         store_operands(area, to, j, at, code);
         to += step * p.reported;
         due -= p.reported;
+    }
+}
+
+// The same, with the two ways to ask for units apart: a loop that asks for all of them reads no unit.
+fn write_operands(area: &mut [u8], j: &[u8], row: &[u8; 17], units: Units, part: Part, from: usize)
+    requires { ⌜ Due (asking (now row) units) (now j) (part .code) from (part .count) × (part .to + 4 + 4 * (width (part .code) * part .count) ≤ length (now area)) ⌝ }
+    ensures { λ _. ⌜ now (area .exit) ≡ sets (now (area .entry)) (part .to + 4) (wordBytes (dueWords (asking (now (row .entry)) units) (now (j .entry)) (part .code) from (part .count))) ⌝ }
+{
+    match units {
+        Units::All => write_each(area, j, row, Units::All, part, from),
+        Units::One(unit) => write_each(area, j, row, Units::One(unit), part, from),
     }
 }
 
