@@ -23,7 +23,7 @@ use Rattle.journal.specs.Journal.{within, largestType, goodFrame, goodTy
 use Rattle.journal.specs.Scope.{holds, asking, Selection}
 use Rattle.journal.specs.Reportable.{asks, reports}
 use Rattle.journal.specs.Marks.{countLimit, count}
-use Rattle.journal.specs.Scanning.{IsKind, opcodeFor, lengthFor, goodAt, goodHere, shapeAt, verdictAt, largestWeight, weightOf, isUnit, asked, Weighed, Known, AllAsked}
+use Rattle.journal.specs.Scanning.{IsKind, opcodeFor, lengthFor, goodAt, goodHere, shapeAt, plainAt, unitAt, verdictAt, largestWeight, weightOf, isUnit, asked, Weighed, Known, AllAsked}
 use Rattle.words.proofs.Choice.{choose, decide, and-left, and-right}
 use Rattle.journal.proofs.Opcodes.{each-code, kind-1, kind-2, kind-3, kind-4, each-kind, kind-opcode}
 
@@ -147,9 +147,6 @@ module _ (left len kind node : ℕ) where
   unfolding goodFrame
   unit-type p q h = rw (p, q, le-leb 18 left h)
 
-  pub plain-good : (leb kind 3 && goodAt left len kind node) ≡ true → true ≡ goodAt left len kind node
-  plain-good e = sym (and-right (leb kind 3) _ e)
-
   pub unit-good : (leb kind 3 && goodAt left len kind node) ≡ false → (eqb kind 4 && goodAt left len kind node) ≡ goodAt left len kind node
   unit-good e = decide (goodAt left len kind node)
       (λ g. let high = frame left len kind node g .of .high in
@@ -210,12 +207,34 @@ module _ (j : List ℕ) (at : ℕ) where
       go true e = absurd (omega (arith, room left len kind node e, frame left len kind node e))
       go false e = refl
 
-  -- what the code gives
-  pub verdict-bad : goodHere j at ≡ false → Bad ≡ verdictAt j at
-  verdict-bad e = rw e
+  pub test-read : (f : ℕ → Bool) (l k n : ℕ) → l ≡ len → k ≡ kind → n ≡ node → (f kind && goodHere j at) ≡ (f k && goodAt left l k n)
+  test-read f l k n p q r = ap (λ (x : ℕ). f x && goodHere j at) (sym q) ∙ ap (λ (t : Bool). f k && t) (good-read l k n p q r)
 
-  pub verdict-good : (s : Shape) → s ≡ shapeAt j at → goodHere j at ≡ true → Good s ≡ verdictAt j at
-  verdict-good s q e = rw (e, q)
+  -- what the code gives, by a further test
+  pub test-short : (t : Bool) → left < 10 → Bad ≡ cond (t && goodHere j at) (Good (shapeAt j at)) Bad
+  test-short t h = rw (short-bad h, and-false t)
+
+  pub test-bad : (t : Bool) → (t && goodHere j at) ≡ false → Bad ≡ cond (t && goodHere j at) (Good (shapeAt j at)) Bad
+  test-bad t e = rw e
+
+  pub test-good : (t : Bool) (s : Shape) → s ≡ shapeAt j at → (t && goodHere j at) ≡ true → Good s ≡ cond (t && goodHere j at) (Good (shapeAt j at)) Bad
+  test-good t s q e = rw (e, q)
+
+  -- where there is no record without a unit, one with a unit or none is there
+  pub verdict-unit : (v : Verdict) → v ≡ Bad → v ≡ plainAt j at → unitAt j at ≡ verdictAt j at
+  verdict-unit v e q = go (leb kind 3 && goodHere j at) refl (sym e ∙ q)
+    where
+      go : (t : Bool) → (leb kind 3 && goodHere j at) ≡ t → Bad ≡ cond t (Good (shapeAt j at)) Bad → unitAt j at ≡ verdictAt j at
+      go true g p = let z : _≡_ {A = ℕ} 0 1 = cc in absurd (omega arith)
+      go false g p = ap (λ (t : Bool). cond t (Good (shapeAt j at)) Bad)
+          (ap (λ (t : Bool). eqb kind 4 && t) good-here ∙ unit-good left len kind node (ap (λ (t : Bool). leb kind 3 && t) (sym good-here) ∙ g) ∙ sym good-here)
+
+  pub verdict-plain : (v : Verdict) (s : Shape) → v ≡ Good s → v ≡ plainAt j at → (leb kind 3 ≡ true) × (goodHere j at ≡ true) × (s ≡ shapeAt j at)
+  verdict-plain v s e q = go (leb kind 3 && goodHere j at) refl (sym e ∙ q)
+    where
+      go : (t : Bool) → (leb kind 3 && goodHere j at) ≡ t → Good s ≡ cond t (Good (shapeAt j at)) Bad → (leb kind 3 ≡ true) × (goodHere j at ≡ true) × (s ≡ shapeAt j at)
+      go true g p = (and-left (leb kind 3) _ g, and-right (leb kind 3) _ g, cc)
+      go false g p = let z : _≡_ {A = ℕ} 0 1 = cc in absurd (omega arith)
 
   -- and what was given
   pub given-bad : (v : Verdict) → v ≡ Bad → v ≡ verdictAt j at → goodHere j at ≡ false

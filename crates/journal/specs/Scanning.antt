@@ -49,6 +49,13 @@ goodHere j at = whole (firstRecord (drop at j)) && goodRecord (firstRecord (drop
 abbrev pub shapeAt : List ℕ → ℕ → Shape
 shapeAt j at = record { size = sizeOf (drop at j); kind = kindOf (drop at j); node = le16 j (at + 4) }
 
+-- the same of a record without a unit, and of one with a unit
+abbrev pub plainAt : List ℕ → ℕ → Verdict
+plainAt j at = cond (leb (kindOf (drop at j)) 3 && goodHere j at) (Good (shapeAt j at)) Bad
+
+abbrev pub unitAt : List ℕ → ℕ → Verdict
+unitAt j at = cond (eqb (kindOf (drop at j)) 4 && goodHere j at) (Good (shapeAt j at)) Bad
+
 abbrev pub verdictAt : List ℕ → ℕ → Verdict
 verdictAt j at = cond (goodHere j at) (Good (shapeAt j at)) Bad
 

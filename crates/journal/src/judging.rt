@@ -6,7 +6,7 @@ ghost use lib.Dec.{leb, eqb};
 ghost use lib.ListN.{length};
 ghost use Rattle.words.specs.Numbers.{le16};
 ghost use Rattle.journal.specs.Journal.{goodFrame, IsOpcode};
-ghost use Rattle.journal.specs.Scanning.{lengthFor, goodAt, verdictAt};
+ghost use Rattle.journal.specs.Scanning.{lengthFor, goodAt, plainAt, unitAt, verdictAt};
 use records::Frame;
 
 // What a record tells of itself before its operands.
@@ -83,20 +83,10 @@ fn is_unit(left: usize, frame: Frame, node: u16) -> bool
     15 <= node && node <= 16
 }
 
-// Whether it is good: most records have no unit.
-fn is_good(left: usize, frame: Frame, node: u16) -> bool
-    ensures { λ r. ⌜ r ≡ goodAt left (frame .length) (frame .kind) node ⌝ }
-{
-    if is_plain(left, frame, node) {
-        return true;
-    }
-    is_unit(left, frame, node)
-}
-
-// The record at a place.
-pub fn judge(j: &[u8], at: usize) -> Verdict
+// The record at a place where it has no unit.
+pub fn judge_plain(j: &[u8], at: usize) -> Verdict
     requires { ⌜ at ≤ length (now j) ⌝ }
-    ensures { λ r. ⌜ r ≡ verdictAt (now (j .entry)) at ⌝ }
+    ensures { λ r. ⌜ r ≡ plainAt (now (j .entry)) at ⌝ }
 {
     let left = j.len() - at;
     if left < 10 {
@@ -104,7 +94,7 @@ pub fn judge(j: &[u8], at: usize) -> Verdict
     }
     let frame = records::read_frame(j, at);
     let node = read_type(j, at);
-    if !is_good(left, frame, node) {
+    if !is_plain(left, frame, node) {
         return Verdict::Bad;
     }
     Verdict::Good(Shape {
@@ -112,4 +102,37 @@ pub fn judge(j: &[u8], at: usize) -> Verdict
         kind: frame.kind as usize,
         node: node as usize,
     })
+}
+
+// The record at a place where it has a unit.
+fn judge_unit(j: &[u8], at: usize) -> Verdict
+    requires { ⌜ at ≤ length (now j) ⌝ }
+    ensures { λ r. ⌜ r ≡ unitAt (now (j .entry)) at ⌝ }
+{
+    let left = j.len() - at;
+    if left < 10 {
+        return Verdict::Bad;
+    }
+    let frame = records::read_frame(j, at);
+    let node = read_type(j, at);
+    if !is_unit(left, frame, node) {
+        return Verdict::Bad;
+    }
+    Verdict::Good(Shape {
+        size: records::record_size(frame),
+        kind: frame.kind as usize,
+        node: node as usize,
+    })
+}
+
+// The record at a place.
+pub fn judge(j: &[u8], at: usize) -> Verdict
+    requires { ⌜ at ≤ length (now j) ⌝ }
+    ensures { λ r. ⌜ r ≡ verdictAt (now (j .entry)) at ⌝ }
+{
+    let plain = judge_plain(j, at);
+    match plain {
+        Verdict::Good(shape) => Verdict::Good(shape),
+        Verdict::Bad => judge_unit(j, at),
+    }
 }

@@ -12,6 +12,7 @@ ghost use Rattle.journal.specs.Scanning.{goodHere, shapeAt, weightOf, as
 use crate::judging::Shape;
 use crate::judging::Verdict;
 use crate::judging::judge;
+use crate::judging::judge_plain;
 use crate::marks::MARK_SPAN;
 use crate::scope::Units;
 use crate::units::asked_weight;
@@ -147,7 +148,8 @@ fn past_header(
     }
 }
 
-// Past records one at a time, up to an end: the step is the record's own length, and one sum counts all three opcodes.
+// Past records without a unit one at a time, up to an end or another record: the step is the record's own length, and one sum counts all
+// three opcodes.
 fn past_each(
     j: &[u8],
     row: &[u8; 17],
@@ -155,25 +157,25 @@ fn past_each(
     weights: &[u64; 160],
     from: Position,
     end: usize,
-) -> Step
+) -> Position
     requires { ⌜ Reached (asking (now row) units) (now j) from × Weights (now row) (now weights) × (end ≤ length (now j)) × (length (now j) ≤ sizeLimit) ⌝ }
-    ensures { λ r. ⌜ Advanced (asking (now (row .entry)) units) (now (j .entry)) end r ⌝ }
+    ensures { λ r. ⌜ Reached (asking (now (row .entry)) units) (now (j .entry)) r × (from .at ≤ r .at) ⌝ }
 {
     let mut at = from.at;
     let mut counts = from.counts;
     while at < end {
-        let verdict = judge(j, at);
+        let verdict = judge_plain(j, at);
         match verdict {
             Verdict::Bad => {
-                return Step::Bad;
+                return Position { at, counts };
             }
             Verdict::Good(shape) => {
-                counts += weigh(j, at, units, weights, shape);
                 at += shape.size;
+                counts += weight_of(weights, shape);
             }
         }
     }
-    Step::Upto(Position { at, counts })
+    Position { at, counts }
 }
 
 // A place after `at`, at most `by` bytes on and not past the end.
@@ -187,7 +189,7 @@ fn clamped_end(at: usize, by: usize, end: usize) -> usize
     at + by
 }
 
-// Past a record and more: those of the same header behind it, then others one at a time.
+// Past a record and more: those of the same header behind it, then others without a unit one at a time.
 pub fn stride(j: &[u8], row: &[u8; 17], units: Units, weights: &[u64; 160], from: Position) -> Step
     requires { ⌜ Reached (asking (now row) units) (now j) from × Weights (now row) (now weights) × (from .at < length (now j)) × (length (now j) ≤ sizeLimit) ⌝ }
     ensures { λ r. ⌜ Advanced (asking (now (row .entry)) units) (now (j .entry)) (from .at + 1) r ⌝ }
@@ -203,8 +205,13 @@ pub fn stride(j: &[u8], row: &[u8; 17], units: Units, weights: &[u64; 160], from
                 weight: weight_of(weights, shape),
             };
             let limit = clamped_end(at, MARK_SPAN, j.len());
-            let past = past_header(j, row, units, from, same, limit);
-            past_each(j, row, units, weights, past, clamped_end(at, 4096, j.len()))
+            let first = Position {
+                at: at + shape.size,
+                counts: from.counts + weigh(j, at, units, weights, shape),
+            };
+            let past = past_header(j, row, units, first, same, limit);
+            let end = clamped_end(at, 4096, j.len());
+            Step::Upto(past_each(j, row, units, weights, past, end))
         }
     }
 }
