@@ -63,7 +63,9 @@ fn header_at(j: &[u8], at: usize) -> u64
     requires { ⌜ at + 8 ≤ length (now j) ⌝ }
     ensures { λ r. ⌜ r ≡ le 6 (now (j .entry)) at ⌝ }
 {
-    words::read_le64(j, at) % 281474976710656
+    let low = words::read_le32(j, at) as u64;
+    let high = words::read_le16(j, at + 4) as u64;
+    low + 4294967296 * high
 }
 
 // Whether four records of a size, from a place on, have this header.
