@@ -44,7 +44,7 @@ Rule i flag type st c = isAnswered c ≡ true → Continues i flag type st c
 abbrev pub Session : List ℕ → ℕ → ℕ → List Found → Type 0
 Session i flag type cs = Each after (Rule i flag type) start cs
 
--- token 2, five inputs and two outputs, whole in its argument buffer, with the flag, the type and the next number; 01: "Areas of 92 bytes or more always hold the entry due."
+-- token 2, five inputs and two outputs, whole in its argument buffer, with the flag, the type and the next number; 02, M-113: "the size that always holds the entry due (1,036)"
 pub record WellMade (i : List ℕ) (flag type : ℕ) (st : Standing ℕ) (c : Found) : Type 0 where
   pub unchanged : c .inventory ≡ i
   pub indices : token (c .args) ≡ 2
@@ -54,7 +54,7 @@ pub record WellMade (i : List ℕ) (flag type : ℕ) (st : Standing ℕ) (c : Fo
   pub of-flag : input (c .args) 0 ≡ flag
   pub of-type : input (c .args) 1 ≡ type
   pub numbered : input (c .args) 4 ≡ st .carried
-  pub large : 92 ≤ input (c .args) 3
+  pub large : 1036 ≤ input (c .args) 3
   pub below : input (c .args) 2 + input (c .args) 3 ≤ 4294967296
   pub inside : input (c .args) 2 + input (c .args) 3 ≤ length (c .memory)
 

@@ -76,21 +76,28 @@ abbrev pub inventoryOf : List ℕ → List ℕ
 inventoryOf [] = []
 inventoryOf (c ∷ cs) = entry (12 + c) 16 1 (bytes c) ++ inventoryOf cs
 
--- a call over 200 sevens
-abbrev pub getIndices : List ℕ → ℕ → ℕ → ℕ → ℕ → ℕ → Left
-getIndices codes flag type address size number = called (2 ∷ 5 ∷ 2 ∷ flag ∷ type ∷ address ∷ size ∷ number ∷ 9 ∷ 9 ∷ []) (replicate 200 7) [] (inventoryOf codes) Unregistered
+-- a call over so many sevens
+abbrev pub getIndices : ℕ → List ℕ → ℕ → ℕ → ℕ → ℕ → ℕ → Left
+getIndices memory codes flag type address size number = called (2 ∷ 5 ∷ 2 ∷ flag ∷ type ∷ address ∷ size ∷ number ∷ 9 ∷ 9 ∷ []) (replicate memory 7) [] (inventoryOf codes) Unregistered
 
 -- sensors are listed in an area of a size at an address, from a Starting Number on: the status, the entries that it reads as, the next number
-abbrev pub sensors : List ℕ → ℕ → ℕ → ℕ → ℕ → ℕ → ℕ → Bool
-sensors codes address size number status n next =
-    let x = getIndices codes 1 9 address size number in
+abbrev pub sensorsOver : ℕ → List ℕ → ℕ → ℕ → ℕ → ℕ → ℕ → ℕ → Bool
+sensorsOver memory codes address size number status n next =
+    let x = getIndices memory codes 1 9 address size number in
     eqb (be32 (x .args) 32) status && (reads n (index-area.reading (partAt (x .memory) address size)) && eqb (be32 (x .args) 36) next)
 
 -- a request is refused: the status, and nothing in the second output
-abbrev pub noIndices : List ℕ → ℕ → ℕ → ℕ → ℕ → ℕ → ℕ → Bool
-noIndices codes flag type address size number status =
-    let x = getIndices codes flag type address size number in
+abbrev pub noIndicesOver : ℕ → List ℕ → ℕ → ℕ → ℕ → ℕ → ℕ → ℕ → Bool
+noIndicesOver memory codes flag type address size number status =
+    let x = getIndices memory codes flag type address size number in
     eqb (be32 (x .args) 32) status && eqb (be32 (x .args) 36) 9
+
+-- both over 200 sevens
+abbrev pub sensors : List ℕ → ℕ → ℕ → ℕ → ℕ → ℕ → ℕ → Bool
+sensors = sensorsOver 200
+
+abbrev pub noIndices : List ℕ → ℕ → ℕ → ℕ → ℕ → ℕ → ℕ → Bool
+noIndices = noIndicesOver 200
 
 -- the bytes that an entry with a code of a length takes
 abbrev pub takes : ℕ → ℕ
@@ -282,10 +289,12 @@ cases =
     ∷ noIndices (4 ∷ 3 ∷ []) 1 9 0 19 1 (minus 3)
     ∷ sensors (1 ∷ 2 ∷ 3 ∷ 4 ∷ 5 ∷ 6 ∷ 7 ∷ 8 ∷ []) 0 123 1 1 7 8
     ∷ sensors (1 ∷ 2 ∷ 3 ∷ 4 ∷ 5 ∷ 6 ∷ 7 ∷ 8 ∷ []) 0 124 1 0 8 1
-    -- "Areas of 92 bytes or more always hold the entry due."
-    ∷ sensors (79 ∷ 1 ∷ []) 0 92 1 1 1 2
-    ∷ noIndices (79 ∷ 1 ∷ []) 1 9 0 91 1 (minus 3)
-    ∷ sensors (79 ∷ 1 ∷ []) 0 104 1 0 2 1
+    -- 02, M-113: "codes up to 1,023 bytes", "the size that always holds the entry due (1,036)"
+    ∷ sensorsOver 1048 (1023 ∷ 1 ∷ []) 0 1036 1 1 1 2
+    ∷ noIndicesOver 1048 (1023 ∷ 1 ∷ []) 1 9 0 1035 1 (minus 3)
+    ∷ sensorsOver 1048 (1023 ∷ 1 ∷ []) 0 1048 1 0 2 1
+    ∷ noIndicesOver 1048 (1024 ∷ []) 1 9 0 1040 1 (minus 1)
+    ∷ sensors (80 ∷ []) 0 96 1 0 1 1
     -- "size at least 4": a smaller one is refused before the inventory is judged, which is malformed where a code is empty, and 4 holds no entry
     ∷ noIndices (3 ∷ []) 1 9 0 4 1 (minus 3)
     ∷ noIndices (0 ∷ []) 1 9 0 4 1 (minus 1)
@@ -296,7 +305,7 @@ cases =
     ∷ noIndices (3 ∷ []) 1 9 1 4294967295 1 (minus 3)
     ∷ noIndices (3 ∷ []) 1 9 4294967295 16 1 (minus 3)
     -- the inventory comes before the Starting Number; "some entry of this flag and type exists"
-    ∷ noIndices (80 ∷ []) 1 9 0 100 0 (minus 1)
+    ∷ noIndices (1024 ∷ []) 1 9 0 100 0 (minus 1)
     ∷ noIndices [] 1 9 0 100 1 (minus 3)
     ∷ noIndices (3 ∷ []) 0 9 0 100 1 (minus 3)
     ∷ noIndices (3 ∷ []) 2 9 0 100 1 (minus 3)

@@ -19,7 +19,7 @@ use Rattle.calls.specs.IndexSession.{start, after, standing, Session, We
 pub record HandedOut (i : List ℕ) (flag type : ℕ) (es : List Entry) (st : Standing ℕ) : Type 0 where
   pub handed : readings reading (st .areas) ≡ read (take (handedOut es st) es)
   pub bounded : length (st .areas) ≤ length es
-  -- until status 0 any call with the next number and an area of 92 bytes or more inside memory is answered
+  -- until status 0 any call with the next number and an area of 1,036 bytes or more inside memory is answered
   pub answers : askable flag type ≡ true → 1 ≤ length es → st .done ≡ false → (c : Found) → WellMade i flag type st c → isAnswered c ≡ true
 
 -- So the session ends: as many calls that are well made when they come as there are entries suffice, where the type may be asked for and has one.

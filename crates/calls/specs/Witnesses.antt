@@ -64,14 +64,14 @@ pub record NodesWitness : Type 0 where
   pub of-scope-1 : NodesSession additions 1 0 (nodesCall 4096 0) nodesCalls
   pub of-unit-7 : NodesSession functions 3 7 (unitCall 4096 0) unitCalls
 
--- ---- the whole list: two sensors of type 9 with codes of 79 bytes, of which an area of 92 bytes holds one
+-- ---- the whole list: two sensors of type 9 with codes of 1,023 bytes, of which an area of 1,036 bytes holds one
 
 abbrev pub sensors : List ℕ
-sensors = inventoryOf (79 ∷ 79 ∷ [])
+sensors = inventoryOf (1023 ∷ 1023 ∷ [])
 
--- a call for them with such an area at an address, over 100 bytes of memory, and a Starting Number
+-- a call for them with such an area at an address, over 1,044 bytes of memory, and a Starting Number
 abbrev pub indicesCall : ℕ → ℕ → Found
-indicesCall address number = found (wordBytes (2 ∷ 5 ∷ 2 ∷ 1 ∷ 9 ∷ address ∷ 92 ∷ number ∷ 99 ∷ 99 ∷ [])) (replicate 100 7) [] sensors noRegistration
+indicesCall address number = found (wordBytes (2 ∷ 5 ∷ 2 ∷ 1 ∷ 9 ∷ address ∷ 1036 ∷ number ∷ 99 ∷ 99 ∷ [])) (replicate 1044 7) [] sensors noRegistration
 
 -- the area of the second ends past memory's end
 abbrev pub indicesCalls : List Found

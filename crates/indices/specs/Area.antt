@@ -16,7 +16,8 @@ filled c = 4 * (c / 4 + 1)
 abbrev pub entrySize : ℕ → ℕ
 entrySize c = 8 + filled c
 
--- the field and the entry of the longest code, and 01: "Areas of 92 bytes or more always hold the entry due": the count and that entry
+-- the field and the entry of the longest code, and the count and that entry: 1,024, 1,032 and 1,036 bytes
+-- 02, M-113: "the entry size's stated bound (now 1,032 bytes), the reader (refusal 32 above 1,024) and the size that always holds the entry due (1,036)"
 abbrev pub fieldLimit : ℕ
 fieldLimit = filled codeLimit
 

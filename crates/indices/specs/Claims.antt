@@ -26,7 +26,7 @@ abbrev pub ReadsBack : Type 0
 ReadsBack = (area inventory : List ℕ) (flag type size number : ℕ) → Bytes inventory → wellFormed inventory ≡ true
     → reading (written area (run size number (listed flag type inventory))) ≡ read (run size number (listed flag type inventory))
 
--- ---- "never zero entries", "Areas of 92 bytes or more always hold the entry due"
+-- ---- "never zero entries", 02, M-113: "the size that always holds the entry due (1,036)"
 
 abbrev pub HoldsDue : Type 0
 HoldsDue = (size number : ℕ) (es : List Entry) → Sound es → number - 1 < length es → ampleSize ≤ size → 1 ≤ length (run size number es)
@@ -71,17 +71,18 @@ readingCases =
     ∷ case 1 (setOf 4 (lettersAndNuls 3 1)) (entries 1)
     ∷ case 1 (setOf 8 (lettersAndNuls 4 4)) (entries 1)
     ∷ case 1 (setOf 4 (lettersAndNuls 1 3)) (entries 1)
-    ∷ case 1 (setOf 80 (lettersAndNuls 79 1)) (entries 1)
+    ∷ case 1 (setOf 84 (lettersAndNuls 80 4)) (entries 1)
+    ∷ case 1 (setOf 1024 (lettersAndNuls 1023 1)) (entries 1)
     -- under 8 bytes left
     ∷ case 1 [] (refusal 31 4)
     ∷ case 1 (beBytes 4 7 ++ (0 ∷ 0 ∷ 0 ∷ [])) (refusal 31 4)
     -- lengths
     ∷ case 1 (setOf 0 []) (refusal 32 4)
     ∷ case 1 (setOf 5 (lettersAndNuls 4 1)) (refusal 32 4)
-    ∷ case 1 (setOf 84 (lettersAndNuls 80 4)) (refusal 32 4)
+    ∷ case 1 (setOf 1028 (lettersAndNuls 1024 4)) (refusal 32 4)
     -- past the end, and a length that is refused before it
-    ∷ case 1 (setOf 80 (lettersAndNuls 78 1)) (refusal 31 4)
-    ∷ case 1 (setOf 84 (lettersAndNuls 78 1)) (refusal 32 4)
+    ∷ case 1 (setOf 1024 (lettersAndNuls 1022 1)) (refusal 31 4)
+    ∷ case 1 (setOf 1028 (lettersAndNuls 1022 1)) (refusal 32 4)
     -- an empty code, no NUL, five NULs, a byte after a NUL
     ∷ case 1 (setOf 4 (lettersAndNuls 0 4)) (refusal 33 4)
     ∷ case 1 (setOf 4 (lettersAndNuls 4 0)) (refusal 33 4)

@@ -17,7 +17,7 @@ use Rattle.indices.specs.declared.reading.Check.the-variants.{Entries, R
 use Rattle.indices.specs.Area.{fieldLimit}
 
 -- 01: "Index areas: 30 under 4 bytes (0); then for each set, at its offset: 31 under 8 bytes left; 32 length zero, above 80 or no multiple of 4;
--- 31 code past the end; 33 not a non-empty code followed by one to four NULs and nothing else."
+-- 31 code past the end; 33 not a non-empty code followed by one to four NULs and nothing else." 02, M-113: "the reader (refusal 32 above 1,024)"
 abbrev pub refusalNumber : Refusal → ℕ
 refusalNumber Short = 30
 refusalNumber Past = 31

@@ -1,4 +1,4 @@
--- What is known of the record at a place by its size, kind, flag and zero bytes.
+-- What is known of the record at a place by its size, kind, flag and code.
 use mathlib.Core.Path.{_≡_, sym, ap, _∙_}
 use mathlib.Core.Bool.{Bool, true, false, _&&_, and-false, and-assoc}
 use mathlib.Core.List.{List}
@@ -12,10 +12,10 @@ use Rattle.words.specs.Numbers.{le}
 use Rattle.words.proofs.Choice.{decide, and-left, and-right}
 use Rattle.records.specs.Records.{lengthOf, kindOf, sizeOf, firstRecord, whole}
 use Rattle.records.proofs.Steps.{field-at, record-length, record-kind, whole-at}
-use Rattle.inventory.specs.Inventory.{codeLimit, headSize, flagOf, typeOf, codeOf, goodHead, goodCode, goodRecord}
-use Rattle.inventory.specs.Judging.{zeroCount, framedAt, goodSize, Readable}
+use Rattle.inventory.specs.Inventory.{codeLimit, headSize, flagOf, typeOf, codeOf, nonZero, goodHead, goodCode, goodRecord}
+use Rattle.inventory.specs.Judging.{framedAt, goodSize, Readable}
 use Rattle.inventory.specs.Listing.{matches}
-use Rattle.inventory.proofs.Codes.{non-zero-is, drop-part}
+use Rattle.inventory.proofs.Codes.{drop-part}
 
 -- what the code's test of the numbers tells
 pub framed-bounds : (left n kind flag : ℕ) → framedAt left n kind flag ≡ true → (headSize + 1 ≤ n) × (n ≤ headSize + codeLimit) × (n ≤ left)
@@ -38,8 +38,8 @@ module _ (s : List ℕ) (at : ℕ) where
   abbrev framedHere : Bool
   framedHere = framedAt (length s - at) size (kindOf (drop at s)) (le 2 s (at + 4))
 
-  abbrev zerosHere : ℕ
-  zerosHere = zeroCount (slice (at + headSize) (at + size) s)
+  abbrev codeHere : Bool
+  codeHere = nonZero (slice (at + headSize) (at + size) s)
 
   -- the head
   pub head-here : (whole here && goodHead here) ≡ framedHere
@@ -70,11 +70,11 @@ module _ (s : List ℕ) (at : ℕ) where
     unfolding codeOf
     code-is = drop-part s at headSize size (omega arith)
 
-    code-good : goodCode (codeOf here) ≡ eqb zerosHere 0
+    code-good : goodCode (codeOf here) ≡ codeHere
     unfolding goodCode
-    code-good = rw (code-length, le-leb 1 (size - headSize) (omega arith), le-leb (size - headSize) codeLimit (omega arith), non-zero-is (codeOf here), code-is)
+    code-good = rw (code-length, le-leb 1 (size - headSize) (omega arith), le-leb (size - headSize) codeLimit (omega arith), code-is)
 
-  good-here : goodHere ≡ (framedHere && eqb zerosHere 0)
+  good-here : goodHere ≡ (framedHere && codeHere)
   unfolding goodRecord
   good-here = sym (and-assoc (whole here) (goodHead here) (goodCode (codeOf here))) ∙ rw head-here (decide framedHere (λ e. rw (code-good (framed-readable e))) (λ e. rw e))
 
@@ -82,10 +82,10 @@ module _ (s : List ℕ) (at : ℕ) where
   pub short-bad : length s - at < headSize + 1 → goodHere ≡ false
   short-bad h = good-here ∙ decide framedHere (λ e. absurd (omega (arith, framed-readable e))) (λ e. rw e)
 
-  -- by the numbers that the code read, its test of them, and the zero bytes that it counted
-  pub good-read : (n kind flag zeros : ℕ) (t : Bool) → n ≡ size → kind ≡ kindOf (drop at s) → flag ≡ le 2 s (at + 4)
-      → t ≡ framedAt (length s - at) n kind flag → zeros ≡ zeroCount (slice (at + headSize) (at + n) s) → goodHere ≡ (t && eqb zeros 0)
-  good-read n kind flag zeros t p q r e z = rw (e, z, p, q, r) good-here
+  -- by the numbers that the code read, its test of them, and its test of the code
+  pub good-read : (n kind flag : ℕ) (t u : Bool) → n ≡ size → kind ≡ kindOf (drop at s) → flag ≡ le 2 s (at + 4)
+      → t ≡ framedAt (length s - at) n kind flag → u ≡ nonZero (slice (at + headSize) (at + n) s) → goodHere ≡ (t && u)
+  good-read n kind flag t u p q r e z = rw (e, z, p, q, r) good-here
 
   -- where the size that the code gives is 0
   pub none-stands : (n : ℕ) → n ≡ goodSize (drop at s) → n ≡ 0 → goodHere ≡ false

@@ -1,5 +1,5 @@
 -- Claims about the inventory's rules, cited by the contract of `scan`.
-use Prim.Native.Nat.{ℕ, _≤_, _<_}
+use Prim.Native.Nat.{ℕ, _/_, _%_, _≤_, _<_}
 use mathlib.Core.Path.{_≡_}
 use mathlib.Core.Bool.{true, false}
 use mathlib.Core.List.{List, [], _∷_, _++_}
@@ -11,7 +11,7 @@ use Rattle.inventory.specs.Inventory.{goodRecord, wellFormed}
 
 -- a record of this length, kind and flag, of the type 9 and the index 1, with this code
 abbrev pub entry : ℕ → ℕ → ℕ → List ℕ → List ℕ
-entry len kind flag code = len ∷ 0 ∷ kind ∷ 0 ∷ flag ∷ 0 ∷ 9 ∷ 0 ∷ 0 ∷ 0 ∷ 1 ∷ 0 ∷ 0 ∷ 0 ∷ code
+entry len kind flag code = len % 256 ∷ len / 256 ∷ kind ∷ 0 ∷ flag ∷ 0 ∷ 9 ∷ 0 ∷ 0 ∷ 0 ∷ 1 ∷ 0 ∷ 0 ∷ 0 ∷ code
 
 -- a code of three bytes, U78, and one of n bytes
 abbrev pub three : List ℕ
@@ -32,14 +32,16 @@ cases =
     -- "two bytes (0 indicator, 1 sensor)"
     ∷ yes (entry 15 16 1 three)
     ∷ no (entry 15 16 2 three)
-    -- "a location code of 1 to 79 non-zero bytes; length 12 plus the code"
+    -- 01: "a location code of 1 to 79 non-zero bytes; length 12 plus the code"; 02, M-113: "codes up to 1,023 bytes"
     ∷ yes (entry 13 16 0 (bytes 1))
-    ∷ yes (entry 91 16 0 (bytes 79))
+    ∷ yes (entry 92 16 0 (bytes 80))
+    ∷ yes (entry 1035 16 0 (bytes 1023))
     ∷ no (entry 12 16 0 [])
-    ∷ no (entry 92 16 0 (bytes 80))
+    ∷ no (entry 1036 16 0 (bytes 1024))
     ∷ no (entry 15 16 0 (0 ∷ 55 ∷ 56 ∷ []))
     ∷ no (entry 15 16 0 (85 ∷ 0 ∷ 56 ∷ []))
     ∷ no (entry 15 16 0 (85 ∷ 55 ∷ 0 ∷ []))
+    ∷ no (entry 1035 16 0 (bytes 1022 ++ (0 ∷ [])))
     -- the length, the kind and the flag are two bytes each
     ∷ no (15 ∷ 1 ∷ 16 ∷ 0 ∷ 0 ∷ 0 ∷ 9 ∷ 0 ∷ 0 ∷ 0 ∷ 1 ∷ 0 ∷ 0 ∷ 0 ∷ three)
     ∷ no (15 ∷ 0 ∷ 16 ∷ 1 ∷ 0 ∷ 0 ∷ 9 ∷ 0 ∷ 0 ∷ 0 ∷ 1 ∷ 0 ∷ 0 ∷ 0 ∷ three)

@@ -7,11 +7,6 @@ use lib.ListN.{length, drop}
 use Rattle.records.specs.Records.{sizeOf, firstRecord, whole}
 use Rattle.inventory.specs.Inventory.{codeLimit, headSize, goodNumbers, goodRecord}
 
--- how many bytes are zero
-unfoldable pub zeroCount : List ℕ → ℕ
-zeroCount [] = 0
-zeroCount (b ∷ bs) = cond (eqb b 0) 1 0 + zeroCount bs
-
 -- a record of this size, kind and flag can stand where so many bytes are left
 abbrev pub framedAt : ℕ → ℕ → ℕ → ℕ → Bool
 framedAt left size kind flag = leb size left && goodNumbers size kind flag

@@ -2,10 +2,12 @@
 ghost use mathlib.Core.Path.{_≡_};
 ghost use mathlib.Core.Bool.{cond};
 ghost use Prim.Native.Nat.{_+_, _≤_, _<_};
+ghost use lib.Dec.{ltb};
 ghost use lib.ListN.{length, drop};
 ghost use lib.Seq.{slice};
 ghost use Rattle.records.specs.Records.{firstRecord};
-ghost use Rattle.inventory.specs.Judging.{zeroCount, framedAt, goodSize, Readable};
+ghost use Rattle.inventory.specs.Inventory.{nonZero};
+ghost use Rattle.inventory.specs.Judging.{framedAt, goodSize, Readable};
 ghost use Rattle.inventory.specs.Listing.{matches};
 
 // The kind of every record.
@@ -15,7 +17,7 @@ const ITEM_KIND: u16 = 16;
 pub const HEAD_SIZE: usize = 14;
 
 // The most bytes of a code.
-pub const CODE_LIMIT: usize = 79;
+pub const CODE_LIMIT: usize = 1023;
 
 // The sizes of a record with the shortest and the longest code.
 const LEAST_SIZE: usize = HEAD_SIZE + 1;
@@ -29,18 +31,59 @@ pub fn one_if(b: bool) -> u8
     if b { 1 } else { 0 }
 }
 
-// How many of at most 255 bytes are zero. It does not stop at the first and counts in a byte, so that many are looked at at once.
-fn zero_bytes(s: &[u8], from: usize, to: usize) -> u8
-    requires { ⌜ (from ≤ to) × (to ≤ from + 255) × (to ≤ length (now s)) ⌝ }
-    ensures { λ r. ⌜ r ≡ zeroCount (slice from to (now (s .entry))) ⌝ }
+// The lesser of two bytes.
+fn lesser(a: u8, b: u8) -> u8
+    ensures { λ r. ⌜ r ≡ cond (ltb a b) a b ⌝ }
+{
+    if a < b { a } else { b }
+}
+
+// Whether no byte from one place up to another is zero. It goes by the least of them and does not stop at a zero, so that many are
+// looked at at once.
+fn are_non_zero(s: &[u8], from: usize, to: usize) -> bool
+    requires { ⌜ (from ≤ to) × (to ≤ length (now s)) ⌝ }
+    ensures { λ r. ⌜ r ≡ nonZero (slice from to (now (s .entry))) ⌝ }
 {
     let mut i = from;
-    let mut zeros: u8 = 0;
+    let mut least: u8 = 255;
     while i < to {
-        zeros += one_if(s[i] == 0);
+        least = lesser(s[i], least);
         i += 1;
     }
-    zeros
+    0 < least
+}
+
+// The same by two parts that overlap or follow each other: up to `middle`, and from `back` on.
+fn are_both_non_zero(s: &[u8], from: usize, middle: usize, back: usize, to: usize) -> bool
+    requires { ⌜ (from ≤ back) × (back ≤ middle) × (middle ≤ to) × (to ≤ length (now s)) ⌝ }
+    ensures { λ r. ⌜ r ≡ nonZero (slice from to (now (s .entry))) ⌝ }
+{
+    if !are_non_zero(s, from, middle) {
+        return false;
+    }
+    are_non_zero(s, back, to)
+}
+
+// Whether a code, from one place up to another, has no NUL. It is looked at in blocks of one size, of which the last may overlap the
+// one before it, so that no byte is looked at alone: the size is a constant for each range of lengths, and a block then one step.
+fn is_code(s: &[u8], from: usize, to: usize) -> bool
+    requires { ⌜ (from ≤ to) × (to ≤ length (now s)) ⌝ }
+    ensures { λ r. ⌜ r ≡ nonZero (slice from to (now (s .entry))) ⌝ }
+{
+    let length = to - from;
+    if length < 4 {
+        return are_non_zero(s, from, to);
+    }
+    if length < 8 {
+        return are_both_non_zero(s, from, from + 4, to - 4, to);
+    }
+    if length < 16 {
+        return are_both_non_zero(s, from, from + 8, to - 8, to);
+    }
+    if length < 32 {
+        return are_both_non_zero(s, from, from + 16, to - 16, to);
+    }
+    are_both_non_zero(s, from, from + length / 32 * 32, to - 32, to)
 }
 
 // The size of the record at a place, or 0 where no good record stands there.
@@ -57,7 +100,7 @@ pub fn record_at(s: &[u8], at: usize) -> usize
     if !is_framed(left, size, frame.kind, words::read_le16(s, at + 4)) {
         return 0;
     }
-    if 0 < zero_bytes(s, at + HEAD_SIZE, at + size) {
+    if !is_code(s, at + HEAD_SIZE, at + size) {
         return 0;
     }
     size
