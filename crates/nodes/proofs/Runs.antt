@@ -103,21 +103,27 @@ cost-le : (os : List Operation) → cost os ≤ 3 + operandWords os
 unfolding cost
 cost-le os = omega (arith, present-le 1 os, present-le 2 os, present-le 3 os)
 
-present-take : (code m : ℕ) (os : List Operation) → present code (take m os) ≤ present code os
+-- an opcode that a part of a list has, the list has
+present-parts : (code : ℕ) (os ps : List Operation) → (present code os ≤ present code (os ++ ps)) × (present code ps ≤ present code (os ++ ps))
 unfolding present
-present-take code zero os = omega arith
-present-take code (suc m) [] = omega arith
-present-take code (suc m) (o ∷ os) = go (eqb (opcode o) code) (present-take code m os)
+present-parts code [] ps = omega arith
+present-parts code (o ∷ os) ps = go (eqb (opcode o) code) (present-parts code os ps)
   where
-    go : (b : Bool) → present code (take m os) ≤ present code os → cond b 1 (present code (take m os)) ≤ cond b 1 (present code os)
-    go true ih = omega arith
+    go : (b : Bool) → (present code os ≤ present code (os ++ ps)) × (present code ps ≤ present code (os ++ ps))
+        → (cond b 1 (present code os) ≤ cond b 1 (present code (os ++ ps))) × (present code ps ≤ cond b 1 (present code (os ++ ps)))
+    go true ih = omega (arith, present-le code ps)
     go false ih = ih
 
--- a shorter run costs no more
-cost-take : (m : ℕ) (os : List Operation) → cost (take m os) ≤ cost os
+-- a part of a run costs no more: its first operations, and what stands behind them
+cost-parts : (os ps : List Operation) → (cost os ≤ cost (os ++ ps)) × (cost ps ≤ cost (os ++ ps))
 unfolding cost
-cost-take m os =
-    omega (arith, present-take 1 m os, present-take 2 m os, present-take 3 m os, operandWords-append (take m os) (drop m os), ap operandWords (take-append-drop m os))
+cost-parts os ps = omega (arith, present-parts 1 os ps, present-parts 2 os ps, present-parts 3 os ps, operandWords-append os ps)
+
+pub cost-take : (m : ℕ) (os : List Operation) → cost (take m os) ≤ cost os
+cost-take m os = rw take-append-drop at (cost-parts (take m os) (drop m os) .0)
+
+pub cost-drop : (m : ℕ) (os : List Operation) → cost (drop m os) ≤ cost os
+cost-drop m os = rw take-append-drop at (cost-parts (take m os) (drop m os) .1)
 
 cost-shorter : (m n : ℕ) (os : List Operation) → m ≤ n → cost (take m os) ≤ cost (take n os)
 cost-shorter m n os h = subst (λ (x : List Operation). cost x ≤ cost (take n os)) (take-take m n os h) (cost-take m (take n os))
