@@ -12,6 +12,7 @@ pub mod ExactIndices
 pub mod ExactDump
 pub mod Exact
 pub mod Session
+pub mod Fewest
 pub mod NodeSessions
 pub mod IndexSessions
 pub mod Confined

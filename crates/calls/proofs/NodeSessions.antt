@@ -1,4 +1,4 @@
--- Demand 3: the answered calls of a session hand out the reportable list, each operation once and in order.
+-- Demand 3: the answered calls of a session hand out the reportable list, each operation once and in order; and no cutting of it takes fewer areas.
 use mathlib.Core.Path.{_≡_, refl, ap, _∙_, sym}
 use mathlib.Core.Bool.{true, _||_, or-true, true≢false}
 use mathlib.Core.List.{List}
@@ -8,7 +8,7 @@ use native.Mathlib.Omega.{arith}
 use native.Mathlib.Nat.{eq-or-lt-of-le}
 use lib.Dec.{ltb, eqb}
 use borrow.Author.Tests.{lt-ltb, le-ltb, eq-eqb}
-use lib.ListN.{length, take, drop, take-append-drop}
+use lib.ListN.{length, take, drop, length-take, take-append-drop}
 use lib.Seq.{take-all}
 use Rattle.words.specs.Numbers.{beBytes, wordBytes}
 use Rattle.words.specs.Reading.{read}
@@ -31,8 +31,10 @@ use Rattle.calls.specs.Buffer.{input, numberFor, asks, isNodes, Found}
 use Rattle.calls.specs.Session.{isAnswered, Standing}
 use Rattle.calls.specs.NodeSession.{address, areaBefore, areaThen, carriedThen, start, standing, Continues, Session, WellMade, reported}
 use Rattle.calls.specs.Demands.{Bounded, Accounted, Ends, Demand3}
+use Rattle.calls.specs.Fewest.{joinedRuns, Cutting, areasOf, FewestAreas}
 use Rattle.calls.proofs.Memory.{part-length, part-stored, written-length}
 use Rattle.calls.proofs.Calls.{Passed, Answered, answered-is, will-answer}
+use Rattle.calls.proofs.Fewest.{endOf, areas-least, stays-behind, another-area}
 use Rattle.calls.proofs.Session as session
 
 -- the words of a part of a list are no more than the list's
@@ -51,11 +53,14 @@ module _ (j : List ℕ) (s u : ℕ) (u-small : u < 18446744073709551616) (ls : L
   abbrev Names : List ℕ → ℕ → Type 0
   Names carried k = carried ≡ carriedHead units k
 
-  abbrev Fill : ℕ → ℕ → Type 0
-  Fill a k = 1015 * a ≤ operandWords (take k os)
+  -- So many areas have enough words, and in as many no cutting of the list passes the place; nor does one come to the end in fewer.
+  record Fill (a k : ℕ) : Type 0 where
+    words : 1015 * a ≤ operandWords (take k os)
+    ahead : (cut : List (List Operation)) → Cutting os cut → endOf a cut ≤ k
 
-  abbrev End : ℕ → Type 0
-  End a = Bounded (operandWords os) a
+  record End (a : ℕ) : Type 0 where
+    words : Bounded (operandWords os) a
+    fewest : (cut : List (List Operation)) → Cutting os cut → a ≤ areasOf cut
 
   abbrev Open : Standing (List ℕ) → ℕ → Type 0
   Open = session.Open carriedThen areaThen (reading s) os Names Fill End
@@ -64,8 +69,8 @@ module _ (j : List ℕ) (s u : ℕ) (u-small : u < 18446744073709551616) (ls : L
   Step = session.Step carriedThen areaThen (reading s) os Names Fill End
 
   begins : session.Stands carriedThen areaThen (reading s) os Names Fill End (start s u)
-  unfolding operandWords wordBytes beBytes
-  begins = session.starts carriedThen areaThen (reading s) os Names Fill End (start s u .carried) refl (omega arith)
+  unfolding operandWords wordBytes beBytes joinedRuns
+  begins = session.starts carriedThen areaThen (reading s) os Names Fill End (start s u .carried) refl (record { words = omega arith; ahead = λ cut c. omega arith })
 
   module _ (st : Standing (List ℕ)) (k : ℕ) (o : Open st k) where
     k-le : k ≤ length os
@@ -106,9 +111,16 @@ module _ (j : List ℕ) (s u : ℕ) (u-small : u < 18446744073709551616) (ls : L
           let whole : operandWords os ≡ operandWords (take k os) + operandWords (run os k) = ap operandWords (sym (take-all (k + length (run os k)) os (omega arith))) ∙ runs .words-so-far in
           let empty : k ≡ length os → length os ≡ 0 = λ q. ⊎-elim (λ z. omega arith) (λ l. omega arith) (o .place) in
           ⊎-elim
-          (λ q. omega (arith, o .fills, operandWords-le os, empty q))
-          (λ l. omega (arith, o .fills, length-le-operandWords (run os k), runs .some-more l))
+          (λ q. omega (arith, o .fills .words, operandWords-le os, empty q))
+          (λ l. omega (arith, o .fills .words, length-le-operandWords (run os k), runs .some-more l))
           (eq-or-lt-of-le k-le)
+
+      -- nor has a cutting come to the end before it: each is behind the place, or nothing stands before either
+      last-fewest : (cut : List (List Operation)) → Cutting os cut → length (st .areas) + 1 ≤ areasOf cut
+      last-fewest cut x = ⊎-elim
+          (λ e. omega (arith, o .fills .words, operandWords-le (take k os), length-take k os, areas-least cut))
+          (λ l. another-area os cut x (length (st .areas)) (omega (arith, o .fills .ahead cut x)))
+          (o .place)
 
       step : Step (length (st .areas)) k c
       unfolding remains nextState
@@ -119,8 +131,11 @@ module _ (j : List ℕ) (s u : ℕ) (u-small : u < 18446744073709551616) (ls : L
             reads = ap (reading s) area-is ∙ area-claims .round-trip s u (areaBefore c) os k u-small size ls k-le ∙ ap read (area-claims .longest-run os k .first);
             status = left .status ∙ rw (n .of-scope, n .unchanged, k-is, same-units);
             names = λ l. carried-then ∙ rw (lt-ltb (k + length (run os k)) (length os) l);
-            fills = λ l. omega (arith, o .fills, runs .words-so-far, runs .many l);
-            ends = last;
+            fills = λ l. record {
+              words = omega (arith, o .fills .words, runs .words-so-far, runs .many l);
+              ahead = λ cut x. stays-behind os cut x (length (st .areas)) k (o .fills .ahead cut x);
+            };
+            ends = λ e. record { words = last e; fewest = last-fewest };
           }
 
     -- ---- a well-made call is answered while the session is open
@@ -152,20 +167,26 @@ module _ (j : List ℕ) (s u : ℕ) (u-small : u < 18446744073709551616) (ls : L
 
   -- ---- the account of a session
 
+  -- what the account gives: a session stands open, or closed
+  stood : (cs : List Found) → Session j s u cs → session.Stands carriedThen areaThen (reading s) os Names Fill End (standing s u cs)
+  stood cs h = session.stands carriedThen areaThen (reading s) os Names Fill End (Continues j s) (λ st c n. n .unfinished) step (start s u) cs begins h
+
+  fewest-of : (cs : List Found) → Session j s u cs → standing s u cs .done ≡ true → (cut : List (List Operation)) → Cutting os cut → length (standing s u cs .areas) ≤ areasOf cut
+  fewest-of cs h d cut x = ⊎-elim (λ o. absurd (true≢false (sym d ∙ o .1 .unfinished))) (λ c. c .ends .fewest cut x) (stood cs h)
+
   module _ (w : wellFormed j ≡ true) (v : valid s ≡ true) where
     open-demand : (st : Standing (List ℕ)) (k : ℕ) → Open st k → Accounted j s os st
     unfolding reported wordBytes beBytes
     open-demand st k o =
         let state-is : stateIn (st .carried) ≡ k = state-of (st .carried) units k (ap headOf (o .named)) (k-small st k o) in
-        record { handed = rw (o .unfinished, state-is) (o .handed); bounded = omega (arith, o .fills, words-part k os); answers = λ e. answers st k o w v }
+        record { handed = rw (o .unfinished, state-is) (o .handed); bounded = omega (arith, o .fills .words, words-part k os); answers = λ e. answers st k o w v }
 
     closed-demand : (st : Standing (List ℕ)) → session.Closed carriedThen areaThen (reading s) os Names Fill End st → Accounted j s os st
     unfolding reported
-    closed-demand st c = record { handed = rw (c .finished, take-all (length os) os (omega arith)) (c .handed); bounded = c .ends; answers = λ e. absurd (true≢false (sym (c .finished) ∙ e)) }
+    closed-demand st c = record { handed = rw (c .finished, take-all (length os) os (omega arith)) (c .handed); bounded = c .ends .words; answers = λ e. absurd (true≢false (sym (c .finished) ∙ e)) }
 
     accounted : (cs : List Found) → Session j s u cs → Accounted j s os (standing s u cs)
-    accounted cs h = ⊎-elim (λ o. open-demand (standing s u cs) (o .0) (o .1)) (closed-demand (standing s u cs))
-        (session.stands carriedThen areaThen (reading s) os Names Fill End (Continues j s) (λ st c n. n .unfinished) step (start s u) cs begins h)
+    accounted cs h = ⊎-elim (λ o. open-demand (standing s u cs) (o .0) (o .1)) (closed-demand (standing s u cs)) (stood cs h)
 
     ends : (cs : List Found) → Session j s u cs → Ends j s u os cs
     ends cs h n a l = session.session-ends carriedThen areaThen (reading s) os Names Fill End (Continues j s) (λ st c m. m .unfinished) step (WellMade j s) (λ st k o. answers st k o w v) (start s u) cs n
@@ -175,3 +196,6 @@ pub demand3 : Demand3
 demand3 j s u bytes u-small w v cs h =
     let ls = area-claims .reportable-listed (selectionOf s u) j bytes w in
     (accounted j s u u-small ls w v cs h, ends j s u u-small ls w v cs h)
+
+pub fewest : FewestAreas
+fewest j s u bytes u-small w v = fewest-of j s u u-small (area-claims .reportable-listed (selectionOf s u) j bytes w)

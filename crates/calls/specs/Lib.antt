@@ -12,6 +12,7 @@ pub mod Session
 pub mod NodeSession
 pub mod IndexSession
 pub mod Demands
+pub mod Fewest
 pub mod WholeList
 pub mod Readings
 pub mod Witnesses

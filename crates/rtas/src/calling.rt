@@ -11,6 +11,7 @@ ghost use Rattle.calls.specs.GetIndices.{indicesStatus, indicesMemory, nextNumb
 ghost use Rattle.calls.specs.Buffer.{numberFor, asks, requestOf, found, leaves, callOf};
 ghost use Rattle.rtas.specs.Working.{Worked};
 ghost use Rattle.calls.specs.Demands.{Demand1, Demand2, Demand3};
+ghost use Rattle.calls.specs.Fewest.{FewestAreas, FewestWitness};
 ghost use Rattle.calls.specs.WholeList.{WholeList};
 ghost use Rattle.calls.specs.Witnesses.{NodesWitness, IndicesWitness};
 ghost use Rattle.calls.specs.Readings.{Readings};
@@ -145,7 +146,7 @@ pub fn call(
     registration: Registration,
 ) -> Answer
     ensures { λ r. ⌜ leaves (r .number) (now (args .exit)) (now (memory .exit)) (r .registration) ≡ callOf (found (now (args .entry)) (now (memory .entry)) (now (journal .entry)) (now (inventory .entry)) registration) ⌝ }
-    ensures demands { λ _. ⌜ Demand1 × Demand2 × Demand3 × WholeList × NodesWitness × IndicesWitness × Readings ⌝ }
+    ensures demands { λ _. ⌜ Demand1 × Demand2 × Demand3 × FewestAreas × WholeList × NodesWitness × FewestWitness × IndicesWitness × Readings ⌝ }
 {
     let number = number_for(&*args);
     if !is_given(number) {
