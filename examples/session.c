@@ -30,7 +30,7 @@ struct partition {
     uint8_t memory[MEMORY_SIZE];
     uint8_t journal[14 * RECORDS];
     size_t journal_length;
-    uint8_t inventory[512];
+    uint8_t inventory[2048];
     size_t inventory_length;
     struct draugsten_registration registration;
 };
@@ -286,15 +286,19 @@ struct item {
     const char *code;
 };
 
+/* A code of the most bytes; make_inventory fills it. */
+static char longest_code[DRAUGSTEN_CODE_LIMIT + 1];
+
 static const struct item items[] = {
     {INDICATOR, TYPE, 0, "U78D8.ND0.0A1B2C3-P0"},
     {INDICATOR, TYPE, 1, "U78D8.ND0.0A1B2C3-P0-C1"},
     {SENSOR, TYPE, 2, "U78D8.ND0.0A1B2C3-P0-C2"},
     {INDICATOR, TYPE + 1, 3, "U78D8.ND0.0A1B2C3-P0-C3"},
-    {INDICATOR, TYPE, 4, "U78D8.ND0.0A1B2C3-P0-C4"},
+    {INDICATOR, TYPE, 4, longest_code},
+    {INDICATOR, TYPE, 5, "U78D8.ND0.0A1B2C3-P0-C5"},
 };
 
-enum { ITEMS = sizeof items / sizeof items[0] };
+enum { ITEMS = sizeof items / sizeof items[0], SHOWN = 24 };
 
 static size_t put_item(uint8_t *to, const struct item *item)
 {
@@ -314,6 +318,7 @@ static void make_inventory(struct partition *partition)
     size_t at = 0;
     size_t i;
 
+    memset(longest_code, 'U', DRAUGSTEN_CODE_LIMIT);
     for (i = 0; i < ITEMS; i++) {
         expect(at + 14 + strlen(items[i].code) <= sizeof partition->inventory, "the inventory has room");
         at += put_item(partition->inventory + at, &items[i]);
@@ -331,6 +336,15 @@ static size_t count_listed(void)
     return count;
 }
 
+/* The code, or how it begins and its length. */
+static void print_code(const char *code, uint64_t length)
+{
+    if (length <= SHOWN)
+        printf("%.*s\n", (int)length, code);
+    else
+        printf("%.*s.. of %" PRIu64 " bytes\n", SHOWN, code, length);
+}
+
 /* Reads the area that an answered call left; gives the number of its entries. */
 static size_t read_index_area(const struct partition *partition)
 {
@@ -345,7 +359,8 @@ static size_t read_index_area(const struct partition *partition)
     for (i = 0; i < reading.entries; i++) {
         const uint64_t *entry = numbers + DRAUGSTEN_ENTRY_ELEMENTS * i;
 
-        printf("    %" PRIu64 " %.*s\n", entry[0], (int)entry[2], (const char *)area + entry[1]);
+        printf("    %" PRIu64 " ", entry[0]);
+        print_code((const char *)area + entry[1], entry[2]);
     }
     return reading.entries;
 }

@@ -34,8 +34,10 @@ extern "C" {
 #define DRAUGSTEN_RECORDS_LIMIT 1048576         /* bytes of a journal, and of an inventory */
 #define DRAUGSTEN_NODE_AREA_SIZE 4096           /* bytes of a node area, and what its address is a multiple of */
 #define DRAUGSTEN_NODE_OPERATIONS_LIMIT 1018    /* operations in one node area, at most */
-#define DRAUGSTEN_INDEX_AREA_SUFFICIENT 92      /* an index area of so many bytes or more holds any entry that is due */
-#define DRAUGSTEN_CODE_LIMIT 79                 /* bytes of a location code, without NULs */
+#define DRAUGSTEN_CODE_LIMIT 1023               /* bytes of a location code, without NULs */
+#define DRAUGSTEN_FIELD_LIMIT (4 * (DRAUGSTEN_CODE_LIMIT / 4 + 1)) /* with its NULs in an index area: 1,024 */
+/* An index area of so many bytes or more holds any entry that is due: the count, an index, a length, a code; 1,036. */
+#define DRAUGSTEN_INDEX_AREA_SUFFICIENT (4 + 4 + 4 + DRAUGSTEN_FIELD_LIMIT)
 #define DRAUGSTEN_STRUCTURE_LEAST 40            /* bytes of a dump structure */
 #define DRAUGSTEN_STRUCTURE_LIMIT 512
 #define DRAUGSTEN_ENTRY_ELEMENTS 3              /* elements of `out` that a reader writes for one entry */
@@ -43,7 +45,7 @@ extern "C" {
 /*
  * Bytes of stack that a function takes, with its return address and what it writes below the stack pointer, but without
  * its arguments and its result, which the caller has on its own stack, and without what memcpy and memset take. There is
- * no recursion, so it depends on no buffer. Measured, and stated with room: 5,200, 24, 40 and 72 bytes.
+ * no recursion, so it depends on no buffer. Measured, and stated with room: 5,528, 24, 56 and 40 bytes.
  */
 #define DRAUGSTEN_STACK_CALL 6144
 #define DRAUGSTEN_STACK_NO_REGISTRATION 128
@@ -129,7 +131,7 @@ struct draugsten_registration draugsten_no_registration(void);
  *            (4), for kind 3 (add) the parent's phandle (4) and the drc-index (4), for kind 4 (update in a unit) the
  *            unit address (8) and the phandle (4). Node types are 1 to 14 in kinds 1 to 3, and 15 and 16 in kind 4.
  * inventory  What get-indices lists; no other call looks at it. Records, little-endian: length (2), kind 16 (2),
- *            0 indicator or 1 sensor (2), type (4), index (4), location code (1 to 79 bytes, none zero).
+ *            0 indicator or 1 sensor (2), type (4), index (4), location code (1 to 1,023 bytes, none zero).
  * registration  As the partition's last call gave it. Only an answered configure-kernel-dump changes it.
  *
  * A session of update-nodes begins with sixteen zero bytes at the head of the area. In scope 3 it begins with four zero
@@ -162,7 +164,7 @@ enum draugsten_refusal {
     /* index areas */
     DRAUGSTEN_REFUSAL_NO_COUNT = 30,            /* under 4 bytes; at 0 */
     DRAUGSTEN_REFUSAL_SET_PAST_END = 31,        /* 31 to 33 at the set: index, length, code */
-    DRAUGSTEN_REFUSAL_CODE_LENGTH = 32,         /* zero, above 80 or no multiple of 4 */
+    DRAUGSTEN_REFUSAL_CODE_LENGTH = 32,         /* zero, above 1,024 or no multiple of 4 */
     DRAUGSTEN_REFUSAL_CODE = 33                 /* not a code, then one to four NULs, then nothing else */
 };
 

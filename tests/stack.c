@@ -10,7 +10,13 @@
 #include <string.h>
 #include <ucontext.h>
 
-enum { STACK = 65536, NODE_AREA = 0x1000, INDEX_AREA = 0x2000, RETURN_ADDRESS = 8 };
+enum {
+    STACK = 65536,
+    NODE_AREA = 0x1000,
+    INDEX_AREA = 0x2000,
+    INDEX_AREA_SIZE = 12 + DRAUGSTEN_INDEX_AREA_SUFFICIENT, /* of the short code and the long one */
+    RETURN_ADDRESS = 8
+};
 
 static uint8_t stack[STACK] __attribute__((aligned(16)));
 static uint8_t memory[0x3000], args[40];
@@ -54,15 +60,15 @@ static void choose(int library)
     read_indices = library ? draugsten_read_indices : (__typeof__(read_indices))nothing;
 }
 
-/* A delete, an update and an addition; a sensor. */
+/* A delete, an update and an addition; sensors with a short code and, as `prepare` makes it, the longest. */
 static const uint8_t journal[] = {8, 0, 1, 0, 11, 0, 1, 0, 0, 0, 8, 0, 2, 0, 11, 0, 2, 0, 0, 0,
                                   12, 0, 3, 0, 11, 0, 3, 0, 0, 0, 4, 0, 0, 0};
-static const uint8_t inventory[] = {15, 0, 16, 0, 1, 0, 7, 0, 0, 0, 9, 0, 0, 0, 'U', '7', '8'};
+static uint8_t inventory[17 + 14 + DRAUGSTEN_CODE_LIMIT] = {15, 0, 16, 0, 1, 0, 7, 0, 0, 0, 9, 0, 0, 0, 'U', '7', '8'};
 
 /* The words of an argument buffer for a call of each kind that is answered. */
 static const uint32_t calls[3][10] = {
     {DRAUGSTEN_TOKEN_UPDATE_NODES, 2, 1, NODE_AREA, 1},
-    {DRAUGSTEN_TOKEN_GET_INDICES, 5, 2, 1, 7, INDEX_AREA, 92, 1},
+    {DRAUGSTEN_TOKEN_GET_INDICES, 5, 2, 1, 7, INDEX_AREA, INDEX_AREA_SIZE, 1},
     {DRAUGSTEN_TOKEN_CONFIGURE_KERNEL_DUMP, 3, 1, DRAUGSTEN_COMMAND_REGISTER, 0, 80},
 };
 
@@ -95,7 +101,7 @@ static void reading_nodes(void)
 
 static void reading_indices(void)
 {
-    index_reading = read_indices(memory + INDEX_AREA, 92, numbers, 64);
+    index_reading = read_indices(memory + INDEX_AREA, INDEX_AREA_SIZE, numbers, 64);
 }
 
 /* ---- measuring */
@@ -131,12 +137,16 @@ static void measure(const char *name, void (*work)(void), size_t said)
     faults += taken > said;
 }
 
-/* A dump structure at 0, with one section from 40 on, and a node area that is zero. */
+/* A dump structure at 0, with one section from 40 on, a node area that is zero, and the second sensor. */
 static void prepare(void)
 {
     memset(memory, 0, sizeof memory);
     memory[3] = memory[5] = memory[43] = memory[45] = 1;
     memory[11] = 40;
+    memcpy(inventory + 17, inventory, 14);
+    inventory[17] = (12 + DRAUGSTEN_CODE_LIMIT) % 256;
+    inventory[18] = (12 + DRAUGSTEN_CODE_LIMIT) / 256;
+    memset(inventory + 17 + 14, 'U', DRAUGSTEN_CODE_LIMIT);
 }
 
 int main(void)
@@ -146,7 +156,7 @@ int main(void)
     measure("draugsten_call", calling, DRAUGSTEN_STACK_CALL);
     measure("draugsten_read_nodes", reading_nodes, DRAUGSTEN_STACK_READ_NODES);
     measure("draugsten_read_indices", reading_indices, DRAUGSTEN_STACK_READ_INDICES);
-    if (answer.registration.length != 80 || node_reading.entries != 3 || index_reading.entries != 1) {
+    if (answer.registration.length != 80 || node_reading.entries != 3 || index_reading.entries != 2) {
         puts("stack: a call or a reading did not do its work");
         faults++;
     }

@@ -1,5 +1,10 @@
 //! Argument buffers: big-endian words, token, number of inputs, number of outputs, the inputs, the outputs.
 
+use crate::FIELD_LIMIT;
+
+/// An index area of so many bytes or more holds any entry that is due: the count, an index, a length and a code.
+pub const SUFFICIENT_SIZE: u32 = 4 + 4 + 4 + FIELD_LIMIT as u32;
+
 /// What an index list is of.
 #[derive(Clone, Copy, PartialEq, Eq, Debug)]
 pub enum Flag {
@@ -18,7 +23,7 @@ pub struct IndexRequest {
     pub type_number: u32,
     /// Where the work area starts in memory.
     pub address: u32,
-    /// The work area's bytes. 92 hold any entry that is due.
+    /// The work area's bytes. [`SUFFICIENT_SIZE`] hold any entry that is due.
     pub size: u32,
     /// The first entry asked for, counted from 1.
     pub starting_number: u32,

@@ -27,5 +27,5 @@ mod reading;
 mod registration;
 
 pub use calling::{call, Answer, Fault};
-pub use reading::{read_indices, read_nodes, read_state, Entry, Operation, Reason, Refusal};
+pub use reading::{read_indices, read_nodes, read_state, Entry, Operation, Reason, Refusal, CODE_LIMIT, FIELD_LIMIT};
 pub use registration::{Phase, Registration, STRUCTURE_LIMIT};

@@ -6,6 +6,12 @@ use std::fmt;
 /// No area has more operations.
 const OPERATIONS_LIMIT: usize = 1018;
 
+/// The bytes of a location code, without NULs, at the most.
+pub const CODE_LIMIT: usize = 1023;
+
+/// The bytes of the longest code with its NULs, as an index area has it.
+pub const FIELD_LIMIT: usize = 4 * (CODE_LIMIT / 4 + 1);
+
 /// One operation of a node area.
 #[derive(Clone, Copy, PartialEq, Eq, Debug)]
 pub enum Operation {
@@ -68,7 +74,7 @@ pub enum Reason {
     NoCount = 30,
     /// A set past the end.
     SetPastEnd = 31,
-    /// A length that is zero, above 80 or no multiple of 4.
+    /// A length that is zero, above [`FIELD_LIMIT`] or no multiple of 4.
     CodeLength = 32,
     /// Not a code, then one to four NULs, then nothing else.
     Code = 33,

@@ -1,6 +1,6 @@
 //! Every number that the header names has a name in the crate.
 
-use draugsten::{Answer, Fault, Phase, Reason};
+use draugsten::{args, Answer, Fault, Phase, Reason, CODE_LIMIT, FIELD_LIMIT, STRUCTURE_LIMIT};
 
 const HEADER: &str = include_str!("../../../include/draugsten.h");
 
@@ -17,6 +17,14 @@ fn number(text: &str) -> Option<i32> {
         Some(word) => u32::from_str_radix(word.strip_suffix('u')?, 16).ok().map(|word| word as i32),
         None => text.parse().ok(),
     }
+}
+
+#[test]
+fn limits() {
+    assert_eq!(numbers("DRAUGSTEN_CODE_LIMIT"), [("", CODE_LIMIT as i32)]);
+    assert_eq!(numbers("DRAUGSTEN_STRUCTURE_LIMIT"), [("", STRUCTURE_LIMIT as i32)]);
+    // The header makes these of the code's limit.
+    assert_eq!((FIELD_LIMIT, args::SUFFICIENT_SIZE), (1024, 1036));
 }
 
 #[test]
