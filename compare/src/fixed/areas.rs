@@ -154,10 +154,12 @@ fn node_ends() -> Vec<AreaReading> {
     ]
 }
 
+/// One set of index 7, with this length, so many letters and so many NULs.
+fn one_set(length: u32, letters: usize, nuls: usize) -> Vec<u8> {
+    [words(&[1, 7, length]), vec![b'L'; letters], vec![0; nuls]].concat()
+}
+
 fn index_readings() -> Vec<AreaReading> {
-    let mut longest = b"\0\0\0\x01\0\0\0\x07\0\0\0\x50".to_vec();
-    longest.extend([b'L'; 79]);
-    longest.push(0);
     vec![
         indices("count 0", b"\0\0\0\0", &[]),
         indices("count 0, more bytes", b"\0\0\0\0\xff\xff\xff", &[]),
@@ -168,30 +170,34 @@ fn index_readings() -> Vec<AreaReading> {
             b"\0\0\0\x02\0\0\0\x05\0\0\0\x04a\0\0\0\0\0\0\x06\0\0\0\x08abcde\0\0\0",
             &[[5, 12, 1], [6, 24, 5]],
         ),
-        indices("79 bytes", &longest, &[[7, 12, 79]]),
+        indices("79 bytes", &one_set(80, 79, 1), &[[7, 12, 79]]),
+        indices("80 bytes", &one_set(84, 80, 4), &[[7, 12, 80]]),
+        indices("1,019 bytes", &one_set(1020, 1019, 1), &[[7, 12, 1019]]),
+        indices("1,020 bytes", &one_set(1024, 1020, 4), &[[7, 12, 1020]]),
+        indices("1,022 bytes", &one_set(1024, 1022, 2), &[[7, 12, 1022]]),
+        indices("1,023 bytes", &one_set(1024, 1023, 1), &[[7, 12, 1023]]),
     ]
 }
 
 fn index_refusals() -> Vec<AreaReading> {
-    let mut length_80 = b"\0\0\0\x01\0\0\0\x07\0\0\0\x50".to_vec();
-    length_80.extend([b'L'; 79]);
-    let mut length_84 = b"\0\0\0\x01\0\0\0\x07\0\0\0\x54".to_vec();
-    length_84.extend([b'L'; 83]);
-    let cut_84 = length_84.clone();
-    length_84.push(0);
     vec![
         indices_refused("no bytes", b"", 30, 0),
         indices_refused("3 bytes", b"\0\0\0", 30, 0),
         indices_refused("count 1, no set", b"\0\0\0\x01", 31, 4),
         indices_refused("7 bytes left", b"\0\0\0\x01\0\0\0\x07\0\0\0", 31, 4),
         indices_refused("length 4, 3 bytes left", b"\0\0\0\x01\0\0\0\x07\0\0\0\x04abc", 31, 4),
-        indices_refused("length 80, 79 bytes left", &length_80, 31, 4),
-        indices_refused("length 84", &length_84, 32, 4),
-        indices_refused("length 84, 83 bytes left", &cut_84, 32, 4),
+        indices_refused("length 1,024, 1,023 bytes left", &one_set(1024, 1023, 0), 31, 4),
+        indices_refused("length 1,024, no byte left", &one_set(1024, 0, 0), 31, 4),
+        indices_refused("length 1,028", &one_set(1028, 1027, 1), 32, 4),
+        indices_refused("length 1,028, 1,023 bytes and five NULs", &one_set(1028, 1023, 5), 32, 4),
+        indices_refused("length 1,028, 1,027 bytes left", &one_set(1028, 1027, 0), 32, 4),
+        indices_refused("length 1,023", &one_set(1023, 1022, 1), 32, 4),
         indices_refused("length 0", b"\0\0\0\x01\0\0\0\x07\0\0\0\0abc\0", 32, 4),
         indices_refused("length 3", b"\0\0\0\x01\0\0\0\x07\0\0\0\x03ab\0\0", 32, 4),
         indices_refused("length 0x80000004", b"\0\0\0\x01\0\0\0\x07\x80\0\0\x04abc\0", 32, 4),
         indices_refused("empty code", b"\0\0\0\x01\0\0\0\x07\0\0\0\x04\0\0\0\0", 33, 4),
+        indices_refused("1,024 bytes, no NUL", &one_set(1024, 1024, 0), 33, 4),
+        indices_refused("1,019 bytes, five NULs", &one_set(1024, 1019, 5), 33, 4),
         indices_refused("no NUL", b"\0\0\0\x01\0\0\0\x07\0\0\0\x04abcd", 33, 4),
         indices_refused("a byte behind a NUL", b"\0\0\0\x01\0\0\0\x07\0\0\0\x08ab\0d\0\0\0\0", 33, 4),
         indices_refused("five NULs", b"\0\0\0\x01\0\0\0\x07\0\0\0\x08abc\0\0\0\0\0", 33, 4),

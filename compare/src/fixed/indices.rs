@@ -1,16 +1,14 @@
 //! The readings of get-indices.
 
 use super::{CallReading, NONE};
-use crate::buffers::{arguments, inventory_record};
+use crate::buffers::{arguments, inventory_record, words};
 use crate::case::CallCase;
 
-const LONGEST: [u8; 79] = [b'L'; 79];
-
-/// A call over 100 bytes of memory that are 0xee; the area stands at byte 3.
+/// A call over 1,100 bytes of memory that are 0xee; the area stands at byte 3.
 fn call(inventory: &[u8], flag: u32, kind: u32, size: u32, start: u32) -> CallCase {
     CallCase {
         args: arguments(2, &[flag, kind, 3, size, start], &[0x5555_5555, 0x6666_6666]),
-        memory: vec![0xee; 100],
+        memory: vec![0xee; MEMORY],
         journal: Vec::new(),
         inventory: inventory.to_vec(),
         registration: NONE,
@@ -34,6 +32,9 @@ fn two() -> Vec<u8> {
     ]
     .concat()
 }
+
+/// The bytes of memory.
+const MEMORY: usize = 1100;
 
 const THREE_BYTES: &[u8] = b"\0\0\0\x01\x01\x02\x03\x04\0\0\0\x04abc\0";
 const FOUR_BYTES: &[u8] = b"\0\0\0\x01\xff\xff\xff\xff\0\0\0\x08abcd\0\0\0\0";
@@ -71,15 +72,24 @@ fn starts() -> Vec<CallReading> {
     ]
 }
 
-/// "Areas of 92 bytes or more always hold the entry due."
+/// "Areas of 92 bytes or more always hold the entry due." M-113: "the size that always holds the entry due (1,036)".
 fn longest() -> Vec<CallReading> {
-    let inventory = inventory_record(0, 9000, 7, &LONGEST);
-    let mut area = b"\0\0\0\x01\0\0\0\x07\0\0\0\x50".to_vec();
-    area.extend(LONGEST);
-    area.push(0);
+    let code = [b'L'; 1023];
+    let of = |length: usize| inventory_record(0, 9000, 7, &code[..length]);
+    let area =
+        |length: usize, field: u32, nuls: usize| [&words(&[1, 7, field])[..], &code[..length], &vec![0; nuls]].concat();
+    let two = [of(1023), inventory_record(0, 9000, 7, b"abc")].concat();
+    let longest = area(1023, 1024, 1);
     vec![
-        answered("79 bytes, size 92", call(&inventory, 0, 9000, 92, 1), 0, 1, &area),
-        refused("79 bytes, size 91", call(&inventory, 0, 9000, 91, 1), -3),
+        answered("79 bytes, size 92", call(&of(79), 0, 9000, 92, 1), 0, 1, &area(79, 80, 1)),
+        refused("79 bytes, size 91", call(&of(79), 0, 9000, 91, 1), -3),
+        answered("80 bytes, size 96", call(&of(80), 0, 9000, 96, 1), 0, 1, &area(80, 84, 4)),
+        refused("80 bytes, size 95", call(&of(80), 0, 9000, 95, 1), -3),
+        answered("1,020 bytes, size 1,036", call(&of(1020), 0, 9000, 1036, 1), 0, 1, &area(1020, 1024, 4)),
+        refused("1,020 bytes, size 1,035", call(&of(1020), 0, 9000, 1035, 1), -3),
+        answered("1,023 bytes, size 1,036", call(&of(1023), 0, 9000, 1036, 1), 0, 1, &longest),
+        refused("1,023 bytes, size 1,035", call(&of(1023), 0, 9000, 1035, 1), -3),
+        answered("1,023 and 3 bytes, size 1,047", call(&two, 0, 9000, 1047, 1), 1, 2, &longest),
     ]
 }
 
@@ -129,8 +139,8 @@ fn places() -> Vec<CallReading> {
         case
     };
     vec![
-        CallReading::new("area where memory ends", at(84, 16)).outputs(&[1, 2]).writes(84, THREE_BYTES),
-        refused("area one byte past memory", at(85, 16), -3),
+        CallReading::new("area where memory ends", at(1084, 16)).outputs(&[1, 2]).writes(1084, THREE_BYTES),
+        refused("area one byte past memory", at(1085, 16), -3),
         refused("address + size = 2^32", at(0xffff_fff0, 16), -3),
         refused("address + size wraps to 4", at(0xffff_fff4, 16), -3),
         refused("size 0xffffffff", at(1, 0xffff_ffff), -3),
@@ -148,8 +158,17 @@ fn records() -> Vec<CallReading> {
     vec![
         judged("a code of no bytes", inventory_record(1, 9, 1, b"")),
         good("a code of 1 byte", inventory_record(1, 9, 1, b"a")),
-        good("a code of 79 bytes", inventory_record(1, 9, 1, &LONGEST)),
-        judged("a code of 80 bytes", inventory_record(1, 9, 1, &[b'x'; 80])),
+        good("a code of 79 bytes", inventory_record(1, 9, 1, &[b'x'; 79])),
+        good("a code of 80 bytes", inventory_record(1, 9, 1, &[b'x'; 80])),
+        good("a code of 256 bytes", inventory_record(1, 9, 1, &[b'x'; 256])),
+        good("a code of 1,023 bytes", inventory_record(1, 9, 1, &[b'x'; 1023])),
+        judged("a code of 1,024 bytes", inventory_record(1, 9, 1, &[b'x'; 1024])),
+        judged("a code of 1,023 bytes, the last a NUL", inventory_record(1, 9, 1, &[&[b'x'; 1022][..], &[0]].concat())),
+        judged(
+            "a code of 1,023 bytes, the first a NUL",
+            inventory_record(1, 9, 1, &[&[0], &[b'x'; 1022][..]].concat()),
+        ),
+        judged("a code of 1,023 NULs", inventory_record(1, 9, 1, &[0; 1023])),
         judged("a NUL in a code", inventory_record(1, 9, 1, b"a\0b")),
         judged("a NUL behind a code", inventory_record(1, 9, 1, b"ab\0")),
         judged("flag 2 in a record", inventory_record(2, 9, 1, b"a")),

@@ -1,5 +1,6 @@
 //! Damage to journals and inventories.
 
+use super::inventories::{self, LONGEST};
 use crate::buffers::{inventory_record, journal_record, record, record_places, unit_record};
 use crate::random::Random;
 
@@ -27,13 +28,14 @@ fn bad_journal_record(random: &mut Random) -> Vec<u8> {
 
 /// An inventory record, whole by its length, that breaks one rule.
 fn bad_inventory_record(random: &mut Random) -> Vec<u8> {
-    let mut code = vec![b'a'; random.between(1, 79)];
+    let mut code = inventories::code(random);
     let body = [1, 0, 1, 2, 3, 4, 5, 6, 7, 8, 9, 10, 11, 12];
     match random.below(6) {
         0 => inventory_record(0, 9000, 7, &[]),
-        1 => inventory_record(0, 9000, 7, &vec![b'a'; random.pick(&[80, 80, 81, 84, 256])]),
+        1 => inventory_record(0, 9000, 7, &vec![b'a'; LONGEST + random.pick(&[1, 1, 1, 2, 5, 1025])]),
         2 => {
-            let nul = random.pick(&[0, code.len() / 2, code.len() - 1]);
+            let anywhere = random.below(code.len());
+            let nul = random.pick(&[0, anywhere, code.len() - 1]);
             code[nul] = 0;
             inventory_record(1, 9000, 7, &code)
         }
@@ -68,7 +70,7 @@ fn other_number(random: &mut Random, old: u16) -> u16 {
         1 => old.wrapping_sub(1),
         2 => old ^ (1 << random.below(16)),
         3 => old ^ 0x0100,
-        4 => random.pick(&[0, 1, 2, 3, 4, 5, 8, 12, 13, 15, 16, 91, 92, 0x0101, 0xff, 0xffff]),
+        4 => random.pick(&[0, 1, 2, 3, 4, 5, 8, 12, 13, 15, 16, 91, 92, 1035, 1036, 0x0101, 0xff, 0xffff]),
         _ => random.next() as u16,
     }
 }

@@ -1,6 +1,6 @@
 //! Index areas for the reader.
 
-use super::inventories;
+use super::inventories::{self, AMPLE, FIELD, LONGEST};
 use crate::buffers::{arguments, put_word, words};
 use crate::case::ReadCase;
 use crate::paper;
@@ -23,7 +23,7 @@ pub fn case(random: &mut Random) -> ReadCase {
 fn written(random: &mut Random) -> Vec<u8> {
     let entries = random.between(1, 12);
     let stock = inventories::stock(random, 0, 9000, entries);
-    let mut area = vec![0; random.between(92, 1200)];
+    let mut area = vec![0; random.between(AMPLE, 2500)];
     random.fill(&mut area);
     let size = area.len() as u32;
     let registration = paper::Registration { phase: paper::Phase::None, length: 0, copy: [0; 512] };
@@ -39,13 +39,12 @@ fn field(random: &mut Random) -> Vec<u8> {
     match random.below(16) {
         0 => field.clear(),
         1 => field.resize(padded, b'x'),
-        2 => field.resize((padded + 4).min(80), 0),
+        2 => field.resize((padded + 4).min(FIELD), 0),
         3 => {
             field.resize(padded, 0);
             field[padded - 1] = random.nonzero_byte();
         }
-        4 => field.resize(84, random.pick(&[0, b'x'])),
-        5 => field.resize(80, b'x'),
+        4 => long_field(random, &mut field),
         _ => field.resize(padded, 0),
     }
     if field.is_empty() {
@@ -54,12 +53,23 @@ fn field(random: &mut Random) -> Vec<u8> {
     field
 }
 
+/// A field at the limit: the longest code, none that ends, or one word too many, whole or cut off.
+fn long_field(random: &mut Random, field: &mut Vec<u8>) {
+    let letters = random.pick(&[LONGEST - 4, LONGEST - 3, LONGEST, LONGEST, FIELD, FIELD + 3]);
+    field.resize(letters, b'x');
+    field.resize(random.pick(&[FIELD, FIELD, FIELD + 4]), 0);
+    if random.one_in(3) {
+        field.pop();
+    }
+}
+
 fn length_word(random: &mut Random, field: usize) -> u32 {
     match random.below(20) {
-        0 => random.pick(&[0, 1, 2, 3, 6, 79, 81, 82, 84, 88]),
-        1 => random.pick(&[80, 84, 0x8000_0004, 0xffff_fffc, 0x100, 0x0400_0000]),
+        0 => random.pick(&[0, 1, 2, 3, 6, 79, 81, 82, 1022, 1023, 1025, 1026, 1028, 1032]),
+        1 => random.pick(&[80, 84, 1024, 1028, 0x8000_0004, 0xffff_fffc, 0x100, 0x0400_0000]),
         2 => field as u32 + random.pick(&[4, 8]),
-        _ => field as u32,
+        // A field that is cut off has the length that it would have.
+        _ => field.next_multiple_of(4) as u32,
     }
 }
 

@@ -1,6 +1,6 @@
 //! Calls of get-indices.
 
-use super::inventories::{self, Stock};
+use super::inventories::{self, Stock, AMPLE};
 use super::{arguments, damage, faults, memories, registrations};
 use crate::case::CallCase;
 use crate::random::Random;
@@ -73,10 +73,10 @@ pub fn size(random: &mut Random, stock: &Stock, start: u32) -> u32 {
         4 | 5 => exact - 1,
         6 => exact + random.between(1, 12),
         7 => random.pick(&[4, 5, 8, 11, 12, 15, 16, 17, 19, 20]),
-        8 => random.pick(&[91, 92, 93]),
+        8 => random.pick(&[91, 92, 93, AMPLE - 1, AMPLE, AMPLE + 1]),
         9 => random.between(4, 300),
         10 => random.between(4, 6000),
-        _ => 92,
+        _ => AMPLE,
     };
     size as u32
 }

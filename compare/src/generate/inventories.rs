@@ -3,12 +3,34 @@
 use crate::buffers::inventory_record;
 use crate::random::Random;
 
-/// The codes' lengths that stand on both sides of a multiple of 4, the least and the longest.
-const LENGTHS: [usize; 16] = [1, 2, 3, 3, 4, 4, 5, 7, 8, 11, 12, 75, 76, 77, 78, 79];
+/// The most bytes of a code.
+pub const LONGEST: usize = 1023;
+/// The bytes of the longest code with its NULs.
+pub const FIELD: usize = LONGEST + 1;
+/// An area of so many bytes always holds the entry due.
+pub const AMPLE: usize = 4 + 8 + FIELD;
+
+/// Lengths of short codes, on both sides of a multiple of 4 and of the limit that was.
+const SHORT: [usize; 18] = [1, 2, 3, 3, 4, 4, 5, 7, 8, 11, 12, 75, 76, 77, 78, 79, 80, 81];
+/// Lengths of long codes: the longest, and those on both sides of a multiple of 256.
+const LONG: [usize; 12] = [1020, 1021, 1022, 1022, 1023, 1023, 1023, 254, 255, 256, 511, 512];
+
+/// The length of a code: most are short.
+fn length(random: &mut Random) -> usize {
+    match random.below(24) {
+        0 => random.pick(&LONG),
+        1 => random.between(80, LONGEST),
+        2..=8 => random.between(1, 79),
+        _ => random.pick(&SHORT),
+    }
+}
 
 pub fn code(random: &mut Random) -> Vec<u8> {
-    let length = if random.one_in(3) { random.between(1, 79) } else { random.pick(&LENGTHS) };
-    let mut code: Vec<u8> = (0..length).map(|_| random.nonzero_byte()).collect();
+    let mut code = vec![0; length(random)];
+    random.fill(&mut code);
+    for byte in &mut code {
+        *byte = (*byte).max(1);
+    }
     if random.one_in(4) {
         code.fill(b'U');
     }
@@ -71,14 +93,15 @@ fn other_record(random: &mut Random, flag: u32, asked: u32, code: &[u8]) -> Vec<
 /// 1,048,576 bytes of records, or one byte or one record more.
 pub fn full_stock(random: &mut Random, flag: u32, asked: u32) -> Stock {
     let limit = 1_048_576 + random.pick(&[0, 0, 0, 1, 14]);
+    let longest = random.pick(&[79, LONGEST]);
     let mut stock = Stock { bytes: Vec::with_capacity(limit), codes: Vec::new() };
     while stock.bytes.len() < limit {
         let left = limit - stock.bytes.len();
         // A record takes 14 bytes and its code; what is left is never 1 to 14 bytes.
-        let most = (left - 14).min(79);
+        let most = (left - 14).min(longest);
         let mut length = random.between(1, most);
         if left - 14 - length > 0 && left - 14 - length < 15 {
-            length = if left - 14 <= 79 { left - 14 } else { 1 };
+            length = if left - 14 <= longest { left - 14 } else { 1 };
         }
         let code: Vec<u8> = vec![random.nonzero_byte(); length];
         let kind = if random.one_in(3) { asked ^ 1 } else { asked };

@@ -109,14 +109,15 @@ pub fn read_indices(area: &[u8]) -> Result<Vec<Index>, Refused> {
 }
 
 /// One set and the length of its code with the NULs. "31 under 8 bytes left; 32 length zero, above 80 or no multiple of
-/// 4; 31 code past the end; 33 not a non-empty code followed by one to four NULs and nothing else."
+/// 4; 31 code past the end; 33 not a non-empty code followed by one to four NULs and nothing else." M-113: "Raise the
+/// limit in .. the reader (refusal 32 above 1,024)".
 fn read_set(area: &[u8], at: usize) -> Result<(Index, usize), Refused> {
     let left = area.len() - at;
     if left < 8 {
         return refused_at(31, at);
     }
     let field = word(area, at + 4) as usize;
-    if field == 0 || field > 80 || !field.is_multiple_of(4) {
+    if field == 0 || field > 1_024 || !field.is_multiple_of(4) {
         return refused_at(32, at);
     }
     if field > left - 8 {

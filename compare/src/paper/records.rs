@@ -98,13 +98,16 @@ fn node_types(kind: u64) -> RangeInclusive<u64> {
     }
 }
 
+/// M-113: "codes up to 1,023 bytes".
+const LONGEST_CODE: u64 = 1_023;
+
 /// "kind 16 holds two bytes (0 indicator, 1 sensor), a four-byte type, a four-byte index and a location code of 1 to
-/// 79 non-zero bytes; length 12 plus the code."
+/// 79 non-zero bytes; length 12 plus the code." M-113: "Raise the limit in the inventory".
 fn entry<'a>(record: &Record<'a>) -> Result<Entry<'a>, Malformed> {
     if record.kind != 16 {
         return Err("malformed: kind");
     }
-    if !(12 + 1..=12 + 79).contains(&record.length) {
+    if !(12 + 1..=12 + LONGEST_CODE).contains(&record.length) {
         return Err("malformed: length");
     }
     let flag = little(&record.body[0..2]);

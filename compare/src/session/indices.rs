@@ -3,7 +3,7 @@
 use super::{judge_list, Run};
 use crate::buffers::{arguments, put_word, word_at};
 use crate::case::CallCase;
-use crate::generate;
+use crate::generate::{self, inventories};
 use crate::paper::{get_indices, records};
 use crate::random::Random;
 
@@ -65,7 +65,7 @@ pub fn run(run: &mut Run, flag: u32, kind: u32) -> Result<u64, String> {
 fn place(random: &mut Random, memory: usize, due: u32) -> (u32, u32) {
     let size = match random.below(4) {
         0 => 4 + due,
-        1 => 92,
+        1 => inventories::AMPLE as u32,
         _ => 4 + due + random.below(300) as u32,
     };
     (random.between(0, memory - size as usize) as u32, size)

@@ -1,1 +1,0 @@
-s/if field == 0 || field > 80 ||/if field == 0 || field > 84 ||/
