@@ -160,9 +160,10 @@ fn read_nodes_with(side: &Side, scope: u32, area: &[u8], room: usize) -> (u32, V
 pub fn read_indices(area: &[u8], room: usize) {
     assert_eq!(same("reading", |side| read_indices_with(side, area, room)).0, 0);
     same("reading", |side| read_indices_with(side, area, room / 2));
-    for (at, byte) in [(1, 1), (11, 81), (11, 84), (12, 0)] {
+    // The count, a length of 1,025, of 1,028 and of no multiple of 4, and the code.
+    for (at, bytes) in [(1, &[1][..]), (10, &[4, 1]), (10, &[4, 4]), (11, &[81]), (12, &[0])] {
         let mut changed = area.to_vec();
-        changed[at] = byte;
+        changed[at..at + bytes.len()].copy_from_slice(bytes);
         let reading = same("changed", |side| read_indices_with(side, &changed, room));
         assert_ne!(reading.0, 0);
     }

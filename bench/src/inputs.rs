@@ -2,6 +2,7 @@
 
 use crate::interface::{Asked, Wanted, LIMIT, SIDES};
 use crate::partition::Partition;
+use crate::report::grouped;
 use crate::{inventory, journal};
 
 /// The scope that is asked for where no other is named.
@@ -43,13 +44,13 @@ pub fn inputs() -> Inputs {
         ("four kinds, scope 1", journal::four_kinds(LIMIT), SCOPE_1),
         ("four kinds, scope 3", journal::four_kinds(LIMIT), SCOPE_3),
     ];
-    let inventories: Vec<_> = [(79, 1), (79, 16), (20, 1), (8, 1)].map(full_inventory).into();
+    let inventories: Vec<_> = [(1023, 1), (79, 1), (79, 16), (20, 1), (8, 1)].map(full_inventory).into();
     let listings = [(79, 2), (8, 16), (8, 2)].map(full_inventory).into();
     let node_areas = vec![
         ("deletes", node_area(&journal::uniform(LIMIT))),
         ("all three opcodes", node_area(&journal::mixed(14_000))),
     ];
-    let index_areas = [&inventories[0], &inventories[3]].map(|(name, bytes, asked)| {
+    let index_areas = [&inventories[0], &inventories[1], &inventories[4]].map(|(name, bytes, asked)| {
         let mut partition = Partition::of_inventory(bytes, *asked);
         partition.answered_call(&SIDES[0], asked.number);
         (name.clone(), partition.area().to_vec())
@@ -64,7 +65,7 @@ fn full_inventory((length, kinds): (usize, u32)) -> Inventory {
     let mut asked = Asked { flag: u32::from(inventory::FLAG), kind: kinds, number: 1 };
     asked.number = (SIDES[0].scan_inventory)(&inventory, asked) as u32 / 2;
     let types = if kinds == 1 { "type" } else { "types" };
-    (format!("{length}-byte codes, {kinds} {types}"), inventory, asked)
+    (format!("{}-byte codes, {kinds} {types}", grouped(length as u64)), inventory, asked)
 }
 
 /// The area that the first call over a journal fills.

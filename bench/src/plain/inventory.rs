@@ -3,16 +3,20 @@
 use super::words::{le16, le32};
 use crate::interface::{Asked, Judged, LIMIT, MALFORMED};
 
+/// The bytes of a record's head, which the code follows, and of the longest code.
+const HEAD: usize = 14;
+pub const CODE_LIMIT: usize = 1023;
+
 /// The size of the record that the bytes begin with, if it is a good one.
 fn good_size(rest: &[u8]) -> Option<usize> {
-    if rest.len() < 15 {
+    if rest.len() < HEAD + 1 {
         return None;
     }
     let size = 2 + usize::from(le16(rest, 0));
-    if !(15..=93).contains(&size) || rest.len() < size {
+    if !(HEAD + 1..=HEAD + CODE_LIMIT).contains(&size) || rest.len() < size {
         return None;
     }
-    if le16(rest, 2) != 16 || le16(rest, 4) > 1 || rest[14..size].contains(&0) {
+    if le16(rest, 2) != 16 || le16(rest, 4) > 1 || rest[HEAD..size].contains(&0) {
         return None;
     }
     Some(size)

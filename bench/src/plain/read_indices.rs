@@ -1,7 +1,11 @@
 //! Reading an index work area.
 
+use super::inventory::CODE_LIMIT;
 use super::words::be32;
 use crate::interface::IndexReading;
+
+/// The bytes of the longest code with its NULs.
+const FIELD_LIMIT: usize = 4 * (CODE_LIMIT / 4 + 1);
 
 /// A refusal and its offset.
 type Refused = (u32, usize);
@@ -44,7 +48,7 @@ fn entry_at(area: &[u8], at: usize) -> Result<(Entry, usize), Refused> {
         return Err((31, at));
     }
     let length = be32(rest, 4) as usize;
-    if length == 0 || length > 80 || !length.is_multiple_of(4) {
+    if length == 0 || length > FIELD_LIMIT || !length.is_multiple_of(4) {
         return Err((32, at));
     }
     let code = rest.get(8..8 + length).ok_or((31, at))?;

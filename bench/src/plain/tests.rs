@@ -43,10 +43,20 @@ fn journal(random: &mut Xorshift) -> Vec<u8> {
     journal
 }
 
+/// Mostly that of a short code; once in a while one that is too long.
+fn code_length(random: &mut Xorshift) -> u16 {
+    match random.below(1000) {
+        0 => 1024,
+        1..=20 => 1020 + random.below(4),
+        21..=60 => 1 + random.below(1023),
+        _ => 1 + random.below(79),
+    }
+}
+
 fn inventory(random: &mut Xorshift) -> Vec<u8> {
     let mut inventory = Vec::new();
     for _ in 0..random.below(200) {
-        let code = 1 + random.below(79);
+        let code = code_length(random);
         [12 + code, 16, random.below(2)].iter().for_each(|half| inventory.extend(half.to_le_bytes()));
         inventory.extend(pick(random, &[1u32, 2]).to_le_bytes());
         inventory.extend((random.next() as u32).to_le_bytes());
@@ -62,7 +72,7 @@ fn arguments(random: &mut Xorshift) -> Vec<u8> {
     let words = if random.below(2) == 0 {
         vec![1, 2, 1, at, pick(random, &[1, 1, 2, 3, 3, 4, u32::MAX]), 7]
     } else {
-        let size = pick(random, &[4096, 4096, 100, 92, 15, 3, u32::MAX]);
+        let size = pick(random, &[4096, 4096, 1036, 1035, 100, 92, 15, 3, u32::MAX]);
         let number = pick(random, &[0, 1, 1, 2, 20, 1000]);
         vec![2, 5, 2, random.below(2).into(), pick(random, &[1, 2, 1, 2, 9002, 9003]), at, size, number, 7, 7]
     };

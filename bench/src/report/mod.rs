@@ -72,7 +72,7 @@ pub fn write(folder: &Path, measured: &Measured) -> io::Result<()> {
 }
 
 /// A number with its digits in groups of three.
-fn grouped(number: u64) -> String {
+pub fn grouped(number: u64) -> String {
     let digits = number.to_string();
     let mut text = String::new();
     for (place, digit) in digits.chars().enumerate() {
