@@ -106,6 +106,10 @@ fn bad_length(facts: &Facts, length: u64) -> bool {
     facts.rule == RULES[9] && facts.bad_record == Some((16, length))
 }
 
+fn bad_long_code(facts: &Facts) -> bool {
+    facts.rule == RULES[11] && facts.bad_record.is_some_and(|record| record.1 > 12 + 255)
+}
+
 fn bad_kind(facts: &Facts, kind: u64) -> bool {
     facts.rule == RULES[8] && facts.bad_record.is_some_and(|record| record.0 == kind)
 }
@@ -150,6 +154,7 @@ pub const LINES: &[Line<Facts>] = &[
     ("inventory refused, kind 17", |f| bad_kind(f, 17)),
     ("inventory refused, flag 2", |f| bad_flag(f, 2)),
     ("inventory refused, flag 0x100", |f| bad_flag(f, 0x100)),
+    ("inventory refused, NUL in a code of over 255 bytes", bad_long_code),
     ("inventory empty", |f| f.inventory_bytes == 0),
     ("inventory of 1,048,576 bytes, good", |f| f.inventory_bytes == 1_048_576 && f.inventory_good),
     ("inventory of 1,048,577 bytes", |f| f.inventory_bytes == 1_048_577),

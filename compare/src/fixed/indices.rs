@@ -168,6 +168,7 @@ fn records() -> Vec<CallReading> {
             "a code of 1,023 bytes, the first a NUL",
             inventory_record(1, 9, 1, &[&[0], &[b'x'; 1022][..]].concat()),
         ),
+        judged("a code of 256 NULs", inventory_record(1, 9, 1, &[0; 256])),
         judged("a code of 1,023 NULs", inventory_record(1, 9, 1, &[0; 1023])),
         judged("a NUL in a code", inventory_record(1, 9, 1, b"a\0b")),
         judged("a NUL behind a code", inventory_record(1, 9, 1, b"ab\0")),
