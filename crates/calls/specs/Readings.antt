@@ -289,7 +289,8 @@ cases =
     ∷ noIndices (4 ∷ 3 ∷ []) 1 9 0 19 1 (minus 3)
     ∷ sensors (1 ∷ 2 ∷ 3 ∷ 4 ∷ 5 ∷ 6 ∷ 7 ∷ 8 ∷ []) 0 123 1 1 7 8
     ∷ sensors (1 ∷ 2 ∷ 3 ∷ 4 ∷ 5 ∷ 6 ∷ 7 ∷ 8 ∷ []) 0 124 1 0 8 1
-    -- 02, M-113: "codes up to 1,023 bytes", "the size that always holds the entry due (1,036)"
+    -- 02, M-113: "codes up to 1,023 bytes", "the entry size's stated bound (now 1,032 bytes)", "the size that always holds the entry due (1,036)"
+    ∷ eqb (takes 1023) 1032
     ∷ sensorsOver 1048 (1023 ∷ 1 ∷ []) 0 1036 1 1 1 2
     ∷ noIndicesOver 1048 (1023 ∷ 1 ∷ []) 1 9 0 1035 1 (minus 3)
     ∷ sensorsOver 1048 (1023 ∷ 1 ∷ []) 0 1048 1 0 2 1

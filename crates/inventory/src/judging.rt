@@ -64,8 +64,8 @@ fn are_both_non_zero(s: &[u8], from: usize, middle: usize, back: usize, to: usiz
     are_non_zero(s, back, to)
 }
 
-// Whether a code, from one place up to another, has no NUL. It is looked at in blocks of one size, of which the last may overlap the
-// one before it, so that no byte is looked at alone: the size is a constant for each range of lengths, and a block then one step.
+// Whether a code, from one place up to another, has no NUL. A code of four bytes or more is looked at in blocks of one size, of which
+// the last may overlap the one before it. The size is a constant for each range of lengths, so that a block is one step.
 fn is_code(s: &[u8], from: usize, to: usize) -> bool
     requires { ⌜ (from ≤ to) × (to ≤ length (now s)) ⌝ }
     ensures { λ r. ⌜ r ≡ nonZero (slice from to (now (s .entry))) ⌝ }
