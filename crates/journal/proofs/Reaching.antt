@@ -1,19 +1,18 @@
--- A scan going on: past a record, past four of the same header, at a bad record, at the end.
+-- A scan going on: past a record, past two of kind 4, past four of the same header, at a bad record, at the end.
 use mathlib.Core.Path.{_≡_, refl, sym, ap, _∙_}
 use mathlib.Core.Bool.{true, false, cond}
 use mathlib.Core.List.{List}
 use Prim.Native.Nat.{ℕ, _+_, _*_, _/_, _%_, _<_, _≤_}
-use native.Mathlib.Nat.{div-one, div-div-eq-div-mul, mod-eq-of-lt}
+use native.Mathlib.Nat.{div-one, div-div-eq-div-mul, mod-eq-of-lt, mul-add}
 use native.Mathlib.Omega.{arith}
-use lib.Dec.{eqb}
-use lib.ListN.{length, drop}
+use lib.ListN.{length, getD, drop}
 use Rattle.words.specs.Numbers.{le}
 use Rattle.records.specs.Records.{records, allGood, sizeLimit}
 use Rattle.records.proofs.Choosing.{before-step, before-none, before-all}
 use Rattle.records.proofs.Steps.{good-step, bad-step, none-good, formed, not-formed}
-use Rattle.journal.specs.Scope.{Selection, asking}
-use Rattle.journal.specs.declared.scope.Units.the-variants.{One}
+use Rattle.journal.specs.Scope.{Selection}
 use Rattle.journal.specs.declared.scanning.Judgement.the-variants.{Malformed, Counted}
+use Rattle.journal.specs.declared.judging.Shape.{Shape}
 use Rattle.journal.specs.declared.stride.Position.{Position}
 use Rattle.journal.specs.declared.stride.Same.{Same}
 use Rattle.journal.specs.declared.stride.Step.{Step}
@@ -21,10 +20,11 @@ use Rattle.journal.specs.declared.stride.Step.the-variants.{Bad, Upto}
 use Rattle.journal.specs.Journal.{goodRecord, wellFormed, IsOpcode, entries}
 use Rattle.journal.specs.Reportable.{operation, reports, chosen, judgementOf}
 use Rattle.journal.specs.Marks.{countLimit, count}
-use Rattle.journal.specs.Scanning.{goodHere, packedLimit, largestWeight, asked, Before, Reached, Advanced, Weighed, fourHeaded, Known, AllAsked, unpacked}
+use Rattle.journal.specs.Scanning.{goodHere, shapeAt, UnitHere, packedLimit, largestWeight, isUnit, asked, Before, Reached, Advanced, Weights, Weighed, fourHeaded, Known, unpacked}
 use Rattle.journal.proofs.Opcodes.{code-1, code-2, code-3, each-code}
 use Rattle.journal.proofs.Entries.{each-entry}
-use Rattle.journal.proofs.RecordLaws.{unit-size, asked-unit, four-equal, weighed-size, weighed-fits, weighed-light, weighed-adds}
+use Rattle.journal.proofs.RecordLaws.{four-equal, weighed-size, weighed-fits, weighed-light, weighed-adds}
+use Rattle.journal.proofs.WeightLaws.{weighed, unit-weighed}
 
 -- ---- packed counts
 
@@ -116,7 +116,24 @@ pub malformed : (sel : Selection) (j : List ℕ) → wellFormed j ≡ false → 
 unfolding judgementOf
 malformed sel j h = rw h
 
--- past a record of a known header, and past four whose units are asked for
+-- past a record that was judged, with what it adds
+pub reached-judged : (sel : Selection) (j table : List ℕ) (at counts : ℕ) → length j ≤ sizeLimit → Weights (sel .sets) table → Reached sel j (position at counts) → (s : Shape) (w : ℕ) → at < length j
+    → (goodHere j at ≡ true) × (s ≡ shapeAt j at) → w ≡ asked (sel .units) j at (getD table (32 * s .kind + s .node) 0) → Reached sel j (position (at + s .size) (counts + w))
+reached-judged sel j table at counts small weights t s w h g e = reached-step sel j at counts small t (s .size) w h (weighed sel j table at s w weights g e)
+
+-- past two records of kind 4, where their node types have the same weight
+pub reached-units : (sel : Selection) (j table : List ℕ) → length j ≤ sizeLimit → Weights (sel .sets) table → getD table 144 0 ≡ getD table 143 0 → (at counts hits a b : ℕ) → at + 36 ≤ length j
+    → UnitHere j at × UnitHere j (at + 18) → a ≡ cond (isUnit (sel .units) (le 8 j (at + 6))) 1 0 → b ≡ cond (isUnit (sel .units) (le 8 j (at + 18 + 6))) 1 0
+    → Reached sel j (position at (counts + getD table 143 0 * hits)) → Reached sel j (position (at + 36) (counts + getD table 143 0 * (hits + (a + b))))
+reached-units sel j table small weights same at counts hits a b fits u p q t =
+    let w = getD table 143 0 in
+    let t₁ = reached-step sel j at _ small t 18 (w * a) (omega arith) (unit-weighed sel j table weights same at a (u .0) p) in
+    let t₂ = reached-step sel j (at + 18) _ small t₁ 18 (w * b) (omega arith) (unit-weighed sel j table weights same (at + 18) b (u .1) q) in
+    let place : at + 18 + 18 ≡ at + 36 = omega arith in
+    let sum : counts + w * hits + w * a + w * b ≡ counts + w * (hits + (a + b)) = omega (arith, mul-add w hits (a + b), mul-add w a b) in
+    rw (place, sum) at t₂
+
+-- past four records of a known header
 module _ (sel : Selection) (j : List ℕ) (s : Same) (small : length j ≤ sizeLimit) (k : Known sel j s) where
   abbrev size : ℕ
   size = s .size
@@ -124,32 +141,21 @@ module _ (sel : Selection) (j : List ℕ) (s : Same) (small : length j ≤ sizeL
   abbrev weight : ℕ
   weight = s .weight
 
-  pub reached-known : (at counts : ℕ) → at + size ≤ length j → le 6 j at ≡ s .header → Reached sel j (position at counts) → Reached sel j (position (at + size) (counts + asked (sel .units) j at weight))
-  reached-known at counts r e t = reached-step sel j at counts small t size _ (omega (arith, k .large)) (k .here at r e)
+  reached-same : (at counts : ℕ) → at + size ≤ length j → le 6 j at ≡ s .header → Reached sel j (position at counts) → Reached sel j (position (at + size) (counts + weight))
+  reached-same at counts r e t = reached-step sel j at counts small t size weight (omega (arith, k .large)) (k .here at r e)
 
-  reached-same : AllAsked sel j s → (at counts : ℕ) → at + size ≤ length j → le 6 j at ≡ s .header → Reached sel j (position at counts) → Reached sel j (position (at + size) (counts + weight))
-  reached-same a at counts r e t = rw (a at r e) at (reached-known at counts r e t)
-
-  pub reached-four : AllAsked sel j s → (at counts : ℕ) → at + 4 * size ≤ length j → fourHeaded j (s .header) size at ≡ true → Reached sel j (position at counts) → Reached sel j (position (at + 4 * size) (counts + 4 * weight))
-  reached-four a at counts r e t =
+  pub reached-four : (at counts : ℕ) → at + 4 * size ≤ length j → fourHeaded j (s .header) size at ≡ true → Reached sel j (position at counts) → Reached sel j (position (at + 4 * size) (counts + 4 * weight))
+  reached-four at counts r e t =
       let q = four-equal (le 6 j at) (le 6 j (at + size)) (le 6 j (at + 2 * size)) (le 6 j (at + 3 * size)) (s .header) e in
       let s₂ : at + size + size ≡ at + 2 * size = omega arith in
       let s₃ : at + size + size + size ≡ at + 3 * size = omega arith in
       let s₄ : at + size + size + size + size ≡ at + 4 * size = omega arith in
       let w₄ : counts + weight + weight + weight + weight ≡ counts + 4 * weight = omega arith in
-      let t₁ = reached-same a at counts (omega arith) (q .0) t in
-      let t₂ = reached-same a (at + size) _ (omega arith) (q .1) t₁ in
-      let t₃ = reached-same a (at + size + size) _ (omega arith) (ap (le 6 j) s₂ ∙ q .2) t₂ in
-      let t₄ = reached-same a (at + size + size + size) _ (omega arith) (ap (le 6 j) s₃ ∙ q .3) t₃ in
+      let t₁ = reached-same at counts (omega arith) (q .0) t in
+      let t₂ = reached-same (at + size) _ (omega arith) (q .1) t₁ in
+      let t₃ = reached-same (at + size + size) _ (omega arith) (ap (le 6 j) s₂ ∙ q .2) t₂ in
+      let t₄ = reached-same (at + size + size + size) _ (omega arith) (ap (le 6 j) s₃ ∙ q .3) t₃ in
       rw (s₄, w₄) at t₄
-
--- past a record of a known header of kind 4, where one unit is wanted
-pub reached-unit : (row j : List ℕ) (wanted : ℕ) (s : Same) → length j ≤ sizeLimit → Known (asking row (One wanted)) j s → s .size ≡ 18 → (at counts : ℕ) → at + 18 ≤ length j → le 6 j at ≡ s .header
-    → Reached (asking row (One wanted)) j (position at counts) → Reached (asking row (One wanted)) j (position (at + 18) (counts + cond (eqb (le 8 j (at + 6)) wanted) (s .weight) 0))
-reached-unit row j wanted s small k size at counts fits e t =
-    let g = k .here at (omega arith) e in
-    let asks-unit = asked-unit j at (g .good) (One wanted) (s .weight) (unit-size j at (g .good) (g .size-is ∙ size)) in
-    rw (size, asks-unit) at (reached-known (asking row (One wanted)) j s small k at counts (omega arith) e t)
 
 -- what a step gave
 pub advanced-lower : (sel : Selection) (j : List ℕ) (a b : ℕ) (s : Step) → a ≤ b → Advanced sel j b s → Advanced sel j a s

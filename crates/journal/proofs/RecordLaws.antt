@@ -2,7 +2,7 @@
 use mathlib.Core.Path.{_≡_, refl, sym, ap, _∙_}
 use mathlib.Core.Bool.{Bool, true, false, cond, _&&_, _||_, and-true, and-false, or-false}
 use mathlib.Core.List.{List}
-use Prim.Native.Nat.{ℕ, _+_, _-_, _*_, _/_, _^_, _<_, _≤_}
+use Prim.Native.Nat.{ℕ, _+_, _-_, _*_, _/_, _%_, _^_, _<_, _≤_}
 use native.Mathlib.Nat.{add-assoc}
 use native.Mathlib.Omega.{arith}
 use lib.Dec.{leb, eqb}
@@ -11,7 +11,7 @@ use borrow.Author.Tests.{le-leb, lt-leb, eq-eqb, ne-eqb, leb-true, leb-false, eq
 use Rattle.words.specs.Numbers.{Bytes, le}
 use Rattle.words.proofs.Numbers.{le-split, le-below}
 use Rattle.records.specs.Records.{lengthOf, kindOf, sizeOf, firstRecord, whole}
-use Rattle.records.proofs.Choosing.{one-if}
+use Rattle.records.proofs.Choosing.{one-if, one-if-le}
 use Rattle.records.proofs.Steps.{field-at, length-at, kind-at, record-length, record-kind, whole-at}
 use Rattle.journal.specs.declared.scope.Units.{Units}
 use Rattle.journal.specs.declared.scope.Units.the-variants.{All, One}
@@ -20,10 +20,10 @@ use Rattle.journal.specs.declared.judging.Shape.{Shape}
 use Rattle.journal.specs.declared.judging.Verdict.{Verdict}
 use Rattle.journal.specs.declared.judging.Verdict.the-variants.{Bad, Good}
 use Rattle.journal.specs.Journal.{within, largestType, goodFrame, goodType, nodeType, goodRecord, opcode, IsOpcode, operationOf, unitOf, entryOf}
-use Rattle.journal.specs.Scope.{holds, asking, Selection}
+use Rattle.journal.specs.Scope.{holds, Selection}
 use Rattle.journal.specs.Reportable.{asks, reports}
 use Rattle.journal.specs.Marks.{countLimit, count}
-use Rattle.journal.specs.Scanning.{IsKind, opcodeFor, lengthFor, goodAt, goodHere, shapeAt, plainAt, unitAt, verdictAt, largestWeight, weightOf, isUnit, asked, Weighed, Known, AllAsked}
+use Rattle.journal.specs.Scanning.{IsKind, opcodeFor, lengthFor, framedAt, goodAt, goodHere, shapeAt, verdictAt, UnitHere, largestWeight, weightOf, isUnit, wantedOf, tallied, asked, Weighed, Known}
 use Rattle.words.proofs.Choice.{choose, decide, and-left, and-right}
 use Rattle.journal.proofs.Opcodes.{each-code, kind-1, kind-2, kind-3, kind-4, each-kind, kind-opcode}
 
@@ -36,8 +36,8 @@ frame-is len = each-kind (λ (k : ℕ). ((eqb k 1 && eqb len 8) || ((eqb k 2 && 
     (or-false (eqb len 8)) (or-false (eqb len 8)) (or-false (eqb len 12)) refl
 
 -- and the code's arithmetic of it
-pub length-plain : (kind : ℕ) → IsOpcode kind → 8 + (kind + 1) / 4 * 4 ≡ lengthFor kind
-length-plain = each-code (λ (k : ℕ). 8 + (k + 1) / 4 * 4 ≡ lengthFor k) refl refl refl
+pub length-is : (kind : ℕ) → IsKind kind → 8 + ((kind + 1) / 4 + kind / 4) * 4 ≡ lengthFor kind
+length-is = each-kind (λ (k : ℕ). 8 + ((k + 1) / 4 + k / 4) * 4 ≡ lengthFor k) refl refl refl refl
 
 pub frame-none : (len kind : ℕ) → (IsKind kind → ⊥) → goodFrame len kind ≡ false
 unfolding goodFrame
@@ -95,26 +95,27 @@ typed kind node = go (eqb kind 4) refl
         let small = leb-true node 14 (and-right (leb 1 node) _ h) in
         record { high = omega arith; unit = λ f. absurd (eqb-false kind 4 e f); other = λ _. small }
 
+-- and the code's arithmetic of it
+pub type-is : (kind node : ℕ) → IsKind kind → goodType kind node ≡ within (1 + 14 * (kind / 4)) (14 + 2 * (kind / 4)) node
+type-is kind node = each-kind (λ (k : ℕ). goodType k node ≡ within (1 + 14 * (k / 4)) (14 + 2 * (k / 4)) node) refl refl refl refl kind
+
 -- ---- the test of a record in code
 
 module _ (left len kind node : ℕ) where
-  -- without a unit
-  pub plain-cut : left < len + 2 → false ≡ (leb kind 3 && goodAt left len kind node)
-  plain-cut h = sym (simp (lt-leb (len + 2) left h, and-false))
-
-  pub plain-none : (leb kind 3 && goodFrame len kind) ≡ false → false ≡ (leb kind 3 && goodAt left len kind node)
-  plain-none = go (leb kind 3) (goodFrame len kind)
+  -- without a good frame there is no good record, and with one the node type decides
+  pub frame-bad : (t : Bool) → (t && framedAt left len kind) ≡ false → (t && goodAt left len kind node) ≡ false
+  frame-bad t = go t (leb (len + 2) left) (goodFrame len kind)
     where
-      go : (a b : Bool) → (a && b) ≡ false → false ≡ (a && (leb (len + 2) left && (b && goodType kind node)))
-      go false b e = refl
-      go true false e = sym (and-false (leb (len + 2) left))
-      go true true e = let z : _≡_ {A = ℕ} 0 1 = cc in absurd (omega arith)
+      go : (t a b : Bool) → (t && (a && b)) ≡ false → (t && (a && (b && goodType kind node))) ≡ false
+      go false a b e = refl
+      go true false b e = refl
+      go true true b e = rw e
 
-  pub plain-type : len + 2 ≤ left → (leb kind 3 && goodFrame len kind) ≡ true → within 1 14 node ≡ (leb kind 3 && goodAt left len kind node)
-  plain-type h e =
-      let three = and-left (leb kind 3) (goodFrame len kind) e in
-      let other = ne-eqb kind 4 (λ q. omega (arith, leb-true kind 3 three)) in
-      rw (le-leb (len + 2) left h, and-right (leb kind 3) (goodFrame len kind) e, three, other)
+  pub frame-type : (t : Bool) → (t && framedAt left len kind) ≡ true → (t && goodAt left len kind node) ≡ within (1 + 14 * (kind / 4)) (14 + 2 * (kind / 4)) node
+  frame-type t e =
+      let f = and-right t (framedAt left len kind) e in
+      let good = and-right (leb (len + 2) left) (goodFrame len kind) f in
+      rw (and-left t (framedAt left len kind) e, and-left (leb (len + 2) left) (goodFrame len kind) f, good) (type-is kind node (framed len kind good .of))
 
   -- what a good record tells
   pub room : goodAt left len kind node ≡ true → len + 2 ≤ left
@@ -129,30 +130,10 @@ module _ (left len kind node : ℕ) where
   pub type-good : goodAt left len kind node ≡ true → Typed kind node
   type-good e = typed kind node (and-right (goodFrame len kind) _ (and-right (leb (len + 2) left) _ e))
 
--- with a unit, and one or the other
-module _ (left len kind node : ℕ) where
-  unit-frame : (eqb kind 4 && goodAt left len kind node) ≡ true → len ≡ 16
-  unit-frame e =
-      let four = eqb-true kind 4 (and-left (eqb kind 4) _ e) in
-      frame left len kind node (and-right (eqb kind 4) _ e) .length-is ∙ ap lengthFor four
-
-  pub unit-length : (len ≡ 16 → ⊥) → false ≡ (eqb kind 4 && goodAt left len kind node)
-  unit-length n = decide (eqb kind 4 && goodAt left len kind node) (λ e. absurd (n (unit-frame e))) (λ e. sym e)
-
-  pub unit-cut : left < 18 → false ≡ (eqb kind 4 && goodAt left len kind node)
-  unit-cut h = decide (eqb kind 4 && goodAt left len kind node)
-      (λ e. absurd (omega (arith, unit-frame e, room left len kind node (and-right (eqb kind 4) _ e)))) (λ e. sym e)
-
-  pub unit-type : kind ≡ 4 → len ≡ 16 → 18 ≤ left → within 15 16 node ≡ (eqb kind 4 && goodAt left len kind node)
-  unfolding goodFrame
-  unit-type p q h = rw (p, q, le-leb 18 left h)
-
-  pub unit-good : (leb kind 3 && goodAt left len kind node) ≡ false → (eqb kind 4 && goodAt left len kind node) ≡ goodAt left len kind node
-  unit-good e = decide (goodAt left len kind node)
-      (λ g. let high = frame left len kind node g .of .high in
-      let low = leb-false kind 3 (sym (and-true (leb kind 3)) ∙ ap (λ (t : Bool). leb kind 3 && t) (sym g) ∙ e) in
-      rw (eq-eqb kind 4 (omega arith)))
-      (λ g. rw g (and-false (eqb kind 4)))
+-- with a unit
+pub unit-good : (left node : ℕ) → 18 ≤ left → 15 ≤ node → node ≤ 16 → goodAt left 16 4 node ≡ true
+unfolding goodFrame
+unit-good left node h p q = rw (le-leb 18 left h, le-leb 15 node p, le-leb node 16 q)
 
 -- the same record is good wherever it fits
 pub good-again : (left left′ len kind node : ℕ) → goodAt left len kind node ≡ true → len + 2 ≤ left′ → goodAt left′ len kind node ≡ true
@@ -161,6 +142,22 @@ good-again left left′ len kind node e h = rw (le-leb (len + 2) left′ h) (and
 opcode-kind : (r : List ℕ) (k : ℕ) → kindOf r ≡ k → IsKind k → opcode (operationOf r) ≡ opcodeFor k
 unfolding operationOf
 opcode-kind r k e o = each-kind (λ (n : ℕ). kindOf r ≡ n → opcode (operationOf r) ≡ opcodeFor n) (λ q. rw q) (λ q. rw q) (λ q. rw q) (λ q. rw q) k o e
+
+-- ---- units
+
+-- one record is asked for, as the code tells it
+pub asked-same : (units : Units) (unit : ℕ) → tallied units 1 (cond (eqb unit (wantedOf units)) 1 0) ≡ cond (isUnit units unit) 1 0
+asked-same All unit = refl
+asked-same (One wanted) unit = refl
+
+-- none, and two more
+pub asked-none : (units : Units) → tallied units 0 0 ≡ 0
+asked-none All = refl
+asked-none (One wanted) = refl
+
+pub tally-two : (units : Units) (passed same a b : ℕ) → tallied units passed same + (tallied units 1 a + tallied units 1 b) ≡ tallied units (passed + 2) (same + (a + b))
+tally-two All passed same a b = refl
+tally-two (One wanted) passed same a b = refl
 
 -- ---- the record at a place
 
@@ -220,35 +217,20 @@ module _ (j : List ℕ) (at : ℕ) where
   pub test-good : (t : Bool) (s : Shape) → s ≡ shapeAt j at → (t && goodHere j at) ≡ true → Good s ≡ cond (t && goodHere j at) (Good (shapeAt j at)) Bad
   test-good t s q e = rw (e, q)
 
-  -- where there is no record without a unit, one with a unit or none is there
-  pub verdict-unit : (v : Verdict) → v ≡ Bad → v ≡ plainAt j at → unitAt j at ≡ verdictAt j at
-  verdict-unit v e q = go (leb kind 3 && goodHere j at) refl (sym e ∙ q)
-    where
-      go : (t : Bool) → (leb kind 3 && goodHere j at) ≡ t → Bad ≡ cond t (Good (shapeAt j at)) Bad → unitAt j at ≡ verdictAt j at
-      go true g p = let z : _≡_ {A = ℕ} 0 1 = cc in absurd (omega arith)
-      go false g p = ap (λ (t : Bool). cond t (Good (shapeAt j at)) Bad)
-          (ap (λ (t : Bool). eqb kind 4 && t) good-here ∙ unit-good left len kind node (ap (λ (t : Bool). leb kind 3 && t) (sym good-here) ∙ g) ∙ sym good-here)
+  -- and what was given: any good record is of a kind up to 4
+  pub given-bad : (v : Verdict) → v ≡ Bad → v ≡ verdictAt 4 j at → goodHere j at ≡ false
+  given-bad v e q = decide (goodHere j at)
+      (λ g. let high = le-leb kind 4 (frame left len kind node (sym good-here ∙ g) .of .high) in
+      let both : (leb kind 4 && goodHere j at) ≡ true = rw (high, g) in
+      let wrong : Bad ≡ Good (shapeAt j at) = sym e ∙ q ∙ ap (λ (t : Bool). cond t (Good (shapeAt j at)) Bad) both in
+      let z : _≡_ {A = ℕ} 0 1 = cc in absurd (omega arith))
+      (λ g. g)
 
-  pub verdict-plain : (v : Verdict) (s : Shape) → v ≡ Good s → v ≡ plainAt j at → (leb kind 3 ≡ true) × (goodHere j at ≡ true) × (s ≡ shapeAt j at)
-  verdict-plain v s e q = go (leb kind 3 && goodHere j at) refl (sym e ∙ q)
+  pub given-good : (most : ℕ) (v : Verdict) (s : Shape) → v ≡ Good s → v ≡ verdictAt most j at → (goodHere j at ≡ true) × (s ≡ shapeAt j at)
+  given-good most v s e q = go (leb kind most && goodHere j at) refl (sym e ∙ q)
     where
-      go : (t : Bool) → (leb kind 3 && goodHere j at) ≡ t → Good s ≡ cond t (Good (shapeAt j at)) Bad → (leb kind 3 ≡ true) × (goodHere j at ≡ true) × (s ≡ shapeAt j at)
-      go true g p = (and-left (leb kind 3) _ g, and-right (leb kind 3) _ g, cc)
-      go false g p = let z : _≡_ {A = ℕ} 0 1 = cc in absurd (omega arith)
-
-  -- and what was given
-  pub given-bad : (v : Verdict) → v ≡ Bad → v ≡ verdictAt j at → goodHere j at ≡ false
-  given-bad v e q = go (goodHere j at) (sym e ∙ q)
-    where
-      go : (t : Bool) → Bad ≡ cond t (Good (shapeAt j at)) Bad → t ≡ false
-      go true p = let z : _≡_ {A = ℕ} 0 1 = cc in absurd (omega arith)
-      go false p = refl
-
-  pub given-good : (v : Verdict) (s : Shape) → v ≡ Good s → v ≡ verdictAt j at → (goodHere j at ≡ true) × (s ≡ shapeAt j at)
-  given-good v s e q = go (goodHere j at) refl (sym e ∙ q)
-    where
-      go : (t : Bool) → goodHere j at ≡ t → Good s ≡ cond t (Good (shapeAt j at)) Bad → (goodHere j at ≡ true) × (s ≡ shapeAt j at)
-      go true g p = (g, cc)
+      go : (t : Bool) → (leb kind most && goodHere j at) ≡ t → Good s ≡ cond t (Good (shapeAt j at)) Bad → (goodHere j at ≡ true) × (s ≡ shapeAt j at)
+      go true g p = (and-right (leb kind most) _ g, cc)
       go false g p = let z : _≡_ {A = ℕ} 0 1 = cc in absurd (omega arith)
 
   -- what a good record tells
@@ -306,13 +288,24 @@ module _ (j : List ℕ) (at : ℕ) where
     asked-other All w n = refl
     asked-other (One u) w n = rw (le-leb (nodeType here) 14 (omega (arith, node-here (omega (arith, frame-here .large)), type-here .other n)))
 
-    -- which is inside
-    pub unit-inside : kind ≡ 4 → 18 ≤ left
-    unit-inside e = omega (arith, good-fits, good-length, ap lengthFor e)
+    pub unit-node : kind ≡ 4 → 15 ≤ node
+    unit-node = type-here .unit
 
-    -- its size tells kind 4
-    pub unit-size : sizeOf (drop at j) ≡ 18 → kind ≡ 4
-    unit-size e = each-kind (λ (k : ℕ). lengthFor k + 2 ≡ 18 → k ≡ 4) (λ q. absurd (omega arith)) (λ q. absurd (omega arith)) (λ q. absurd (omega arith)) (λ q. refl) kind good-kind (sym good-length ∙ e)
+    -- the eight bytes that the code compares are inside
+    pub unit-inside : at + 6 * (kind / 4) + 8 ≤ length j
+    unit-inside =
+        let room : 6 * (kind / 4) + 8 ≤ lengthFor kind + 2 = each-kind (λ (k : ℕ). 6 * (k / 4) + 8 ≤ lengthFor k + 2) (omega arith) (omega arith) (omega arith) (omega arith) kind good-kind in
+        omega (arith, room, good-length, good-fits)
+
+    -- and what it computes of them
+    pub asked-one : (units : Units) (same : ℕ) → same ≡ cond (isUnit units (le 8 j (at + 6 * (kind / 4)))) 1 0 → (2 - kind / 4 + same) / 2 ≡ asked units j at 1
+    asked-one units same e = decide (eqb kind 4)
+        (λ t. let four = eqb-true kind 4 t in
+        let place : at + 6 * (kind / 4) ≡ at + 6 = rw four in
+        let bit : same ≡ one-if (isUnit units (le 8 j (at + 6))) = e ∙ ap (λ (i : ℕ). cond (isUnit units (le 8 j i)) 1 0) place in
+        omega (arith, bit, one-if-le (isUnit units (le 8 j (at + 6))), asked-unit units 1 four))
+        (λ t. let other = eqb-false kind 4 t in
+        omega (arith, asked-other units 1 other, good-kind .high, e, one-if-le (isUnit units (le 8 j (at + 6 * (kind / 4))))))
 
 -- ---- what a good record adds
 
@@ -396,18 +389,18 @@ module _ (j : List ℕ) (bytes : Bytes j) (w at i : ℕ) (h : le (2 + w) j i ≡
   first-two = omega (arith, split-two, behind-two)
 
 -- wherever the header of a good record stands, there is one of its size and of its weight
-module _ (sel : Selection) (j : List ℕ) (bytes : Bytes j) (at : ℕ) (good : goodHere j at ≡ true) where
-  again : (i : ℕ) → i + sizeOf (drop at j) ≤ length j → le 6 j i ≡ le 6 j at
-      → Weighed sel j i (sizeOf (drop at j)) (asked (sel .units) j i (weightOf (sel .sets) (kindOf (drop at j)) (le 2 j (at + 4))))
+module _ (sel : Selection) (j : List ℕ) (bytes : Bytes j) (at : ℕ) (good : goodHere j at ≡ true) (other : kindOf (drop at j) ≡ 4 → ⊥) where
+  again : (i : ℕ) → i + sizeOf (drop at j) ≤ length j → le 6 j i ≡ le 6 j at → Weighed sel j i (sizeOf (drop at j)) (weightOf (sel .sets) (kindOf (drop at j)) (le 2 j (at + 4)))
   again i r h =
       let four = behind-two j bytes 4 at i h in
       let len : lengthOf (drop at j) ≡ lengthOf (drop i j) = length-at j at ∙ sym (length-at j i ∙ first-two j bytes 4 at i h) in
       let kind : kindOf (drop at j) ≡ kindOf (drop i j) = kind-at j at ∙ sym (kind-at j i ∙ first-two j bytes 2 (at + 2) (i + 2) four) in
       let node : le 2 j (at + 4) ≡ le 2 j (i + 4) = ap (le 2 j) (sym (add-assoc at 2 2)) ∙ sym (behind-two j bytes 2 (at + 2) (i + 2) four) ∙ ap (le 2 j) (add-assoc i 2 2) in
+      let here : goodHere j i ≡ true = good-read j i _ _ _ len kind node ∙ good-again (length j - at) (length j - i) (lengthOf (drop at j)) (kindOf (drop at j)) (le 2 j (at + 4)) (good-is j at good) (omega arith) in
       record {
         size-is = ap (λ (n : ℕ). n + 2) (sym len);
-        good = good-read j i _ _ _ len kind node ∙ good-again (length j - at) (length j - i) (lengthOf (drop at j)) (kindOf (drop at j)) (le 2 j (at + 4)) (good-is j at good) (omega arith);
-        weight-is = rw (kind, node);
+        good = here;
+        weight-is = rw (kind, node) (sym (asked-other j i here (sel .units) _ (λ q. other (kind ∙ q))));
       }
 
   pub known : (s : Same) → s .header ≡ le 6 j at → s .size ≡ sizeOf (drop at j) → s .weight ≡ weightOf (sel .sets) (kindOf (drop at j)) (le 2 j (at + 4)) → Known sel j s
@@ -416,17 +409,23 @@ module _ (sel : Selection) (j : List ℕ) (bytes : Bytes j) (at : ℕ) (good : g
       let light = weight-light (getD (sel .sets) (le 2 j (at + 4)) 0) _ (kind-opcode (kindOf (drop at j)) (good-kind j at good)) in
       record { large = omega arith; small = omega arith; narrow = rw r (light .1); here = rw (p, q, r) again }
 
--- the units of such records are all asked for where all units are, or where they have none
-module _ (row j : List ℕ) (units : Units) (s : Same) (k : Known (asking row units) j s) where
-  pub all-asked-other : (s .size ≡ 18 → ⊥) → AllAsked (asking row units) j s
-  all-asked-other n at fits e =
-      let g = k .here at fits e in
-      let other : kindOf (drop at j) ≡ 4 → ⊥ = λ q. n (sym (g .size-is) ∙ good-length j at (g .good) ∙ ap (λ (m : ℕ). lengthFor m + 2) q) in
-      one-is _ (asked-other j at (g .good) units 1 other)
-    where
-      one-is : (t : Bool) → _≡_ {A = ℕ} (cond t 1 0) 1 → t ≡ true
-      one-is true q = refl
-      one-is false q = absurd (omega arith)
+-- a record of kind 4, by what the eight bytes from its length on are more than those of node type 15
+pub unit-here : (j : List ℕ) (bytes : Bytes j) (at w : ℕ) → at + 18 ≤ length j → (w + 64424771600) % 18446744073709551616 ≡ le 8 j at
+    → w % 281474976710656 - w % 281474976710656 / 4294967296 % 2 * 4294967296 ≡ 0 → UnitHere j at
+unit-here j bytes at w fits e none =
+    let low : w % 281474976710656 % 4294967296 ≡ 0 = omega arith in
+    let small : w % 281474976710656 ≤ 4294967296 = omega arith in
+    let six : le 6 j at ≡ w % 281474976710656 + 64424771600 = omega (arith, e, le-split 6 2 j at, le-below j bytes 6 at) in
+    let two = le-split 2 4 j at in
+    let four = le-split 2 2 j (at + 2) in
+    let place : le 2 j (at + 2 + 2) ≡ le 2 j (at + 4) = ap (le 2 j) (add-assoc at 2 2) in
+    let a = le-below j bytes 2 at in
+    let b = le-below j bytes 2 (at + 2) in
+    let len : lengthOf (drop at j) ≡ 16 = length-at j at ∙ omega arith in
+    let kind : kindOf (drop at j) ≡ 4 = kind-at j at ∙ omega arith in
+    let first : 15 ≤ le 2 j (at + 4) = omega arith in
+    let last : le 2 j (at + 4) ≤ 16 = omega arith in
+    record { good = good-read j at _ _ _ (sym len) (sym kind) refl ∙ unit-good (length j - at) (le 2 j (at + 4)) (omega arith) first last; kind-is = kind }
 
 -- four equal headers
 pub four-equal : (a b c d h : ℕ) → (eqb a h && (eqb b h && (eqb c h && eqb d h))) ≡ true → (a ≡ h) × (b ≡ h) × (c ≡ h) × (d ≡ h)

@@ -1,6 +1,6 @@
 -- Laws for the weights table: what one weight is, and the table as it is filled.
 use mathlib.Core.Path.{_≡_, sym, ap, _∙_}
-use mathlib.Core.Bool.{true, cond}
+use mathlib.Core.Bool.{Bool, true, false, cond}
 use mathlib.Core.List.{List}
 use Prim.Native.Nat.{ℕ, zero, suc, _+_, _*_, _-_, _/_, _%_, _^_, _<_, _≤_}
 use native.Mathlib.Nat.{mul-zero, mul-one, one-mul}
@@ -9,14 +9,17 @@ use lib.Dec.{eqb}
 use lib.ListN.{length, getD, set, drop, length-set}
 use lib.Seq.{getD-set-same, getD-set-other}
 use borrow.Author.Count.{below-more}
+use borrow.Author.Tests.{eqb-true, eqb-false}
 use Rattle.words.specs.Numbers.{le}
 use Rattle.records.specs.Records.{kindOf}
 use Rattle.journal.specs.declared.judging.Shape.{Shape}
 use Rattle.journal.specs.Journal.{largestType}
 use Rattle.journal.specs.Scope.{holds, Selection}
 use Rattle.journal.specs.Marks.{countLimit}
-use Rattle.journal.specs.Scanning.{IsKind, goodHere, shapeAt, weightOf, asked, Weights, Weighed}
-use Rattle.journal.proofs.RecordLaws.{good-kind, good-node}
+use Rattle.journal.specs.Scanning.{IsKind, lengthFor, goodHere, shapeAt, UnitHere, weightOf, isUnit, asked, Weights, Weighed}
+use Rattle.words.proofs.Choice.{decide}
+use Rattle.journal.proofs.Opcodes.{kind-4}
+use Rattle.journal.proofs.RecordLaws.{good-length, good-kind, good-node, unit-node, asked-unit}
 
 -- a weight times a bit is the choice by the bit
 bit-chooses : (w bit : ℕ) → bit < 2 → w * bit ≡ cond (eqb bit 1) w 0
@@ -31,6 +34,15 @@ bit-is set code = sym (one-mul (set / 2 ^ (code - 1) % 2)) ∙ bit-chooses 1 (se
 -- what `weight` computes, from the set's bit of the opcode
 pub weight-is : (set op w : ℕ) → w ≡ countLimit ^ (op - 1) * (set / 2 ^ (op - 1) % 2) → w ≡ cond (holds set op) (countLimit ^ (op - 1)) 0
 weight-is set op w e = e ∙ bit-chooses (countLimit ^ (op - 1)) (set / 2 ^ (op - 1) % 2) (omega arith)
+
+-- a weight times 1 or 0
+pub times-bit : (w : ℕ) (t : Bool) → w * cond t 1 0 ≡ cond t w 0
+times-bit w true = mul-one w
+times-bit w false = mul-zero w
+
+pub times-bit-le : (w : ℕ) (t : Bool) → w * cond t 1 0 ≤ w
+times-bit-le w true = omega (arith, mul-one w)
+times-bit-le w false = omega (arith, mul-zero w)
 
 -- the table, filled below a place: the invariant of `weights_of`
 pub record Filled (sets table : List ℕ) (i : ℕ) : Type 0 where
@@ -72,3 +84,19 @@ weighed sel j table at s w t g e =
       good = g .0;
       weight-is = e ∙ ap (asked (sel .units) j at) (shape-weight (sel .sets) j table at s t (g .0) (g .1));
     }
+
+-- a record of kind 4, where its two node types have the same weight
+module _ (sel : Selection) (j table : List ℕ) (t : Weights (sel .sets) table) (same : getD table 144 0 ≡ getD table 143 0) where
+  either : (node : ℕ) → 15 ≤ node → node ≤ 16 → getD table 143 0 ≡ weightOf (sel .sets) 4 node
+  either node p q = decide (eqb node 15)
+      (λ e. rw (eqb-true node 15 e) (weight-at (sel .sets) table 4 15 t kind-4 (omega arith)))
+      (λ e. let n = eqb-false node 15 e in let last : node ≡ 16 = omega arith in rw last (sym same ∙ weight-at (sel .sets) table 4 16 t kind-4 (omega arith)))
+
+  pub unit-weighed : (at hit : ℕ) → UnitHere j at → hit ≡ cond (isUnit (sel .units) (le 8 j (at + 6))) 1 0 → Weighed sel j at 18 (getD table 143 0 * hit)
+  unit-weighed at hit u e =
+      let weight = either (le 2 j (at + 4)) (unit-node j at (u .good) (u .kind-is)) (good-node j at (u .good)) in
+      record {
+        size-is = good-length j at (u .good) ∙ ap (λ (k : ℕ). lengthFor k + 2) (u .kind-is);
+        good = u .good;
+        weight-is = rw (u .kind-is, ← weight, asked-unit j at (u .good) (sel .units) (getD table 143 0) (u .kind-is), e) (times-bit (getD table 143 0) (isUnit (sel .units) (le 8 j (at + 6))));
+      }

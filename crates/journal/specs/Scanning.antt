@@ -37,6 +37,10 @@ opcodeFor kind = cond (eqb kind 4) 2 kind
 abbrev pub lengthFor : ℕ → ℕ
 lengthFor kind = cond (eqb kind 4) 16 (cond (eqb kind 3) 12 8)
 
+-- a record of this length and kind fits where so many bytes are left, and has a good frame
+abbrev pub framedAt : ℕ → ℕ → ℕ → Bool
+framedAt left len kind = leb (len + 2) left && goodFrame len kind
+
 -- a record of this length, kind and node type is good where so many bytes are left
 abbrev pub goodAt : ℕ → ℕ → ℕ → ℕ → Bool
 goodAt left len kind node = leb (len + 2) left && (goodFrame len kind && goodType kind node)
@@ -49,15 +53,14 @@ goodHere j at = whole (firstRecord (drop at j)) && goodRecord (firstRecord (drop
 abbrev pub shapeAt : List ℕ → ℕ → Shape
 shapeAt j at = record { size = sizeOf (drop at j); kind = kindOf (drop at j); node = le16 j (at + 4) }
 
--- the same of a record without a unit, and of one with a unit
-abbrev pub plainAt : List ℕ → ℕ → Verdict
-plainAt j at = cond (leb (kindOf (drop at j)) 3 && goodHere j at) (Good (shapeAt j at)) Bad
+-- what the code tells of it, where it is of a kind up to this
+abbrev pub verdictAt : ℕ → List ℕ → ℕ → Verdict
+verdictAt most j at = cond (leb (kindOf (drop at j)) most && goodHere j at) (Good (shapeAt j at)) Bad
 
-abbrev pub unitAt : List ℕ → ℕ → Verdict
-unitAt j at = cond (eqb (kindOf (drop at j)) 4 && goodHere j at) (Good (shapeAt j at)) Bad
-
-abbrev pub verdictAt : List ℕ → ℕ → Verdict
-verdictAt j at = cond (goodHere j at) (Good (shapeAt j at)) Bad
+-- a good record of kind 4 stands at a place
+pub record UnitHere (j : List ℕ) (at : ℕ) : Type 0 where
+  pub good : goodHere j at ≡ true
+  pub kind-is : kindOf (drop at j) ≡ 4
 
 -- n operations of an opcode that a selection reports stand before a place
 abbrev pub Before : Selection → List ℕ → ℕ → ℕ → ℕ → Type 0
@@ -95,6 +98,16 @@ abbrev pub isUnit : Units → ℕ → Bool
 isUnit All unit = true
 isUnit (One wanted) unit = eqb unit wanted
 
+-- the unit that is wanted, where one is
+abbrev pub wantedOf : Units → ℕ
+wantedOf All = 0
+wantedOf (One wanted) = wanted
+
+-- of so many records those that are asked for, where so many are of the unit wanted
+abbrev pub tallied : Units → ℕ → ℕ → ℕ
+tallied All passed same = passed
+tallied (One wanted) passed same = same
+
 -- what is left of a weight where the record at a place is of a unit that is not asked for
 abbrev pub asked : Units → List ℕ → ℕ → ℕ → ℕ
 asked units j at weight = cond (asks units (entryOf (firstRecord (drop at j)))) weight 0
@@ -109,16 +122,12 @@ pub record Weighed (selection : Selection) (j : List ℕ) (at size weight : ℕ)
 abbrev pub fourHeaded : List ℕ → ℕ → ℕ → ℕ → Bool
 fourHeaded j header size at = eqb (le 6 j at) header && (eqb (le 6 j (at + size)) header && (eqb (le 6 j (at + 2 * size)) header && eqb (le 6 j (at + 3 * size)) header))
 
--- wherever this header stands and the size fits, there is a good record of this size, which adds this weight where its unit is asked for
+-- wherever this header stands and the size fits, there is a good record of this size, which adds this weight
 pub record Known (selection : Selection) (j : List ℕ) (s : Same) : Type 0 where
   pub large : 10 ≤ s .size
   pub small : s .size ≤ 18
   pub narrow : s .weight ≤ largestWeight
-  pub here : (at : ℕ) → at + s .size ≤ length j → le 6 j at ≡ s .header → Weighed selection j at (s .size) (asked (selection .units) j at (s .weight))
-
--- every record of this header is asked for
-abbrev pub AllAsked : Selection → List ℕ → Same → Type 0
-AllAsked selection j s = (at : ℕ) → at + s .size ≤ length j → le 6 j at ≡ s .header → asks (selection .units) (entryOf (firstRecord (drop at j))) ≡ true
+  pub here : (at : ℕ) → at + s .size ≤ length j → le 6 j at ≡ s .header → Weighed selection j at (s .size) (s .weight)
 
 -- the marks after p was offered as the next one
 pub data Noted (marks : List ℕ) (n : ℕ) (p : Position) : List ℕ → ℕ → Type 0 where

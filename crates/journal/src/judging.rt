@@ -2,11 +2,10 @@
 ghost use mathlib.Core.Path.{_≡_};
 ghost use mathlib.Core.Bool.{_&&_};
 ghost use Prim.Native.Nat.{_+_, _≤_};
-ghost use lib.Dec.{leb, eqb};
+ghost use lib.Dec.{leb};
 ghost use lib.ListN.{length};
 ghost use Rattle.words.specs.Numbers.{le16};
-ghost use Rattle.journal.specs.Journal.{goodFrame, IsOpcode};
-ghost use Rattle.journal.specs.Scanning.{lengthFor, goodAt, plainAt, unitAt, verdictAt};
+ghost use Rattle.journal.specs.Scanning.{IsKind, lengthFor, framedAt, goodAt, verdictAt};
 use records::Frame;
 
 // What a record tells of itself before its operands.
@@ -30,84 +29,51 @@ pub fn read_type(j: &[u8], at: usize) -> u16
     words::read_le16(j, at + 4)
 }
 
-// The length of a record of a kind that has no unit: 12 for kind 3, and 8 for 1 and 2. It is computed with no test, for the scan's speed.
+// The length of a record of a kind: 12 for kind 3, 16 for 4, and 8 for 1 and 2. It is computed with no test, for the scan's speed.
 fn length_of(kind: u16) -> u16
-    requires { ⌜ IsOpcode kind ⌝ }
+    requires { ⌜ IsKind kind ⌝ }
     ensures { λ r. ⌜ r ≡ lengthFor kind ⌝ }
 {
-    8 + (kind + 1) / 4 * 4
+    8 + ((kind + 1) / 4 + kind / 4) * 4
 }
 
-// The frame: whether a kind is one of the three without a unit, and the length the one of that kind.
-fn is_framed(frame: Frame) -> bool
-    ensures { λ r. ⌜ r ≡ (leb (frame .kind) 3 && goodFrame (frame .length) (frame .kind)) ⌝ }
-{
-    let kind = frame.kind;
-    if kind < 1 {
-        return false;
-    }
-    if 3 < kind {
-        return false;
-    }
-    frame.length == length_of(kind)
-}
-
-// Whether a record of this frame and node type is good where `left` bytes are left, and has no unit. In this order of tests the scan
-// is fastest.
-fn is_plain(left: usize, frame: Frame, node: u16) -> bool
-    ensures { λ r. ⌜ r ≡ (leb (frame .kind) 3 && goodAt left (frame .length) (frame .kind) node) ⌝ }
+// The frame: whether a record fits where `left` bytes are left, its kind is one of those up to `most`, and its length the one of that kind.
+// In this order of tests the scan is fastest.
+fn is_framed(left: usize, frame: Frame, most: u16) -> bool
+    requires { ⌜ most ≤ 4 ⌝ }
+    ensures { λ r. ⌜ r ≡ (leb (frame .kind) most && framedAt left (frame .length) (frame .kind)) ⌝ }
 {
     let size = records::record_size(frame);
     if left < size {
         return false;
     }
-    if !is_framed(frame) {
+    let kind = frame.kind;
+    if kind < 1 {
         return false;
     }
-    1 <= node && node <= 14
+    if most < kind {
+        return false;
+    }
+    frame.length == length_of(kind)
 }
 
-// Whether it is good and has a unit.
-fn is_unit(left: usize, frame: Frame, node: u16) -> bool
-    ensures { λ r. ⌜ r ≡ (eqb (frame .kind) 4 && goodAt left (frame .length) (frame .kind) node) ⌝ }
+// Whether a record of this frame and node type is good where `left` bytes are left, and of a kind up to `most`. The bounds of the node type
+// are computed from the kind, so that no branch depends on it.
+fn is_good(left: usize, frame: Frame, node: u16, most: u16) -> bool
+    requires { ⌜ most ≤ 4 ⌝ }
+    ensures { λ r. ⌜ r ≡ (leb (frame .kind) most && goodAt left (frame .length) (frame .kind) node) ⌝ }
 {
-    if frame.kind != 4 {
+    if !is_framed(left, frame, most) {
         return false;
     }
-    if frame.length != 16 {
-        return false;
-    }
-    if left < 18 {
-        return false;
-    }
-    15 <= node && node <= 16
+    let four = frame.kind / 4;
+    1 + 14 * four <= node && node <= 14 + 2 * four
 }
 
-// The record at a place where it has no unit.
-pub fn judge_plain(j: &[u8], at: usize) -> Verdict
-    requires { ⌜ at ≤ length (now j) ⌝ }
-    ensures { λ r. ⌜ r ≡ plainAt (now (j .entry)) at ⌝ }
-{
-    let left = j.len() - at;
-    if left < 10 {
-        return Verdict::Bad;
-    }
-    let frame = records::read_frame(j, at);
-    let node = read_type(j, at);
-    if !is_plain(left, frame, node) {
-        return Verdict::Bad;
-    }
-    Verdict::Good(Shape {
-        size: records::record_size(frame),
-        kind: frame.kind as usize,
-        node: node as usize,
-    })
-}
-
-// The record at a place where it has a unit.
-fn judge_unit(j: &[u8], at: usize) -> Verdict
-    requires { ⌜ at ≤ length (now j) ⌝ }
-    ensures { λ r. ⌜ r ≡ unitAt (now (j .entry)) at ⌝ }
+// The record at a place, where it is of a kind up to `most`: 4 for all, 3 for those without a unit.
+pub fn judge(j: &[u8], at: usize, most: u16) -> Verdict
+    requires { ⌜ (at ≤ length (now j)) × (most ≤ 4) ⌝ }
+    ensures { λ r. ⌜ r ≡ verdictAt most (now (j .entry)) at ⌝ }
 {
     let left = j.len() - at;
     if left < 10 {
@@ -115,7 +81,7 @@ fn judge_unit(j: &[u8], at: usize) -> Verdict
     }
     let frame = records::read_frame(j, at);
     let node = read_type(j, at);
-    if !is_unit(left, frame, node) {
+    if !is_good(left, frame, node, most) {
         return Verdict::Bad;
     }
     Verdict::Good(Shape {
@@ -123,16 +89,4 @@ fn judge_unit(j: &[u8], at: usize) -> Verdict
         kind: frame.kind as usize,
         node: node as usize,
     })
-}
-
-// The record at a place.
-pub fn judge(j: &[u8], at: usize) -> Verdict
-    requires { ⌜ at ≤ length (now j) ⌝ }
-    ensures { λ r. ⌜ r ≡ verdictAt (now (j .entry)) at ⌝ }
-{
-    let plain = judge_plain(j, at);
-    match plain {
-        Verdict::Good(shape) => Verdict::Good(shape),
-        Verdict::Bad => judge_unit(j, at),
-    }
 }

@@ -7,17 +7,23 @@ ghost use Rattle.words.specs.Numbers.{le};
 ghost use Rattle.records.specs.Records.{sizeLimit};
 ghost use Rattle.journal.specs.Scope.{asking};
 ghost use Rattle.journal.specs.Journal.{largestType};
-ghost use Rattle.journal.specs.declared.scope.Units.the-variants.{One};
-ghost use Rattle.journal.specs.Scanning.{goodHere, shapeAt, weightOf, asked, fourHeaded, Reached, Known, AllAsked, Advanced, Weights};
+ghost use Rattle.journal.specs.Scanning.{goodHere, shapeAt, weightOf, asked, fourHeaded, UnitHere, Reached, Known, Advanced, Weights};
 use crate::judging::Shape;
 use crate::judging::Verdict;
 use crate::judging::judge;
-use crate::judging::judge_plain;
 use crate::marks::MARK_SPAN;
 use crate::scope::Units;
-use crate::units::asked_weight;
+use crate::units::asked_here;
 use crate::units::read_unit;
-use crate::units::unit_weight;
+use crate::units::same_unit;
+use crate::units::tally;
+use crate::units::wanted_unit;
+
+// Records are passed one at a time for so many bytes; then a stride looks for equal headers again.
+const EACH_SPAN: usize = 4096;
+
+// Length 16, kind 4 and node type 15 as one number.
+const UNIT_HEADER: u64 = 64424771600;
 
 // A place of the journal, and the packed counts of what stands before it.
 pub struct Position {
@@ -31,7 +37,7 @@ pub enum Step {
     Upto(Position),
 }
 
-// Records of one header, and what one of them adds to the packed counts where its unit is asked for.
+// Records of one header without a unit, and what one of them adds to the packed counts.
 pub struct Same {
     pub header: u64,
     pub size: usize,
@@ -52,10 +58,7 @@ fn weigh(j: &[u8], at: usize, units: Units, weights: &[u64; 160], shape: Shape) 
     ensures { λ r. ⌜ r ≡ asked units (now (j .entry)) at (getD (now (weights .entry)) (32 * shape .kind + shape .node) 0) ⌝ }
 {
     let weight = weight_of(weights, shape);
-    if shape.kind == 4 {
-        return asked_weight(units, read_unit(j, at), weight);
-    }
-    weight
+    weight * (asked_here(j, at, units, shape.kind) as u64)
 }
 
 // The six bytes of a record's length, kind and node type as one number.
@@ -80,7 +83,7 @@ fn four_headers(j: &[u8], at: usize, size: usize, header: u64) -> bool
     a == header && (b == header && (c == header && d == header))
 }
 
-// Past the records of a known header whose units are all asked for, four at a time, up to a limit.
+// Past the records of a known header, four at a time, up to a limit.
 fn past_same(
     j: &[u8],
     row: &[u8; 17],
@@ -89,7 +92,7 @@ fn past_same(
     same: Same,
     limit: usize,
 ) -> Position
-    requires { ⌜ Reached (asking (now row) units) (now j) from × Known (asking (now row) units) (now j) same × AllAsked (asking (now row) units) (now j) same × (limit ≤ length (now j)) × (length (now j) ≤ sizeLimit) ⌝ }
+    requires { ⌜ Reached (asking (now row) units) (now j) from × Known (asking (now row) units) (now j) same × (limit ≤ length (now j)) × (length (now j) ≤ sizeLimit) ⌝ }
     ensures { λ r. ⌜ Reached (asking (now (row .entry)) units) (now (j .entry)) r × (from .at ≤ r .at) ⌝ }
 {
     let mut at = from.at;
@@ -105,53 +108,63 @@ fn past_same(
     Position { at, counts }
 }
 
-// Past the records of a known header of kind 4, up to a limit, where one unit is asked for.
+// Whether a record of kind 4 stands at a place that has room for one. Its length, kind and node type are compared as one number: what it
+// is more than that of node type 15 is nothing, or 1 in the type.
+fn has_unit(j: &[u8], at: usize) -> bool
+    requires { ⌜ at + 18 ≤ length (now j) ⌝ }
+    ensures { λ r. ⌜ (r ≡ true → UnitHere (now (j .entry)) at) ⌝ }
+{
+    let more = std::num::wrapping_sub_u64(words::read_le64(j, at), UNIT_HEADER) % 281474976710656;
+    more - more / 4294967296 % 2 * 4294967296 == 0
+}
+
+// Whether two stand there, one behind the other.
+fn has_two_units(j: &[u8], at: usize) -> bool
+    requires { ⌜ at + 36 ≤ length (now j) ⌝ }
+    ensures { λ r. ⌜ (r ≡ true → UnitHere (now (j .entry)) at × UnitHere (now (j .entry)) (at + 18)) ⌝ }
+{
+    let first = has_unit(j, at);
+    let second = has_unit(j, at + 18);
+    first && second
+}
+
+// Past records of kind 4, two at a time, up to a limit, where a row has the same for both of their node types.
 fn past_units(
     j: &[u8],
     row: &[u8; 17],
-    wanted: u64,
-    from: Position,
-    same: Same,
-    limit: usize,
-) -> Position
-    requires { ⌜ Reached (asking (now row) (One wanted)) (now j) from × Known (asking (now row) (One wanted)) (now j) same × (same .size ≡ 18) × (limit ≤ length (now j)) × (length (now j) ≤ sizeLimit) ⌝ }
-    ensures { λ r. ⌜ Reached (asking (now (row .entry)) (One wanted)) (now (j .entry)) r × (from .at ≤ r .at) ⌝ }
-{
-    let mut at = from.at;
-    let mut counts = from.counts;
-    while at + 18 <= limit {
-        if header_at(j, at) != same.header {
-            break;
-        }
-        counts += unit_weight(wanted, read_unit(j, at), same.weight);
-        at += 18;
-    }
-    Position { at, counts }
-}
-
-// Past the records of a known header, up to a limit.
-fn past_header(
-    j: &[u8],
-    row: &[u8; 17],
     units: Units,
+    weights: &[u64; 160],
     from: Position,
-    same: Same,
     limit: usize,
 ) -> Position
-    requires { ⌜ Reached (asking (now row) units) (now j) from × Known (asking (now row) units) (now j) same × (limit ≤ length (now j)) × (length (now j) ≤ sizeLimit) ⌝ }
+    requires { ⌜ Reached (asking (now row) units) (now j) from × Weights (now row) (now weights) × (limit ≤ length (now j)) × (length (now j) ≤ sizeLimit) ⌝ }
     ensures { λ r. ⌜ Reached (asking (now (row .entry)) units) (now (j .entry)) r × (from .at ≤ r .at) ⌝ }
 {
-    if same.size != 18 {
-        return past_same(j, row, units, from, same, limit);
+    let weight = weights[143];
+    if weights[144] != weight {
+        return from;
     }
-    match units {
-        Units::All => past_same(j, row, units, from, same, limit),
-        Units::One(wanted) => past_units(j, row, wanted, from, same, limit),
+    let wanted = wanted_unit(units);
+    let mut at = from.at;
+    let mut passed: usize = 0;
+    let mut same: usize = 0;
+    while at + 36 <= limit {
+        if !has_two_units(j, at) {
+            break;
+        }
+        same += same_unit(wanted, read_unit(j, at)) + same_unit(wanted, read_unit(j, at + 18));
+        passed += 2;
+        at += 36;
+    }
+    let asked = tally(units, passed, same);
+    Position {
+        at,
+        counts: from.counts + weight * (asked as u64),
     }
 }
 
-// Past records without a unit one at a time, up to an end or another record: the step is the record's own length, and one sum counts all
-// three opcodes.
+// Past records of the kinds up to `most` one at a time, up to an end or another record: the step is the record's own length, and one sum
+// counts all three opcodes.
 fn past_each(
     j: &[u8],
     row: &[u8; 17],
@@ -159,31 +172,33 @@ fn past_each(
     weights: &[u64; 160],
     from: Position,
     end: usize,
+    most: u16,
 ) -> Position
-    requires { ⌜ Reached (asking (now row) units) (now j) from × Weights (now row) (now weights) × (end ≤ length (now j)) × (length (now j) ≤ sizeLimit) ⌝ }
+    requires { ⌜ Reached (asking (now row) units) (now j) from × Weights (now row) (now weights) × (end ≤ length (now j)) × (length (now j) ≤ sizeLimit) × (most ≤ 4) ⌝ }
     ensures { λ r. ⌜ Reached (asking (now (row .entry)) units) (now (j .entry)) r × (from .at ≤ r .at) ⌝ }
 {
     let mut at = from.at;
     let mut counts = from.counts;
     while at < end {
-        let verdict = judge_plain(j, at);
+        let verdict = judge(j, at, most);
         match verdict {
             Verdict::Bad => {
                 return Position { at, counts };
             }
             Verdict::Good(shape) => {
+                let here = at;
                 at += shape.size;
-                counts += weight_of(weights, shape);
+                counts += weigh(j, here, units, weights, shape);
             }
         }
     }
     Position { at, counts }
 }
 
-// A place after `at`, at most `by` bytes on and not past the end.
+// A place at most `by` bytes on, and not past the end.
 fn clamped_end(at: usize, by: usize, end: usize) -> usize
-    requires { ⌜ (at < end) × (0 < by) ⌝ }
-    ensures { λ r. ⌜ (at < r) × (r ≤ end) ⌝ }
+    requires { ⌜ at ≤ end ⌝ }
+    ensures { λ r. ⌜ r ≤ end ⌝ }
 {
     if end - at < by {
         return end;
@@ -191,29 +206,64 @@ fn clamped_end(at: usize, by: usize, end: usize) -> usize
     at + by
 }
 
-// Past a record and more: those of the same header behind it, then others without a unit one at a time.
+// Behind a record without a unit: past those of the same header, then past others without a unit.
+fn behind_plain(
+    j: &[u8],
+    row: &[u8; 17],
+    units: Units,
+    weights: &[u64; 160],
+    from: Position,
+    same: Same,
+) -> Position
+    requires { ⌜ Reached (asking (now row) units) (now j) from × Weights (now row) (now weights) × Known (asking (now row) units) (now j) same × (length (now j) ≤ sizeLimit) ⌝ }
+    ensures { λ r. ⌜ Reached (asking (now (row .entry)) units) (now (j .entry)) r × (from .at ≤ r .at) ⌝ }
+{
+    let limit = clamped_end(from.at, MARK_SPAN, j.len());
+    let past = past_same(j, row, units, from, same, limit);
+    let end = clamped_end(from.at, EACH_SPAN, j.len());
+    past_each(j, row, units, weights, past, end, 3)
+}
+
+// Behind a record of kind 4: past more of that kind, then past any.
+fn behind_unit(
+    j: &[u8],
+    row: &[u8; 17],
+    units: Units,
+    weights: &[u64; 160],
+    from: Position,
+) -> Position
+    requires { ⌜ Reached (asking (now row) units) (now j) from × Weights (now row) (now weights) × (length (now j) ≤ sizeLimit) ⌝ }
+    ensures { λ r. ⌜ Reached (asking (now (row .entry)) units) (now (j .entry)) r × (from .at ≤ r .at) ⌝ }
+{
+    let limit = clamped_end(from.at, MARK_SPAN, j.len());
+    let past = past_units(j, row, units, weights, from, limit);
+    let end = clamped_end(from.at, EACH_SPAN, j.len());
+    past_each(j, row, units, weights, past, end, 4)
+}
+
+// Past a record and more behind it.
 pub fn stride(j: &[u8], row: &[u8; 17], units: Units, weights: &[u64; 160], from: Position) -> Step
     requires { ⌜ Reached (asking (now row) units) (now j) from × Weights (now row) (now weights) × (from .at < length (now j)) × (length (now j) ≤ sizeLimit) ⌝ }
     ensures { λ r. ⌜ Advanced (asking (now (row .entry)) units) (now (j .entry)) (from .at + 1) r ⌝ }
 {
     let at = from.at;
-    let verdict = judge(j, at);
+    let verdict = judge(j, at, 4);
     match verdict {
         Verdict::Bad => Step::Bad,
         Verdict::Good(shape) => {
+            let first = Position {
+                at: at + shape.size,
+                counts: from.counts + weigh(j, at, units, weights, shape),
+            };
+            if shape.kind == 4 {
+                return Step::Upto(behind_unit(j, row, units, weights, first));
+            }
             let same = Same {
                 header: header_at(j, at),
                 size: shape.size,
                 weight: weight_of(weights, shape),
             };
-            let limit = clamped_end(at, MARK_SPAN, j.len());
-            let first = Position {
-                at: at + shape.size,
-                counts: from.counts + weigh(j, at, units, weights, shape),
-            };
-            let past = past_header(j, row, units, first, same, limit);
-            let end = clamped_end(at, 4096, j.len());
-            Step::Upto(past_each(j, row, units, weights, past, end))
+            Step::Upto(behind_plain(j, row, units, weights, first, same))
         }
     }
 }

@@ -1,11 +1,12 @@
-// The unit of a record, and whether it is asked for.
+// Whether the record at a place is asked for: the units are random, so no branch depends on one.
 ghost use mathlib.Core.Path.{_≡_};
-ghost use mathlib.Core.Bool.{cond};
+ghost use mathlib.Core.Bool.{true, cond};
 ghost use Prim.Native.Nat.{_+_, _≤_};
 ghost use lib.Dec.{eqb};
-ghost use lib.ListN.{length};
+ghost use lib.ListN.{length, drop};
 ghost use Rattle.words.specs.Numbers.{le};
-ghost use Rattle.journal.specs.Scanning.{isUnit};
+ghost use Rattle.records.specs.Records.{kindOf};
+ghost use Rattle.journal.specs.Scanning.{wantedOf, tallied, goodHere, asked};
 use crate::scope::Units;
 
 // The unit address of the record of kind 4 at a place.
@@ -16,19 +17,39 @@ pub fn read_unit(j: &[u8], at: usize) -> u64
     words::read_le64(j, at + 6)
 }
 
-// A weight where a unit is asked for, else 0.
-pub fn asked_weight(units: Units, unit: u64, weight: u64) -> u64
-    ensures { λ r. ⌜ r ≡ cond (isUnit units unit) weight 0 ⌝ }
+// The unit that is wanted; 0 where all units are asked for.
+pub fn wanted_unit(units: Units) -> u64
+    ensures { λ r. ⌜ r ≡ wantedOf units ⌝ }
 {
     match units {
-        Units::All => weight,
-        Units::One(wanted) => unit_weight(wanted, unit, weight),
+        Units::All => 0,
+        Units::One(wanted) => wanted,
     }
 }
 
-// A weight where a unit is the one wanted, else 0.
-pub fn unit_weight(wanted: u64, unit: u64, weight: u64) -> u64
-    ensures { λ r. ⌜ r ≡ cond (eqb unit wanted) weight 0 ⌝ }
+// 1 where a unit is the one wanted, else 0.
+pub fn same_unit(wanted: u64, unit: u64) -> usize
+    ensures { λ r. ⌜ r ≡ cond (eqb unit wanted) 1 0 ⌝ }
 {
-    if unit == wanted { weight } else { 0 }
+    if unit == wanted { 1 } else { 0 }
+}
+
+// Of so many records those that are asked for, where so many are of the unit wanted.
+pub fn tally(units: Units, passed: usize, same: usize) -> usize
+    ensures { λ r. ⌜ r ≡ tallied units passed same ⌝ }
+{
+    match units {
+        Units::All => passed,
+        Units::One(wanted) => same,
+    }
+}
+
+// 1 where the good record at a place is asked for, else 0: of kind 4 by its unit, of the other kinds always, whatever eight bytes are compared.
+pub fn asked_here(j: &[u8], at: usize, units: Units, kind: usize) -> usize
+    requires { ⌜ (goodHere (now j) at ≡ true) × (kind ≡ kindOf (drop at (now j))) ⌝ }
+    ensures { λ r. ⌜ r ≡ asked units (now (j .entry)) at 1 ⌝ }
+{
+    let four = kind / 4;
+    let same = same_unit(wanted_unit(units), words::read_le64(j, at + 6 * four));
+    (2 - four + tally(units, 1, same)) / 2
 }

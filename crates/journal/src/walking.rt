@@ -5,17 +5,16 @@ ghost use lib.Dec.{eqb};
 ghost use Prim.Native.Nat.{_+_, _<_, _≤_};
 ghost use lib.ListN.{length, drop};
 ghost use Rattle.words.specs.Numbers.{le32};
-ghost use Rattle.records.specs.Records.{kindOf, sizeOf, firstRecord, records, allGood};
+ghost use Rattle.records.specs.Records.{sizeOf, firstRecord, records, allGood};
 ghost use Rattle.journal.specs.Journal.{goodRecord, IsOpcode, entryOf, entries, wellFormed};
 ghost use Rattle.journal.specs.Scope.{holds, asking};
 ghost use Rattle.journal.specs.Reportable.{reports, chosen};
-ghost use Rattle.journal.specs.Scanning.{opcodeFor, goodHere, asked};
+ghost use Rattle.journal.specs.Scanning.{opcodeFor};
 ghost use Rattle.journal.specs.Marks.{Resumes, Marked};
 use crate::judging::read_type;
 use crate::marks::seek;
 use crate::scope::Units;
-use crate::units::asked_weight;
-use crate::units::read_unit;
+use crate::units::asked_here;
 
 // 1 where a set holds an opcode, else 0.
 fn in_set(set: u8, code: usize) -> usize
@@ -55,17 +54,6 @@ pub fn read_operand(j: &[u8], at: usize) -> u32
     words::read_le32(j, at)
 }
 
-// A bit where the unit of the record at a place is asked for, else 0.
-fn asked_bit(j: &[u8], at: usize, units: Units, kind: u16, bit: usize) -> usize
-    requires { ⌜ (goodHere (now j) at ≡ true) × (kind ≡ kindOf (drop at (now j))) ⌝ }
-    ensures { λ r. ⌜ r ≡ asked units (now (j .entry)) at bit ⌝ }
-{
-    if kind == 4 {
-        return asked_weight(units, read_unit(j, at), bit as u64) as usize;
-    }
-    bit
-}
-
 // A record that a walk visits: its size, and 1 where the row reports it under the opcode, else 0.
 pub struct Visited {
     pub size: usize,
@@ -79,10 +67,12 @@ pub fn visit(j: &[u8], row: &[u8; 17], units: Units, code: usize, at: usize) -> 
 {
     let frame = records::read_frame(j, at);
     let node = read_type(j, at);
-    let bit = reported(row[node as usize], code, frame.kind as usize);
+    let kind = frame.kind as usize;
+    let bit = reported(row[node as usize], code, kind);
+    let asked = asked_here(j, at, units, kind);
     Visited {
         size: records::record_size(frame),
-        reported: asked_bit(j, at, units, frame.kind, bit),
+        reported: (bit + asked) / 2,
     }
 }
 

@@ -10,14 +10,14 @@ use denote.Ref.{now}
 use Rattle.records.specs.Records.{sizeLimit}
 use Rattle.journal.specs.declared.stride.Same.{Same}
 use Rattle.journal.specs.Scope.{Selection, asking}
-use Rattle.journal.specs.Scanning.{Reached, Known, AllAsked}
+use Rattle.journal.specs.Scanning.{Reached, Known}
 use Rattle.journal.proofs.Reaching.{position, reached-four}
 use Rattle.journal.proofs.stride.past_same.Statement.{statement}
 use Rattle.journal.proofs.stride.past_same.Tie as tie
 
 -- whatever is asked for: a scan that came to the first place has come to the second
 abbrev Past : List ℕ → Same → ℕ → ℕ → ℕ → ℕ → Type 0
-Past j same at₀ counts₀ at counts = (sel : Selection) → length j ≤ sizeLimit → Known sel j same → AllAsked sel j same → Reached sel j (position at₀ counts₀) → Reached sel j (position at counts)
+Past j same at₀ counts₀ at counts = (sel : Selection) → length j ≤ sizeLimit → Known sel j same → Reached sel j (position at₀ counts₀) → Reached sel j (position at counts)
 
 abbrev Inv-loop : tie.InvT-loop
 Inv-loop j row same limit at₀ counts₀ four at counts = Past j same at₀ counts₀ at counts × (at₀ ≤ at) × (four ≡ 4 * same .size)
@@ -26,37 +26,37 @@ abbrev μ-loop : tie.MeasureT-loop
 μ-loop j row same limit at₀ counts₀ four at counts = limit - at
 
 loop-holds : tie.Need-loop-holds Inv-loop μ-loop
-loop-holds c = (λ sel s k a t. t, omega arith, search needs)
+loop-holds c = (λ sel s k t. t, omega arith, search needs)
 
 -- the scan's place in the loop
 reached : (c : tie.At-loop Inv-loop μ-loop)
     → let s = c .before .before .before in
     Reached (asking (now (s .args .row)) (s .args .units)) (now (s .args .j)) (position (c .loop .at) (c .loop .counts))
-reached c = let p = c .before .before .before .pre in c .loop .inv .0 _ (p .4) (p .1) (p .2) (p .0)
+reached c = let p = c .before .before .before .pre in c .loop .inv .0 _ (p .3) (p .1) (p .0)
 
 -- past four records
 turn : (c : tie.After-struct-known2 Inv-loop μ-loop)
     → let s = c .before .before .before .before .before .before .before in
     let l = c .before .before .before .before .loop in
-    (sel : Selection) → length (now (s .args .j)) ≤ sizeLimit → Known sel (now (s .args .j)) (s .args .same) → AllAsked sel (now (s .args .j)) (s .args .same)
+    (sel : Selection) → length (now (s .args .j)) ≤ sizeLimit → Known sel (now (s .args .j)) (s .args .same)
     → Reached sel (now (s .args .j)) (position (l .at) (l .counts))
     → Reached sel (now (s .args .j)) (position (l .at + 4 * s .args .same .size) (l .counts + 4 * s .args .same .weight))
-turn c sel small k a t =
+turn c sel small k t =
     let s = c .before .before .before .before .before .before .before in
     let l = c .before .before .before .before .loop in
-    reached-four sel (now (s .args .j)) (s .args .same) small k a (l .at) (l .counts) (omega arith) (sym (c .before .before .four-headers .ensures) ∙ not-false _ (c .before .if1 .left)) t
+    reached-four sel (now (s .args .j)) (s .args .same) small k (l .at) (l .counts) (omega arith) (sym (c .before .before .four-headers .ensures) ∙ not-false _ (c .before .if1 .left)) t
 
 -- for the selection asked for
 here : (c : tie.After-struct-known2 Inv-loop μ-loop)
     → let s = c .before .before .before .before .before .before .before in
     let l = c .before .before .before .before .loop in
     Reached (asking (now (s .args .row)) (s .args .units)) (now (s .args .j)) (position (l .at + 4 * s .args .same .size) (l .counts + 4 * s .args .same .weight))
-here c = let p = c .before .before .before .before .before .before .before .pre in turn c _ (p .4) (p .1) (p .2) (reached (c .before .before .before .before))
+here c = let p = c .before .before .before .before .before .before .before .pre in turn c _ (p .3) (p .1) (reached (c .before .before .before .before))
 
 loop-again : tie.Need-loop-again Inv-loop μ-loop
 loop-again c =
     let l = c .before .before .before .before .loop in
-    (λ sel small k a t. rw (l .inv .2) (turn c sel small k a (l .inv .0 sel small k a t)), omega arith, l .inv .2)
+    (λ sel small k t. rw (l .inv .2) (turn c sel small k (l .inv .0 sel small k t)), omega arith, l .inv .2)
 
 returns : tie.Need-returns Inv-loop μ-loop
 returns c = (reached (c .before), c .before .loop .inv .1)
@@ -72,7 +72,7 @@ past-same-spec =
     μ-loop
     (λ c. omega (arith, c .before .before .pre .1 .small))
     loop-holds
-    (λ c. omega (arith, reached c .inside, c .loop .inv .2, c .before .before .before .pre .1 .small, c .before .before .before .pre .4))
+    (λ c. omega (arith, reached c .inside, c .loop .inv .2, c .before .before .before .pre .1 .small, c .before .before .before .pre .3))
     (λ c κs. (omega (arith, c .before .before .before .before .pre .1 .large), c .before .before .before .before .pre .1 .small))
     (λ c. omega (arith, c .before .before .before .before .before .before .before .pre .1 .narrow))
     (λ c. record { fits = omega (arith, here c) })

@@ -1,6 +1,6 @@
 -- `stride::stride` meets its contract.
 use mathlib.Core.Bool.{true}
-use mathlib.Core.Path.{_≡_, ap, _∙_}
+use mathlib.Core.Path.{_≡_, sym, ap, _∙_}
 use Prim.Native.Nat.{_+_, _≤_}
 use native.Mathlib.Omega.{arith}
 use lib.ListN.{length}
@@ -10,8 +10,8 @@ use Rattle.journal.specs.declared.judging.Shape.{Shape}
 use Rattle.journal.specs.Scope.{asking}
 use Rattle.journal.specs.Scanning.{goodHere, shapeAt, Reached}
 use Rattle.journal.proofs.RecordLaws.{given-bad, given-good, good-size, good-fits, shape-bounds, known}
-use Rattle.journal.proofs.WeightLaws.{shape-weight, weighed}
-use Rattle.journal.proofs.Reaching.{position, reached-step, reached-bad}
+use Rattle.journal.proofs.WeightLaws.{shape-weight}
+use Rattle.journal.proofs.Reaching.{reached-judged, position, reached-bad}
 use Rattle.journal.proofs.stride.stride.Statement.{statement}
 use Rattle.journal.proofs.stride.stride.Tie as tie
 
@@ -21,7 +21,7 @@ good : (c : tie.After-known-told)
     (goodHere (now (s .args .j)) (s .args .from .at) ≡ true) × (c .before .verdict .given .0 .0 ≡ shapeAt (now (s .args .j)) (s .args .from .at))
 good c =
     let s = c .before .before .before .before .before in
-    given-good (now (s .args .j)) (s .args .from .at) _ _ (c .before .verdict .given .1) (c .before .before .before .judge .ensures)
+    given-good (now (s .args .j)) (s .args .from .at) 4 _ _ (c .before .verdict .given .1) (c .before .before .before .judge .ensures)
 
 -- its size, and that it is inside
 sized : (c : tie.After-known-told)
@@ -34,45 +34,41 @@ sized c =
 
 -- past it
 first : (c : tie.After-weigh)
-    → let s = c .before .before .before .before .before .before .before .before .before .before in
-    Reached (asking (now (s .args .row)) (s .args .units)) (now (s .args .j)) (position (s .args .from .at + c .before .before .before .before .before .before .verdict .given .0 .0 .size) (s .args .from .counts + c .weigh .result))
+    → let s = c .before .before .before .before .before .before .before in
+    Reached (asking (now (s .args .row)) (s .args .units)) (now (s .args .j)) (position (s .args .from .at + c .before .before .before .verdict .given .0 .0 .size) (s .args .from .counts + c .weigh .result))
 first c =
-    let s = c .before .before .before .before .before .before .before .before .before .before in
-    let sel = asking (now (s .args .row)) (s .args .units) in
-    reached-step sel (now (s .args .j)) (s .args .from .at) (s .args .from .counts) (s .pre .3) (s .pre .0) _ _ (s .pre .2)
-    (weighed sel (now (s .args .j)) (now (s .args .weights)) (s .args .from .at) _ _ (s .pre .1) (good (c .before .before .before .before .before)) (c .weigh .ensures))
-
-header-at-requires : tie.Need-header-at-requires
-header-at-requires c κs = omega (arith, sized c)
+    let s = c .before .before .before .before .before .before .before in
+    reached-judged _ (now (s .args .j)) (now (s .args .weights)) (s .args .from .at) (s .args .from .counts) (s .pre .3) (s .pre .1) (s .pre .0) _ _ (s .pre .2) (good (c .before .before)) (c .weigh .ensures)
 
 weight-of-requires : tie.Need-weight-of-requires
 weight-of-requires c κs =
-    let s = c .before .before .before .before .before .before in
-    shape-bounds (now (s .args .j)) (s .args .from .at) (good (c .before) .0) _ (good (c .before) .1)
-
-weigh-requires : tie.Need-weigh-requires
-weigh-requires c κs = good (c .before .before .before .before)
-
-past-header-requires : tie.Need-past-header-requires
-past-header-requires c κs =
     let s = c .before .before .before .before .before .before .before .before .before .before .before in
-    let g = good (c .before .before .before .before .before .before) in
-    let weight = c .before .before .before .before .weight-of .ensures ∙ shape-weight (now (s .args .row)) (now (s .args .j)) (now (s .args .weights)) (s .args .from .at) _ (s .pre .1) (g .0) (g .1) in
-    let bytes = c .before .before .before .before .before .before .before .before .before .before .shared-slice-known .given in (
-      first (c .before),
-      known (asking (now (s .args .row)) (s .args .units)) (now (s .args .j)) (λ i. omega (arith, bytes i)) (s .args .from .at) (g .0) _ (c .before .before .before .before .before .header-at .ensures) (ap (λ (x : Shape). x .size) (g .1)) weight,
-      c .before .before .before .clamped-end .ensures .1,
+    shape-bounds (now (s .args .j)) (s .args .from .at) (good (c .before .before .before .before .before .before) .0) _ (good (c .before .before .before .before .before .before) .1)
+
+behind-plain-requires : tie.Need-behind-plain-requires
+behind-plain-requires c κs =
+    let s = c .before .before .before .before .before .before .before .before .before .before .before .before in
+    let g = good (c .before .before .before .before .before .before .before) in
+    let kind = ap (λ (x : Shape). x .kind) (g .1) in
+    let weight = c .weight-of .ensures ∙ shape-weight (now (s .args .row)) (now (s .args .j)) (now (s .args .weights)) (s .args .from .at) _ (s .pre .1) (g .0) (g .1) in
+    let bytes = c .before .before .before .before .before .before .before .before .before .before .before .shared-slice-known .given in (
+      first (c .before .before .before .before .before),
+      s .pre .1,
+      known (asking (now (s .args .row)) (s .args .units)) (now (s .args .j)) (λ i. omega (arith, bytes i)) (s .args .from .at) (g .0) (λ q. c .before .before .if1 .left (kind ∙ q)) _ (c .before .header-at .ensures) (ap (λ (x : Shape). x .size) (g .1)) weight,
       s .pre .3,
     )
 
 returns : tie.Need-returns
-returns c =
+returns c = (c .behind-unit .ensures .0, omega (arith, c .behind-unit .ensures .1, sized (c .before .before .before .before .before .before)))
+
+returns-2 : tie.Need-returns-2
+returns-2 c =
     let s = c .before .before .before .before in
     reached-bad (asking (now (s .args .row)) (s .args .units)) (now (s .args .j)) (s .args .from .at) (s .args .from .counts) (s .pre .3) (s .pre .0) (s .pre .2)
     (given-bad (now (s .args .j)) (s .args .from .at) _ (c .enum-told .given .1) (c .before .before .judge .ensures))
 
-returns-2 : tie.Need-returns-2
-returns-2 c = (c .past-each .ensures .0, omega (arith, c .past-each .ensures .1, c .before .before .past-header .ensures .1, sized (c .before .before .before .before .before .before .before .before .before)))
+returns-3 : tie.Need-returns-3
+returns-3 c = (c .behind-plain .ensures .0, omega (arith, c .behind-plain .ensures .1, sized (c .before .before .before .before .before .before .before .before)))
 
 pub stride-spec : {M : Type 1} → statement M
 stride-spec =
@@ -81,14 +77,13 @@ stride-spec =
     (λ c κs. search needs)
     (λ c. search needs)
     (λ c. search needs)
-    header-at-requires
-    weight-of-requires
-    (λ c κs. search needs)
-    (λ c. omega (arith, sized (c .before .before .before .before)))
-    weigh-requires
-    (λ c. record { fits = omega (arith, first (c .before)) })
-    past-header-requires
-    (λ c κs. search needs)
-    (λ c κs. search needs)
+    (λ c. omega (arith, sized (c .before)))
+    (λ c κs. good (c .before))
+    (λ c. omega (arith, first (c .before)))
+    (λ c κs. (first (c .before .before .before), c .before .before .before .before .before .before .before .before .before .before .pre .1, c .before .before .before .before .before .before .before .before .before .before .pre .3))
     returns
-    returns-2)
+    (λ c κs. omega (arith, sized (c .before .before .before .before .before)))
+    weight-of-requires
+    behind-plain-requires
+    returns-2
+    returns-3)
