@@ -144,7 +144,8 @@ module _ (sel : Selection) (j : List ℕ) (s : Same) (small : length j ≤ sizeL
   reached-same : (at counts : ℕ) → at + size ≤ length j → le 6 j at ≡ s .header → Reached sel j (position at counts) → Reached sel j (position (at + size) (counts + weight))
   reached-same at counts r e t = reached-step sel j at counts small t size weight (omega (arith, k .large)) (k .here at r e)
 
-  pub reached-four : (at counts : ℕ) → at + 4 * size ≤ length j → fourHeaded j (s .header) size at ≡ true → Reached sel j (position at counts) → Reached sel j (position (at + 4 * size) (counts + 4 * weight))
+  pub reached-four : (at counts : ℕ) → at + 4 * size ≤ length j → fourHeaded j (s .header) size at ≡ true → Reached sel j (position at counts) → Reached sel j
+      (position (at + 4 * size) (counts + 4 * weight))
   reached-four at counts r e t =
       let q = four-equal (le 6 j at) (le 6 j (at + size)) (le 6 j (at + 2 * size)) (le 6 j (at + 3 * size)) (s .header) e in
       let s₂ : at + size + size ≡ at + 2 * size = omega arith in

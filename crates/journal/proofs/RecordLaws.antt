@@ -7,7 +7,7 @@ use native.Mathlib.Nat.{add-assoc}
 use native.Mathlib.Omega.{arith}
 use lib.Dec.{leb, eqb}
 use lib.ListN.{length, getD, drop}
-use borrow.Author.Tests.{le-leb, lt-leb, eq-eqb, ne-eqb, leb-true, leb-false, eqb-true, eqb-false}
+use borrow.Author.Tests.{le-leb, lt-leb, ne-eqb, leb-true, leb-false, eqb-true, eqb-false}
 use Rattle.words.specs.Numbers.{Bytes, le}
 use Rattle.words.proofs.Numbers.{le-split, le-below}
 use Rattle.records.specs.Records.{lengthOf, kindOf, sizeOf, firstRecord, whole}
@@ -396,7 +396,8 @@ module _ (sel : Selection) (j : List ℕ) (bytes : Bytes j) (at : ℕ) (good : g
       let len : lengthOf (drop at j) ≡ lengthOf (drop i j) = length-at j at ∙ sym (length-at j i ∙ first-two j bytes 4 at i h) in
       let kind : kindOf (drop at j) ≡ kindOf (drop i j) = kind-at j at ∙ sym (kind-at j i ∙ first-two j bytes 2 (at + 2) (i + 2) four) in
       let node : le 2 j (at + 4) ≡ le 2 j (i + 4) = ap (le 2 j) (sym (add-assoc at 2 2)) ∙ sym (behind-two j bytes 2 (at + 2) (i + 2) four) ∙ ap (le 2 j) (add-assoc i 2 2) in
-      let here : goodHere j i ≡ true = good-read j i _ _ _ len kind node ∙ good-again (length j - at) (length j - i) (lengthOf (drop at j)) (kindOf (drop at j)) (le 2 j (at + 4)) (good-is j at good) (omega arith) in
+      let here : goodHere j i ≡ true = good-read j i _ _ _ len kind node ∙ good-again (length j - at) (length j - i) (lengthOf (drop at j)) (kindOf (drop at j))
+      (le 2 j (at + 4)) (good-is j at good) (omega arith) in
       record {
         size-is = ap (λ (n : ℕ). n + 2) (sym len);
         good = here;

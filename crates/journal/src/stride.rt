@@ -1,4 +1,5 @@
-// Steps along a journal: records of the same header four at a time, others one at a time with no branch on their kind.
+// Steps along a journal: records of the same header four at a time, those of kind 4 two at a time, others one at a time with no branch on
+// their kind.
 ghost use mathlib.Core.Path.{_≡_};
 ghost use mathlib.Core.Bool.{true};
 ghost use Prim.Native.Nat.{_+_, _*_, _<_, _≤_};
@@ -7,7 +8,7 @@ ghost use Rattle.words.specs.Numbers.{le};
 ghost use Rattle.records.specs.Records.{sizeLimit};
 ghost use Rattle.journal.specs.Scope.{asking};
 ghost use Rattle.journal.specs.Journal.{largestType};
-ghost use Rattle.journal.specs.Scanning.{goodHere, shapeAt, weightOf, asked, fourHeaded, UnitHere, Reached, Known, Advanced, Weights};
+ghost use Rattle.journal.specs.Scanning.{goodHere, shapeAt, asked, fourHeaded, UnitHere, Reached, Known, Advanced, Weights};
 use crate::judging::Shape;
 use crate::judging::Verdict;
 use crate::judging::judge;
@@ -164,7 +165,7 @@ fn past_units(
 }
 
 // Past records of the kinds up to `most` one at a time, up to an end or another record: the step is the record's own length, and one sum
-// counts all three opcodes.
+// counts all three opcodes. The step comes first, since the next turn waits for it.
 fn past_each(
     j: &[u8],
     row: &[u8; 17],

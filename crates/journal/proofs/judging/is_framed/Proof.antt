@@ -26,7 +26,8 @@ returns-3 c =
 returns-4 : tie.Need-returns-4
 returns-4 c =
     let a = c .before .before .before .before .before .before .args in
-    rw (le-leb (a .frame .kind) (a .most) (c .before .before .if3 .left), le-leb (a .frame .length + 2) (a .left) (omega arith), c .before .length-of .ensures) (sym (frame-is _ _ (record { low = omega arith; high = omega (arith, c .before .before .before .before .before .before .pre) })))
+    rw (le-leb (a .frame .kind) (a .most) (c .before .before .if3 .left), le-leb (a .frame .length + 2) (a .left) (omega arith), c .before .length-of .ensures)
+    (sym (frame-is _ _ (record { low = omega arith; high = omega (arith, c .before .before .before .before .before .before .pre) })))
 
 pub is-framed-spec : {M : Type 1} → statement M
 is-framed-spec = tie.close (tie.spec (λ c κs. search needs) returns returns-2 returns-3 (λ c κs. record { low = omega arith; high = omega (arith, c .before .before .before .before .pre) }) returns-4)

@@ -22,11 +22,18 @@ returns c =
 few : (c : tie.Else1) → c .before .before .args .frame .kind ≤ 4
 few c =
     let a = c .before .before .args in
-    omega (arith, c .before .before .pre, leb-true (a .frame .kind) (a .most) (and-left (leb (a .frame .kind) (a .most)) (framedAt (a .left) (a .frame .length) (a .frame .kind)) (sym (c .before .is-framed .ensures) ∙ not-false _ (c .if1 .left))))
+    omega (
+      arith,
+      c .before .before .pre,
+      leb-true (a .frame .kind) (a .most)
+          (and-left (leb (a .frame .kind) (a .most)) (framedAt (a .left) (a .frame .length) (a .frame .kind)) (sym (c .before .is-framed .ensures) ∙ not-false _ (c .if1 .left))),
+    )
 
 -- and the node type decides
-told : (c : tie.Else1) → let a = c .before .before .args in (leb (a .frame .kind) (a .most) && goodAt (a .left) (a .frame .length) (a .frame .kind) (a .node)) ≡ within (1 + 14 * (a .frame .kind / 4)) (14 + 2 * (a .frame .kind / 4)) (a .node)
-told c = let a = c .before .before .args in frame-type (a .left) (a .frame .length) (a .frame .kind) (a .node) (leb (a .frame .kind) (a .most)) (sym (c .before .is-framed .ensures) ∙ not-false _ (c .if1 .left))
+told : (c : tie.Else1) → let a = c .before .before .args in (leb (a .frame .kind) (a .most) && goodAt (a .left) (a .frame .length) (a .frame .kind) (a .node)) ≡ within
+    (1 + 14 * (a .frame .kind / 4)) (14 + 2 * (a .frame .kind / 4)) (a .node)
+told c = let a = c .before .before .args in frame-type (a .left) (a .frame .length) (a .frame .kind) (a .node) (leb (a .frame .kind) (a .most))
+    (sym (c .before .is-framed .ensures) ∙ not-false _ (c .if1 .left))
 
 returns-2 : tie.Need-returns-2
 returns-2 c = rw (told (c .before .before), le-leb _ _ (c .if2 .taken))

@@ -15,22 +15,27 @@ use Rattle.journal.proofs.judging.judge.Statement.{statement}
 use Rattle.journal.proofs.judging.judge.Tie as tie
 
 -- the test of the record, by what was read of it
-told : (c : tie.After-is-good) → let s = c .before .before .before .before .before in (leb (kindOf (drop (s .args .at) (now (s .args .j)))) (s .args .most) && goodHere (now (s .args .j)) (s .args .at)) ≡ c .is-good .result
+told : (c : tie.After-is-good) → let s = c .before .before .before .before .before in
+    (leb (kindOf (drop (s .args .at) (now (s .args .j)))) (s .args .most) && goodHere (now (s .args .j)) (s .args .at)) ≡ c .is-good .result
 told c =
     let s = c .before .before .before .before .before in
     let frame = c .before .before .read-frame .ensures in
-    test-read (now (s .args .j)) (s .args .at) (λ (k : ℕ). leb k (s .args .most)) _ _ _ (ap (λ (f : Frame). f .length) frame) (ap (λ (f : Frame). f .kind) frame) (c .before .read-type .ensures) ∙ sym (c .is-good .ensures)
+    test-read (now (s .args .j)) (s .args .at) (λ (k : ℕ). leb k (s .args .most)) _ _ _ (ap (λ (f : Frame). f .length) frame) (ap (λ (f : Frame). f .kind) frame)
+    (c .before .read-type .ensures) ∙ sym (c .is-good .ensures)
 
 returns : tie.Need-returns
 returns c = let s = c .before .before in test-short (now (s .args .j)) (s .args .at) (leb (kindOf (drop (s .args .at) (now (s .args .j)))) (s .args .most)) (c .if1 .taken)
 
 returns-2 : tie.Need-returns-2
-returns-2 c = let s = c .before .before .before .before .before .before in test-bad (now (s .args .j)) (s .args .at) (leb (kindOf (drop (s .args .at) (now (s .args .j)))) (s .args .most)) (told (c .before) ∙ not-true _ (c .if2 .taken))
+returns-2 c = let s = c .before .before .before .before .before .before in test-bad (now (s .args .j)) (s .args .at)
+    (leb (kindOf (drop (s .args .at) (now (s .args .j)))) (s .args .most)) (told (c .before) ∙ not-true _ (c .if2 .taken))
 
 returns-3 : tie.Need-returns-3
 returns-3 c =
     let s = c .before .before .before .before .before .before .before .before in
-    test-good (now (s .args .j)) (s .args .at) (leb (kindOf (drop (s .args .at) (now (s .args .j)))) (s .args .most)) _ (rw (c .before .record-size .ensures, c .before .before .before .before .before .read-frame .ensures, c .before .before .before .before .read-type .ensures)) (told (c .before .before .before) ∙ not-false _ (c .before .before .if2 .left))
+    test-good (now (s .args .j)) (s .args .at) (leb (kindOf (drop (s .args .at) (now (s .args .j)))) (s .args .most)) _
+    (rw (c .before .record-size .ensures, c .before .before .before .before .before .read-frame .ensures, c .before .before .before .before .read-type .ensures))
+    (told (c .before .before .before) ∙ not-false _ (c .before .before .if2 .left))
 
 pub judge-spec : {M : Type 1} → statement M
 judge-spec =

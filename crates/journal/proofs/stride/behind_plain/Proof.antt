@@ -1,6 +1,5 @@
 -- `stride::behind_plain` meets its contract.
 use native.Mathlib.Omega.{arith}
-use borrow.Author.Needs.{needs}
 use Rattle.journal.proofs.stride.behind_plain.Statement.{statement}
 use Rattle.journal.proofs.stride.behind_plain.Tie as tie
 

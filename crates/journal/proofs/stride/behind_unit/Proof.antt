@@ -1,6 +1,5 @@
 -- `stride::behind_unit` meets its contract.
 use native.Mathlib.Omega.{arith}
-use borrow.Author.Needs.{needs}
 use Rattle.journal.proofs.stride.behind_unit.Statement.{statement}
 use Rattle.journal.proofs.stride.behind_unit.Tie as tie
 

@@ -1,7 +1,7 @@
 -- `stride::has_two_units` meets its contract.
 use borrow.Author.Needs.{needs}
 use native.Mathlib.Omega.{arith}
-use mathlib.Core.Path.{_≡_, refl}
+use mathlib.Core.Path.{_≡_}
 use Prim.Native.Nat.{ℕ}
 use Rattle.journal.proofs.stride.has_two_units.Statement.{statement}
 use Rattle.journal.proofs.stride.has_two_units.Tie as tie

@@ -12,7 +12,8 @@ returns : tie.Need-returns
 returns c =
     let s = c .before .before .before in
     let bytes = c .before .before .shared-slice-known .given in
-    λ e. unit-here (now (s .args .j)) (λ i. omega (arith, bytes i)) (s .args .at) (c .wrapping-sub-u64 .result) (s .pre) (c .wrapping-sub-u64 .ensures ∙ c .before .read-le64 .ensures) (eqb-true _ 0 e)
+    λ e. unit-here (now (s .args .j)) (λ i. omega (arith, bytes i)) (s .args .at) (c .wrapping-sub-u64 .result) (s .pre)
+    (c .wrapping-sub-u64 .ensures ∙ c .before .read-le64 .ensures) (eqb-true _ 0 e)
 
 pub has-unit-spec : {M : Type 1} → statement M
 has-unit-spec = tie.close (tie.spec (λ c κs. search needs) (λ c κs. search needs) (λ c. search needs) (λ c. omega arith) returns)

@@ -24,10 +24,12 @@ good : (c : tie.After-known-told Inv-loop μ-loop)
     → let j = now (c .before .before .before .before .before .before .before .args .j) in
     let at = c .before .before .before .before .before .loop .at in
     (goodHere j at ≡ true) × (c .before .verdict .given .0 .0 ≡ shapeAt j at)
-good c = given-good (now (c .before .before .before .before .before .before .before .args .j)) (c .before .before .before .before .before .loop .at) (c .before .before .before .before .before .before .before .args .most) _ _ (c .before .verdict .given .1) (c .before .before .before .judge .ensures)
+good c = given-good (now (c .before .before .before .before .before .before .before .args .j)) (c .before .before .before .before .before .loop .at)
+    (c .before .before .before .before .before .before .before .args .most) _ _ (c .before .verdict .given .1) (c .before .before .before .judge .ensures)
 
 -- its size, and that it is inside
-sized : (c : tie.After-known-told Inv-loop μ-loop) → let size = c .before .verdict .given .0 .0 .size in (10 ≤ size) × (c .before .before .before .before .before .loop .at + size ≤ length (now (c .before .before .before .before .before .before .before .args .j)))
+sized : (c : tie.After-known-told Inv-loop μ-loop) → let size = c .before .verdict .given .0 .0 .size in (10 ≤ size) ×
+    (c .before .before .before .before .before .loop .at + size ≤ length (now (c .before .before .before .before .before .before .before .args .j)))
 sized c =
     let j = now (c .before .before .before .before .before .before .before .args .j) in
     let at = c .before .before .before .before .before .loop .at in

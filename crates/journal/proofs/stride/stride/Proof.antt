@@ -1,6 +1,6 @@
 -- `stride::stride` meets its contract.
 use mathlib.Core.Bool.{true}
-use mathlib.Core.Path.{_≡_, sym, ap, _∙_}
+use mathlib.Core.Path.{_≡_, ap, _∙_}
 use Prim.Native.Nat.{_+_, _≤_}
 use native.Mathlib.Omega.{arith}
 use lib.ListN.{length}
@@ -35,10 +35,12 @@ sized c =
 -- past it
 first : (c : tie.After-weigh)
     → let s = c .before .before .before .before .before .before .before in
-    Reached (asking (now (s .args .row)) (s .args .units)) (now (s .args .j)) (position (s .args .from .at + c .before .before .before .verdict .given .0 .0 .size) (s .args .from .counts + c .weigh .result))
+    Reached (asking (now (s .args .row)) (s .args .units)) (now (s .args .j))
+    (position (s .args .from .at + c .before .before .before .verdict .given .0 .0 .size) (s .args .from .counts + c .weigh .result))
 first c =
     let s = c .before .before .before .before .before .before .before in
-    reached-judged _ (now (s .args .j)) (now (s .args .weights)) (s .args .from .at) (s .args .from .counts) (s .pre .3) (s .pre .1) (s .pre .0) _ _ (s .pre .2) (good (c .before .before)) (c .weigh .ensures)
+    reached-judged _ (now (s .args .j)) (now (s .args .weights)) (s .args .from .at) (s .args .from .counts) (s .pre .3) (s .pre .1) (s .pre .0) _ _ (s .pre .2)
+    (good (c .before .before)) (c .weigh .ensures)
 
 weight-of-requires : tie.Need-weight-of-requires
 weight-of-requires c κs =
@@ -54,7 +56,8 @@ behind-plain-requires c κs =
     let bytes = c .before .before .before .before .before .before .before .before .before .before .before .shared-slice-known .given in (
       first (c .before .before .before .before .before),
       s .pre .1,
-      known (asking (now (s .args .row)) (s .args .units)) (now (s .args .j)) (λ i. omega (arith, bytes i)) (s .args .from .at) (g .0) (λ q. c .before .before .if1 .left (kind ∙ q)) _ (c .before .header-at .ensures) (ap (λ (x : Shape). x .size) (g .1)) weight,
+      known (asking (now (s .args .row)) (s .args .units)) (now (s .args .j)) (λ i. omega (arith, bytes i)) (s .args .from .at) (g .0)
+          (λ q. c .before .before .if1 .left (kind ∙ q)) _ (c .before .header-at .ensures) (ap (λ (x : Shape). x .size) (g .1)) weight,
       s .pre .3,
     )
 
@@ -80,7 +83,11 @@ stride-spec =
     (λ c. omega (arith, sized (c .before)))
     (λ c κs. good (c .before))
     (λ c. omega (arith, first (c .before)))
-    (λ c κs. (first (c .before .before .before), c .before .before .before .before .before .before .before .before .before .before .pre .1, c .before .before .before .before .before .before .before .before .before .before .pre .3))
+    (λ c κs. (
+      first (c .before .before .before),
+      c .before .before .before .before .before .before .before .before .before .before .pre .1,
+      c .before .before .before .before .before .before .before .before .before .before .pre .3,
+    ))
     returns
     (λ c κs. omega (arith, sized (c .before .before .before .before .before)))
     weight-of-requires

@@ -1,5 +1,5 @@
 -- `units::asked_here` meets its contract.
-use mathlib.Core.Path.{_≡_, sym, _∙_}
+use mathlib.Core.Path.{_≡_, _∙_}
 use mathlib.Core.Bool.{cond}
 use Prim.Native.Nat.{_+_, _*_, _/_, _≤_}
 use native.Mathlib.Omega.{arith}
@@ -18,10 +18,12 @@ inside : (c : tie.Start) → (c .args .at + 6 * (c .args .kind / 4) + 8 ≤ leng
 inside c = rw (c .pre .1) (unit-inside (now (c .args .j)) (c .args .at) (c .pre .0), good-kind (now (c .args .j)) (c .args .at) (c .pre .0) .high)
 
 -- what was found of them
-found : (c : tie.After-tally) → let s = c .before .before .before .before .before in c .tally .result ≡ cond (isUnit (s .args .units) (le 8 (now (s .args .j)) (s .args .at + 6 * (s .args .kind / 4)))) 1 0
+found : (c : tie.After-tally) → let s = c .before .before .before .before .before in c .tally .result ≡ cond
+    (isUnit (s .args .units) (le 8 (now (s .args .j)) (s .args .at + 6 * (s .args .kind / 4)))) 1 0
 found c =
     let s = c .before .before .before .before .before in
-    c .tally .ensures ∙ rw (c .before .same-unit .ensures, c .before .before .read-le64 .ensures, c .before .before .before .wanted-unit .ensures) (asked-same (s .args .units) (le 8 (now (s .args .j)) (s .args .at + 6 * (s .args .kind / 4))))
+    c .tally .ensures ∙ rw (c .before .same-unit .ensures, c .before .before .read-le64 .ensures, c .before .before .before .wanted-unit .ensures)
+    (asked-same (s .args .units) (le 8 (now (s .args .j)) (s .args .at + 6 * (s .args .kind / 4))))
 
 small : (c : tie.After-tally) → c .tally .result ≤ 1
 small c = let s = c .before .before .before .before .before in rw (found c) (one-if-le (isUnit (s .args .units) (le 8 (now (s .args .j)) (s .args .at + 6 * (s .args .kind / 4)))))

@@ -34,7 +34,12 @@ read-type-requires : tie.Need-read-type-requires
 read-type-requires c κs = omega (arith, inside (c .before .before))
 
 element-copy-out-reported : tie.Need-element-copy-out-reported
-element-copy-out-reported c = omega (arith, c .before .read-type .ensures, good-node (now (c .before .before .before .before .args .j)) (c .before .before .before .before .args .at) (good (c .before .before .before .before)))
+element-copy-out-reported c = omega (
+  arith,
+  c .before .read-type .ensures,
+  good-node (now (c .before .before .before .before .args .j))
+      (c .before .before .before .before .args .at) (good (c .before .before .before .before)),
+)
 
 asked-here-requires : tie.Need-asked-here-requires
 asked-here-requires c κs = (good (c .before .before .before .before .before .before), ap (λ (f : Frame). f .kind) (c .before .before .before .before .read-frame .ensures))
@@ -43,7 +48,9 @@ asked-here-requires c κs = (good (c .before .before .before .before .before .be
 bits : (c : tie.After-record-size) → (c .before .before .reported .result ≤ 1) × (c .before .asked-here .result ≤ 1)
 bits c =
     let s = c .before .before .before .before .before .before .before .before in (
-      rw (c .before .before .reported .ensures) (one-if-le (eqb (opcodeFor (c .before .before .before .before .before .before .read-frame .result .kind)) (s .args .code) && holds (getD (now (s .args .row)) (c .before .before .before .before .before .read-type .result) 0) (s .args .code))),
+      rw (c .before .before .reported .ensures)
+          (one-if-le (eqb (opcodeFor (c .before .before .before .before .before .before .read-frame .result .kind)) (s .args .code) && holds
+          (getD (now (s .args .row)) (c .before .before .before .before .before .read-type .result) 0) (s .args .code))),
       rw (c .before .asked-here .ensures) (one-if-le (asks (s .args .units) (entryOf (firstRecord (drop (s .args .at) (now (s .args .j))))))),
     )
 
@@ -64,8 +71,16 @@ returns c =
     let frame = c .before .before .before .before .before .before .read-frame .ensures in
     let e = entryOf (firstRecord (drop (s .args .at) (now (s .args .j)))) in (
       c .record-size .ensures ∙ ap (λ (f : Frame). f .length + 2) frame,
-      rw (c .before .asked-here .ensures, c .before .before .reported .ensures, good-reports (now (s .args .j)) (s .args .at) (good s) sel (s .args .code), c .before .before .before .before .before .read-type .ensures, frame)
-          (both (eqb (opcodeFor (kindOf (drop (s .args .at) (now (s .args .j))))) (s .args .code) && holds (getD (now (s .args .row)) (le 2 (now (s .args .j)) (s .args .at + 4)) 0) (s .args .code)) (asks (s .args .units) e)),
+      rw (
+        c .before .asked-here .ensures,
+        c .before .before .reported .ensures,
+        good-reports (now (s .args .j)) (s .args .at) (good s) sel
+            (s .args .code),
+        c .before .before .before .before .before .read-type .ensures,
+        frame,
+      )
+          (both (eqb (opcodeFor (kindOf (drop (s .args .at) (now (s .args .j))))) (s .args .code)
+          && holds (getD (now (s .args .row)) (le 2 (now (s .args .j)) (s .args .at + 4)) 0) (s .args .code)) (asks (s .args .units) e)),
     )
 
 pub visit-spec : {M : Type 1} → statement M
