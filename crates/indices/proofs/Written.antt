@@ -3,16 +3,16 @@ use mathlib.Core.Path.{_≡_, refl, sym, ap, _∙_}
 use mathlib.Core.Bool.{true, false}
 use mathlib.Core.List.{List, [], _∷_, _++_, append-assoc}
 use Prim.Native.Nat.{ℕ, zero, suc, _+_, _-_, _%_, _≤_, _<_}
-use native.Mathlib.Nat.{add-zero, mod-eq-of-lt}
 use native.Mathlib.Omega.{arith}
 use lib.Dec.{leb, ltb, eqb}
 use lib.ListN.{length, take, drop, replicate, length-append, length-replicate, length-drop}
-use lib.Seq.{drop-at, take-at, drop-drop}
+use lib.Seq.{drop-at, take-at}
 use borrow.Author.Tests.{le-leb, le-ltb, leb-true, eq-eqb}
-use Rattle.words.specs.Numbers.{be, be32, beBytes, zeros}
+use Rattle.words.specs.Numbers.{be32, beBytes, zeros}
 use Rattle.words.specs.Nul.{untilNul}
 use Rattle.words.proofs.Choice.{choose, decide, and-left, and-right}
-use Rattle.words.proofs.Numbers.{be-drop, be-bytes, length-beBytes}
+use Rattle.words.proofs.Numbers.{length-beBytes}
+use Rattle.words.proofs.Places.{word-there, behind}
 use Rattle.inventory.specs.Inventory.{nonZero, goodCode, codeLimit}
 use Rattle.inventory.specs.Listing.{Entry, listed}
 use Rattle.indices.specs.declared.reading.Fault.the-variants.{Fine}
@@ -23,16 +23,6 @@ use Rattle.indices.specs.Claims.{RoundTrip, ReadsBack, HoldsDue}
 use Rattle.inventory.specs.Sound.{Sound}
 use Rattle.inventory.proofs.Codes.{code-in-word}
 use Rattle.inventory.proofs.Listed.{listed-sound, listed-few}
-
--- ---- a word at a place of which it is known what stands there
-
-word-there : (area : List ℕ) (at v : ℕ) (r : List ℕ) → drop at area ≡ beBytes 4 v ++ r → v < 4294967296 → be32 area at ≡ v
-word-there area at v r e h =
-    let here : be 4 (drop at area) 0 ≡ be 4 area (at + 0) = be-drop 4 at area 0 in
-    ap (λ (k : ℕ). be 4 area k) (sym (add-zero at)) ∙ sym here ∙ ap (λ (l : List ℕ). be 4 l 0) e ∙ be-bytes 4 v r ∙ mod-eq-of-lt h
-
-behind : (area : List ℕ) (at n k : ℕ) (p r : List ℕ) → k ≡ at + n → drop at area ≡ p ++ r → length p ≡ n → drop k area ≡ r
-behind area at n k p r q e h = ap (λ (i : ℕ). drop i area) q ∙ sym (drop-drop n at area) ∙ ap (λ (l : List ℕ). drop n l) e ∙ drop-at p r n h
 
 -- ---- the field of a code
 

@@ -1,4 +1,4 @@
--- Bytes of a location code that are not zero, and the code of a record as a part of the inventory.
+-- Bytes of a location code that are not zero.
 use mathlib.Core.Path.{_≡_, refl, sym, ap, _∙_}
 use mathlib.Core.Bool.{Bool, true, false, cond, _&&_, not, and-assoc}
 use mathlib.Core.List.{List, [], _∷_, _++_}
@@ -7,7 +7,7 @@ use native.Mathlib.Numerals.{add-one}
 use native.Mathlib.Omega.{arith}
 use lib.Dec.{eqb, ltb}
 use lib.ListN.{length, getD, take, drop, take-append-drop}
-use lib.Seq.{slice, slice-cons, slice-empty, take-add, take-take, drop-append-add, length-take-le}
+use lib.Seq.{slice, slice-cons, slice-empty, take-take}
 use borrow.Author.Tests.{lt-ltb, ltb-true, eqb-true, eqb-false}
 use Rattle.words.proofs.Choice.{decide, choose}
 use Rattle.inventory.specs.Inventory.{codeLimit, nonZero}
@@ -71,9 +71,3 @@ non-zero-parts s from b a to h k l =
     once true true z = refl
     once true false z = refl
     once false y z = refl
-
--- a part of what stands behind a place is a part of the whole
-pub drop-part : (s : List ℕ) (at k size : ℕ) → at ≤ length s → drop k (take size (drop at s)) ≡ slice (at + k) (at + size) s
-drop-part s at k size h =
-    let e : length (take at s) ≡ at = length-take-le at s h in
-    rw (take-add at size s) (rw e at (sym (drop-append-add (take at s) (take size (drop at s)) k)))

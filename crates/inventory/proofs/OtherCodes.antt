@@ -114,7 +114,10 @@ search-witness =
         few = omega arith;
         first = refl;
         second = refl;
-        alike = (record { size = refl; head = refl; same = λ e. cc }, (record { size = refl; head = refl; same = λ e. refl }, tt));
+        alike = (
+          record { size = refl; head = refl; same = λ e. cc },
+          (record { size = refl; head = refl; same = λ e. cc }, (record { size = refl; head = refl; same = λ e. refl }, tt)),
+        );
       };
       taken = refl;
       refused = refl;

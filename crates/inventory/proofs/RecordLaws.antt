@@ -11,11 +11,10 @@ use borrow.Author.Tests.{le-leb, leb-true}
 use Rattle.words.specs.Numbers.{le}
 use Rattle.words.proofs.Choice.{decide, and-left, and-right}
 use Rattle.records.specs.Records.{lengthOf, kindOf, sizeOf, firstRecord, whole}
-use Rattle.records.proofs.Steps.{field-at, record-length, record-kind, whole-at}
+use Rattle.records.proofs.Steps.{drop-part, field-at, record-length, record-kind, whole-at}
 use Rattle.inventory.specs.Inventory.{codeLimit, headSize, flagOf, typeOf, codeOf, nonZero, goodHead, goodCode, goodRecord}
 use Rattle.inventory.specs.Judging.{framedAt, goodSize, Readable}
 use Rattle.inventory.specs.Listing.{matches}
-use Rattle.inventory.proofs.Codes.{drop-part}
 
 -- what the code's test of the numbers tells
 pub framed-bounds : (left n kind flag : ℕ) → framedAt left n kind flag ≡ true → (headSize + 1 ≤ n) × (n ≤ headSize + codeLimit) × (n ≤ left)

@@ -34,6 +34,7 @@ cases =
     ∷ no (entry 15 16 2 three)
     -- 01: "a location code of 1 to 79 non-zero bytes; length 12 plus the code"; 02, M-113: "codes up to 1,023 bytes"
     ∷ yes (entry 13 16 0 (bytes 1))
+    ∷ yes (entry 15 16 0 (1 ∷ 128 ∷ 255 ∷ []))
     ∷ yes (entry 92 16 0 (bytes 80))
     ∷ yes (entry 1035 16 0 (bytes 1023))
     ∷ no (entry 12 16 0 [])

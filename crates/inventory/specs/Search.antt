@@ -55,21 +55,22 @@ SearchAgrees = (flag type n : ℕ) (i k : List ℕ) → OtherCodes flag type i k
 
 -- ---- there are two such inventories
 
--- a sensor of a type, with the index 1 and a code of three bytes
-abbrev pub sensor : ℕ → List ℕ → List ℕ
-sensor type code = 15 ∷ 0 ∷ 16 ∷ 0 ∷ 1 ∷ 0 ∷ type ∷ 0 ∷ 0 ∷ 0 ∷ 1 ∷ 0 ∷ 0 ∷ 0 ∷ code
+-- a record of a flag and a type, with the index 1 and a code of three bytes
+abbrev pub item : ℕ → ℕ → List ℕ → List ℕ
+item flag type code = 15 ∷ 0 ∷ 16 ∷ 0 ∷ flag ∷ 0 ∷ type ∷ 0 ∷ 0 ∷ 0 ∷ 1 ∷ 0 ∷ 0 ∷ 0 ∷ code
 
--- sensors of the types 8 and 9; the first has the code U78, or a NUL in place of the 7
+-- A sensor of the type 8, an indicator of the type 9 and a sensor of the type 9. The first has the code U78, or a NUL in place of the 7; the second has it, or
+-- three NULs.
 abbrev pub withoutNul : List ℕ
-withoutNul = sensor 8 (85 ∷ 55 ∷ 56 ∷ []) ++ sensor 9 (85 ∷ 55 ∷ 57 ∷ [])
+withoutNul = item 1 8 (85 ∷ 55 ∷ 56 ∷ []) ++ (item 0 9 (85 ∷ 55 ∷ 56 ∷ []) ++ item 1 9 (85 ∷ 55 ∷ 57 ∷ []))
 
 abbrev pub withNul : List ℕ
-withNul = sensor 8 (85 ∷ 0 ∷ 56 ∷ []) ++ sensor 9 (85 ∷ 55 ∷ 57 ∷ [])
+withNul = item 1 8 (85 ∷ 0 ∷ 56 ∷ []) ++ (item 0 9 (0 ∷ 0 ∷ 0 ∷ []) ++ item 1 9 (85 ∷ 55 ∷ 57 ∷ []))
 
--- The inventory check takes the one and refuses the other. The search for a sensor of the type 9 finds the second record in both.
+-- The inventory check takes the one and refuses the other. The search for a sensor of the type 9 finds the third record in both.
 pub record SearchWitness : Type 0 where
   pub differ : OtherCodes 1 9 withoutNul withNul
   pub taken : wellFormed withoutNul ≡ true
   pub refused : wellFormed withNul ≡ false
-  pub first : nextPlace 1 9 0 (records withoutNul) ≡ 17
-  pub second : nextPlace 1 9 0 (records withNul) ≡ 17
+  pub first : nextPlace 1 9 0 (records withoutNul) ≡ 34
+  pub second : nextPlace 1 9 0 (records withNul) ≡ 34

@@ -35,7 +35,7 @@ opcodeIn word = word / 16777216
 abbrev pub countIn : ℕ → ℕ
 countIn word = word % 16777216
 
--- The first fault of an operator, in the papers' order; `last` is the opcode before it, `left` the words behind it.
+-- The first fault of an operator, in the papers' order; `last` is the opcode of the last operator before it that has operands, `left` the words behind it.
 -- 02, M-101: "A non-zero word whose low three bytes are zero is passed over whatever its opcode", "the empty count is looked at before 22."
 unfoldable pub faultOf : ℕ → ℕ → ℕ → Fault
 faultOf word last left =

@@ -3,15 +3,19 @@ use Prim.Native.Nat.{ℕ, _-_}
 use mathlib.Core.Bool.{Bool, true, false, _&&_}
 use mathlib.Core.List.{List, [], _∷_, _++_}
 use lib.Dec.{T, eqb}
-use lib.ListN.{take, replicate}
+use lib.ListN.{length, take, replicate}
 use Rattle.words.specs.Numbers.{wordBytes}
-use Rattle.node_area.specs.declared.reading.Check.{Check}
-use Rattle.node_area.specs.declared.reading.Check.the-variants.{Entries, Refused}
-use Rattle.node_area.specs.Reading.{refusalNumber, reading, checkOf}
+use Rattle.words.specs.Reading.{Reading, read, refused}
+use Rattle.journal.specs.declared.operation.Operation.{Operation}
+use Rattle.journal.specs.declared.operation.Operation.the-variants.{Delete, Update, Add}
+use Rattle.journal.specs.Journal.{opcode, operands}
+use Rattle.node_area.specs.declared.reading.Refusal.{Refusal}
+use Rattle.node_area.specs.Reading.{refusalNumber, reading}
 
--- what a check is to find: a number of operations, or the number of a refusal and its byte offset
+-- what a reading is to give: so many operations, these operations, or the number of a refusal and its byte offset
 pub data Found : Type 0 where
   entries : ℕ → Found
+  operations : List Operation → Found
   refusal : ℕ → ℕ → Found
 
 pub record ReadingCase : Type 0 where
@@ -46,7 +50,10 @@ readingCases =
     ∷ marked-in 3 4 (entries 0)
     ∷ marked-in 3 11 (entries 0)
     ∷ marked-in 3 12 (refusal 21 12)
+    ∷ marked-in 3 13 (refusal 21 12)
+    ∷ marked-in 3 14 (refusal 21 12)
     ∷ marked-in 3 15 (refusal 21 12)
+    ∷ marked-in 1 11 (refusal 21 4)
     ∷ marked-in 0 11 (refusal 21 4)
     ∷ marked-in 4 11 (refusal 21 4)
     ∷ marked-in 2 11 (refusal 21 4)
@@ -54,7 +61,7 @@ readingCases =
     ∷ marked-in 4294967295 11 (refusal 21 4)
     -- "word zero ends the list"
     ∷ area (0 ∷ []) (entries 0)
-    ∷ area (16777217 ∷ 0 ∷ 33554433 ∷ 8 ∷ 50331650 ∷ 9 ∷ 9 ∷ 0 ∷ []) (entries 3)
+    ∷ area (16777217 ∷ 0 ∷ 33554433 ∷ 8 ∷ 50331650 ∷ 9 ∷ 10 ∷ 0 ∷ []) (operations (Delete 0 ∷ Update 8 ∷ Add 9 10 ∷ []))
     -- "22 opcode not 1 to 3", in the high byte; before 26 and 24
     ∷ marked 19 (refusal 22 16)
     ∷ area (67108865 ∷ 8 ∷ 0 ∷ []) (refusal 22 16)
@@ -67,8 +74,11 @@ readingCases =
     ∷ area (4278190080 ∷ 4278190080 ∷ 16777217 ∷ 8 ∷ 50331648 ∷ 0 ∷ []) (entries 1)
     ∷ area (67108864 ∷ 67108865 ∷ 8 ∷ 0 ∷ []) (refusal 22 20)
     -- ".. and takes no part in the order test": it is lower than none, and none is lower than it
-    ∷ area (33554432 ∷ 16777217 ∷ 8 ∷ 0 ∷ []) (entries 1)
-    ∷ area (33554433 ∷ 8 ∷ 16777216 ∷ 33554433 ∷ 8 ∷ 0 ∷ []) (entries 2)
+    ∷ area (33554432 ∷ 16777217 ∷ 8 ∷ 0 ∷ []) (operations (Delete 8 ∷ []))
+    ∷ area (50331648 ∷ 16777217 ∷ 8 ∷ 0 ∷ []) (operations (Delete 8 ∷ []))
+    ∷ area (50331648 ∷ 33554433 ∷ 8 ∷ 0 ∷ []) (operations (Update 8 ∷ []))
+    ∷ area (33554433 ∷ 8 ∷ 16777216 ∷ 33554433 ∷ 9 ∷ 0 ∷ []) (operations (Update 8 ∷ Update 9 ∷ []))
+    ∷ area (16777217 ∷ 8 ∷ 50331648 ∷ 33554434 ∷ 9 ∷ 10 ∷ 0 ∷ []) (operations (Delete 8 ∷ Update 9 ∷ Update 10 ∷ []))
     ∷ area (33554433 ∷ 8 ∷ 16777216 ∷ 16777217 ∷ 8 ∷ 0 ∷ []) (refusal 26 28)
     -- it ends no list, so that in the last word it is followed by no terminator
     ∷ area ((16778234 ∷ []) ++ (replicate 1018 8 ++ (33554432 ∷ []))) (refusal 27 4096)
@@ -88,15 +98,32 @@ readingCases =
     ∷ area ((16778234 ∷ []) ++ (replicate 1018 8 ++ (0 ∷ []))) (entries 1018)
     ∷ []
 
-abbrev pub finds : Check → Found → Bool
-finds (Entries n) (entries m) = eqb n m
-finds (Entries n) (refusal r at) = false
-finds (Refused f k) (entries m) = false
-finds (Refused f k) (refusal r at) = eqb (refusalNumber f) r && eqb k at
+abbrev pub alike : Operation → Operation → Bool
+alike o p = eqb (opcode o) (opcode p) && same (operands o) (operands p)
+  where
+    same : List ℕ → List ℕ → Bool
+    same [] [] = true
+    same [] (b ∷ m) = false
+    same (a ∷ l) [] = false
+    same (a ∷ l) (b ∷ m) = eqb a b && same l m
+
+abbrev pub allAlike : List Operation → List Operation → Bool
+allAlike [] [] = true
+allAlike [] (p ∷ ps) = false
+allAlike (o ∷ os) [] = false
+allAlike (o ∷ os) (p ∷ ps) = alike o p && allAlike os ps
+
+abbrev pub finds : Reading Operation Refusal → Found → Bool
+finds (read os) (entries m) = eqb (length os) m
+finds (read os) (operations ps) = allAlike os ps
+finds (read os) (refusal r at) = false
+finds (refused f k) (entries m) = false
+finds (refused f k) (operations ps) = false
+finds (refused f k) (refusal r at) = eqb (refusalNumber f) r && eqb k at
 
 abbrev pub allFound : List ReadingCase → Bool
 allFound [] = true
-allFound (c ∷ cs) = finds (checkOf (reading (c .scope) (c .area))) (c .finds) && allFound cs
+allFound (c ∷ cs) = finds (reading (c .scope) (c .area)) (c .finds) && allFound cs
 
 abbrev pub ReadingCases : Type 0
 ReadingCases = T (allFound readingCases)

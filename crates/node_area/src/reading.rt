@@ -37,7 +37,8 @@ pub enum Check {
     Refused(Refusal, usize),
 }
 
-// The first fault of an operator, with `left` words behind it and the opcode `last` before it. One with no operands has none.
+// The first fault of an operator, with `left` words behind it; `last` is the opcode of the last operator before it that has operands. One
+// with no operands has none.
 fn fault_of(word: u32, last: u32, left: usize) -> Fault
     ensures { λ r. ⌜ r ≡ faultOf word last left ⌝ }
 {
