@@ -9,6 +9,7 @@ mod zero;
 pub use arithmetic::least;
 pub use arithmetic::saturating_sub;
 pub use nul::find_nul;
+pub use nul::string_length;
 pub use reading::read_be16;
 pub use reading::read_be32;
 pub use reading::read_be64;
