@@ -6,8 +6,8 @@ use Prim.Native.Nat.{ℕ, _+_, _≤_}
 use native.Mathlib.Omega.{arith}
 use lib.ListN.{length, length-append}
 use Rattle.journal.specs.Scope.{Selection}
-use Rattle.journal.specs.declared.scanning.Judgement.{Judgement}
-use Rattle.journal.specs.declared.scanning.Judgement.the-variants.{Malformed, Counted}
+use Rattle.journal.specs.declared.counts.Judgement.{Judgement}
+use Rattle.journal.specs.declared.counts.Judgement.the-variants.{Malformed, Counted}
 use Rattle.journal.specs.Journal.{entries, wellFormed}
 use Rattle.journal.specs.Reportable.{chosen, reportable, judgementOf}
 use Rattle.inventory.specs.declared.scanning.Judgement as inventory-judgement

@@ -14,7 +14,7 @@ pub extern "C" fn draugsten_bench_scan(journal: &[u8], scope: u32, unit: u64) ->
 {
     let row = journal::scope_row(scope);
     let sets = row.sets;
-    let found = journal::scan(journal, &sets, journal::units_of(scope, unit));
+    let found = scanning::scan(journal, &sets, journal::units_of(scope, unit));
     let judgement = found.judgement;
     match judgement {
         Judgement::Malformed => 18446744073709551615,

@@ -1,9 +1,11 @@
 pub mod Opcodes
 pub mod Entries
+pub mod PropertyLaws
 pub mod RecordLaws
-pub mod Reaching
-pub mod WeightLaws
+pub mod Sizes
+pub mod GoodLaws
 pub mod MarkLaws
 pub mod Claims
+pub mod Limits
 pub mod Walks
 pub mod Operands

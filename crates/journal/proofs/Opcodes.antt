@@ -1,8 +1,13 @@
--- The three opcodes, and the four kinds of records.
-use Prim.Native.Nat.{ℕ, zero, suc}
+-- The three opcodes, sets of them, and the four kinds of records of nodes.
+use mathlib.Core.Path.{_≡_, sym, _∙_}
+use mathlib.Core.Bool.{cond}
+use Prim.Native.Nat.{ℕ, zero, suc, _*_, _-_, _/_, _%_, _^_, _<_}
+use native.Mathlib.Nat.{mul-zero, mul-one, one-mul}
 use native.Mathlib.Omega.{arith}
+use lib.Dec.{eqb}
 use Rattle.journal.specs.Journal.{IsOpcode}
-use Rattle.journal.specs.Scanning.{IsKind, opcodeFor}
+use Rattle.journal.specs.Terms.{IsKind, opcodeFor}
+use Rattle.journal.specs.Scope.{holds}
 
 pub code-1 : IsOpcode 1
 code-1 = record { low = omega arith; high = omega arith }
@@ -45,3 +50,15 @@ each-kind P x y z w (suc (suc (suc (suc (suc n))))) k = absurd (omega arith)
 -- the opcode of a kind is one
 pub kind-opcode : (kind : ℕ) → IsKind kind → IsOpcode (opcodeFor kind)
 kind-opcode = each-kind (λ (k : ℕ). IsOpcode (opcodeFor k)) code-1 code-2 code-3 code-2
+
+-- ---- sets of opcodes
+
+-- a weight times a bit is the choice by the bit
+pub bit-chooses : (w bit : ℕ) → bit < 2 → w * bit ≡ cond (eqb bit 1) w 0
+bit-chooses w zero h = mul-zero w
+bit-chooses w (suc zero) h = mul-one w
+bit-chooses w (suc (suc n)) h = absurd (omega arith)
+
+-- the bit of an opcode in a set
+pub bit-is : (set code : ℕ) → set / 2 ^ (code - 1) % 2 ≡ cond (holds set code) 1 0
+bit-is set code = sym (one-mul (set / 2 ^ (code - 1) % 2)) ∙ bit-chooses 1 (set / 2 ^ (code - 1) % 2) (omega arith)

@@ -1,9 +1,6 @@
 -- The operands of the entries of a journal of bytes fit 32-bit words.
-use mathlib.Core.Path.{_≡_}
-use mathlib.Core.Bool.{Bool, true, false, cond}
 use mathlib.Core.List.{List, [], _∷_, map}
-use Prim.Native.Nat.{ℕ, _+_, _<_, _≤_}
-use native.Mathlib.Omega.{arith}
+use Prim.Native.Nat.{ℕ, _<_}
 use lib.Dec.{eqb}
 use Rattle.words.specs.Numbers.{Bytes, Small, le}
 use Rattle.words.proofs.Numbers.{le-below}

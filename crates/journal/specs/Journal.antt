@@ -5,6 +5,7 @@ use mathlib.Core.List.{List, [], _∷_, map}
 use lib.Dec.{leb, eqb}
 use Rattle.words.specs.Numbers.{le, le16, le32}
 use Rattle.records.specs.Records.{lengthOf, kindOf, records, wellFormedBy, sizeLimit}
+use Rattle.journal.specs.Property.{goodProperty}
 use Rattle.journal.specs.declared.operation.Operation.{Operation}
 use Rattle.journal.specs.declared.operation.Operation.the-variants.{Delete, Update, Add}
 
@@ -27,10 +28,13 @@ largestType = 16
 abbrev pub goodType : ℕ → ℕ → Bool
 goodType kind node = cond (eqb kind 4) (within 15 largestType node) (within 1 14 node)
 
--- 01: "Any other kind, length, node type or flag .. is malformed."
--- The frame, then the body.
+-- a good record of a node: the frame, then the body
+unfoldable pub goodNode : List ℕ → Bool
+goodNode r = goodFrame (lengthOf r) (kindOf r) && goodType (kindOf r) (nodeType r)
+
+-- 01: "Any other kind, length, node type or flag .. is malformed." 02, M-103: kinds 5 and 6 tell of properties
 unfoldable pub goodRecord : List ℕ → Bool
-goodRecord r = goodFrame (lengthOf r) (kindOf r) && goodType (kindOf r) (nodeType r)
+goodRecord r = goodNode r || goodProperty r
 
 -- 01: "Journal, at most 1,048,576 bytes", "Records fill the buffer exactly."
 unfoldable pub wellFormed : List ℕ → Bool
@@ -51,7 +55,7 @@ operands (Delete p) = p ∷ []
 operands (Update p) = p ∷ []
 operands (Add p i) = p ∷ i ∷ []
 
--- the operation of a record; 02, of kind 4: "it is an update"
+-- the operation of a record of kinds 1 to 4; 02, of kind 4: "it is an update". For the others nothing looks at it.
 unfoldable pub operationOf : List ℕ → Operation
 operationOf r =
     cond (eqb (kindOf r) 1) (Delete (le32 r 6))
@@ -63,14 +67,14 @@ operationOf r =
 unfoldable pub unitOf : List ℕ → ℕ
 unitOf r = cond (eqb (kindOf r) 4) (le 8 r 6) 0
 
--- a journal's operations, each with its node type and its unit
+-- a journal's operations, each with its node type and its unit; records of kinds 5 and 6 have no node type, and there it is 0
 pub record Entry : Type 0 where
   pub node : ℕ
   pub unit : ℕ
   pub operation : Operation
 
 abbrev pub entryOf : List ℕ → Entry
-entryOf r = record { node = nodeType r; unit = unitOf r; operation = operationOf r }
+entryOf r = record { node = cond (leb 5 (kindOf r)) 0 (nodeType r); unit = unitOf r; operation = operationOf r }
 
 unfoldable pub entries : List ℕ → List Entry
 entries j = map entryOf (records j)

@@ -8,9 +8,9 @@ use Rattle.records.specs.Choosing.{chosenBy}
 use Rattle.journal.specs.declared.operation.Operation.{Operation}
 use Rattle.journal.specs.declared.scope.Units.{Units}
 use Rattle.journal.specs.declared.scope.Units.the-variants.{All, One}
-use Rattle.journal.specs.declared.scanning.Counts.{Counts}
-use Rattle.journal.specs.declared.scanning.Judgement.{Judgement}
-use Rattle.journal.specs.declared.scanning.Judgement.the-variants.{Malformed, Counted}
+use Rattle.journal.specs.declared.counts.Counts.{Counts}
+use Rattle.journal.specs.declared.counts.Judgement.{Judgement}
+use Rattle.journal.specs.declared.counts.Judgement.the-variants.{Malformed, Counted}
 use Rattle.journal.specs.Journal.{Entry, opcode, operands, entries, wellFormed}
 use Rattle.journal.specs.Scope.{holds, Selection}
 
@@ -22,9 +22,9 @@ abbrev pub asks : Units → Entry → Bool
 asks All e = true
 asks (One unit) e = leb (e .node) 14 || eqb (e .unit) unit
 
--- a selection reports an entry under an opcode
+-- a selection reports an entry under an opcode; 02, M-103: "Node updates pass over kinds 5 and 6", which have no node type
 unfoldable pub reports : Selection → ℕ → Entry → Bool
-reports selection code e = (eqb (opcode (e .operation)) code && holds (getD (selection .sets) (e .node) 0) code) && asks (selection .units) e
+reports selection code e = leb 1 (e .node) && ((eqb (opcode (e .operation)) code && holds (getD (selection .sets) (e .node) 0) code) && asks (selection .units) e)
 
 -- 01: "Records that the scope doesn't report are passed over.", "Equal records stay as separate operations."
 -- The operations of an opcode that a selection reports, in journal order.

@@ -1,11 +1,12 @@
 // Judging the record at a place, by its length, kind and node type. No row is asked.
 ghost use mathlib.Core.Path.{_≡_};
-ghost use mathlib.Core.Bool.{_&&_};
+ghost use mathlib.Core.Bool.{cond, _&&_};
 ghost use Prim.Native.Nat.{_+_, _≤_};
 ghost use lib.Dec.{leb};
-ghost use lib.ListN.{length};
+ghost use lib.ListN.{length, drop};
 ghost use Rattle.words.specs.Numbers.{le16};
-ghost use Rattle.journal.specs.Scanning.{IsKind, lengthFor, framedAt, goodAt, verdictAt};
+ghost use Rattle.journal.specs.Terms.{IsKind, lengthFor, framedAt, goodAt, nodeHere, verdictAt};
+ghost use Rattle.records.specs.Records.{sizeOf};
 use records::Frame;
 
 // What a record tells of itself before its operands.
@@ -89,4 +90,16 @@ pub fn judge(j: &[u8], at: usize, most: u16) -> Verdict
         kind: frame.kind as usize,
         node: node as usize,
     })
+}
+
+// The size of the good record of a node at a place, or 0 where none stands there.
+pub fn node_size(j: &[u8], at: usize) -> usize
+    requires { ⌜ at ≤ length (now j) ⌝ }
+    ensures { λ r. ⌜ r ≡ cond (nodeHere (now (j .entry)) at) (sizeOf (drop at (now (j .entry)))) 0 ⌝ }
+{
+    let verdict = judge(j, at, 4);
+    match verdict {
+        Verdict::Bad => 0,
+        Verdict::Good(shape) => shape.size,
+    }
 }

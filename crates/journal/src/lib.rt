@@ -1,23 +1,39 @@
-// The journal: its records, the scope table, the reportable list, and the scan that judges and counts in one pass.
+// The journal: its records, the scope table, the reportable list, and the walk over a journal that was judged. The scan stands above it.
+mod counts;
 mod judging;
 mod marks;
 mod operation;
-mod scanning;
+mod property;
 mod scope;
-mod stride;
 mod units;
 mod walking;
-mod weights;
 
+pub use counts::Counts;
+pub use counts::Judgement;
+pub use judging::Shape;
+pub use judging::Verdict;
+pub use judging::judge;
+pub use judging::node_size;
+pub use marks::COUNT_LIMIT;
+pub use marks::LARGEST_WEIGHT;
+pub use marks::count_of;
 pub use operation::Operation;
-pub use scanning::Counts;
-pub use scanning::Judgement;
-pub use scanning::Scanned;
-pub use scanning::scan;
+pub use property::Held;
+pub use property::NAME_LIMIT;
+pub use property::PropertyRecord;
+pub use property::VALUE_LIMIT;
+pub use property::held_at;
+pub use property::is_change;
+pub use property::read_property;
 pub use scope::Row;
 pub use scope::Units;
 pub use scope::scope_row;
 pub use scope::units_of;
+pub use units::asked_here;
+pub use units::read_unit;
+pub use units::same_unit;
+pub use units::tally;
+pub use units::wanted_unit;
 pub use walking::Visited;
 pub use walking::find;
 pub use walking::read_operand;

@@ -3,18 +3,12 @@ ghost use mathlib.Core.Path.{_≡_};
 ghost use Prim.Native.Nat.{_+_, _*_, _≤_};
 ghost use Rattle.journal.specs.Journal.{IsOpcode};
 ghost use Rattle.journal.specs.Marks.{count, markLimit};
-ghost use Rattle.journal.specs.Scanning.{Noted, sought};
-use crate::stride::Position;
+ghost use Rattle.journal.specs.Terms.{sought};
 
 // Packed counts have 21 bits for each opcode: a delete adds 1, an update this, and an addition this times this.
 pub const COUNT_LIMIT: u64 = 2097152;
 
 pub const LARGEST_WEIGHT: u64 = 4398046511104;
-
-// How many marks there are at most, one for each so many bytes.
-const MARK_LIMIT: usize = 64;
-
-pub const MARK_SPAN: usize = 16384;
 
 // A place of the journal, and how many operations of an opcode are passed over from there.
 pub struct Place {
@@ -34,23 +28,6 @@ pub fn count_of(code: usize, packed: u64) -> usize
         return (packed / COUNT_LIMIT % COUNT_LIMIT) as usize;
     }
     (packed / LARGEST_WEIGHT % COUNT_LIMIT) as usize
-}
-
-// The next mark is stored where one is due: one for each span of the journal, up to the limit. Gives the number of marks.
-pub fn note(marks: &mut [u64; 128], noted: usize, p: Position) -> usize
-    requires { ⌜ noted ≤ markLimit ⌝ }
-    ensures { λ r. ⌜ Noted (now (marks .entry)) noted p (now (marks .exit)) r ⌝ }
-{
-    if MARK_LIMIT <= noted {
-        return noted;
-    }
-    if p.at < MARK_SPAN * noted {
-        return noted;
-    }
-    let i = 2 * noted;
-    marks[i] = p.at as u64;
-    marks[i + 1] = p.counts;
-    noted + 1
 }
 
 // Where to look for operation number k of an opcode, by the marks.

@@ -6,7 +6,7 @@ ghost use lib.Dec.{eqb};
 ghost use lib.ListN.{length, drop};
 ghost use Rattle.words.specs.Numbers.{le};
 ghost use Rattle.records.specs.Records.{kindOf};
-ghost use Rattle.journal.specs.Scanning.{wantedOf, tallied, goodHere, asked};
+ghost use Rattle.journal.specs.Terms.{wantedOf, tallied, nodeHere, asked};
 use crate::scope::Units;
 
 // The unit address of the record of kind 4 at a place.
@@ -46,7 +46,7 @@ pub fn tally(units: Units, passed: usize, same: usize) -> usize
 
 // 1 where the good record at a place is asked for, else 0: of kind 4 by its unit, of the other kinds always, whatever eight bytes are compared.
 pub fn asked_here(j: &[u8], at: usize, units: Units, kind: usize) -> usize
-    requires { ⌜ (goodHere (now j) at ≡ true) × (kind ≡ kindOf (drop at (now j))) ⌝ }
+    requires { ⌜ (nodeHere (now j) at ≡ true) × (kind ≡ kindOf (drop at (now j))) ⌝ }
     ensures { λ r. ⌜ r ≡ asked units (now (j .entry)) at 1 ⌝ }
 {
     let four = kind / 4;

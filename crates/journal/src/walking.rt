@@ -5,11 +5,11 @@ ghost use lib.Dec.{eqb};
 ghost use Prim.Native.Nat.{_+_, _<_, _≤_};
 ghost use lib.ListN.{length, drop};
 ghost use Rattle.words.specs.Numbers.{le32};
-ghost use Rattle.records.specs.Records.{sizeOf, firstRecord, records, allGood};
+ghost use Rattle.records.specs.Records.{kindOf, sizeOf, firstRecord, records, allGood};
 ghost use Rattle.journal.specs.Journal.{goodRecord, IsOpcode, entryOf, entries, wellFormed};
 ghost use Rattle.journal.specs.Scope.{holds, asking};
 ghost use Rattle.journal.specs.Reportable.{reports, chosen};
-ghost use Rattle.journal.specs.Scanning.{opcodeFor};
+ghost use Rattle.journal.specs.Terms.{opcodeFor, nodeHere};
 ghost use Rattle.journal.specs.Marks.{Resumes, Marked};
 use crate::judging::read_type;
 use crate::marks::seek;
@@ -60,20 +60,36 @@ pub struct Visited {
     pub reported: usize,
 }
 
-// The record at a place from which the records are good.
+// 1 where the row reports the good record of a node at a place, of this kind, under the opcode, else 0.
+fn reported_here(
+    j: &[u8],
+    row: &[u8; 17],
+    units: Units,
+    code: usize,
+    at: usize,
+    kind: usize,
+) -> usize
+    requires { ⌜ (nodeHere (now j) at ≡ true) × IsOpcode code × (kind ≡ kindOf (drop at (now j))) ⌝ }
+    ensures { λ r. ⌜ r ≡ cond (reports (asking (now (row .entry)) units) code (entryOf (firstRecord (drop at (now (j .entry)))))) 1 0 ⌝ }
+{
+    let node = read_type(j, at);
+    let bit = reported(row[node as usize], code, kind);
+    let asked = asked_here(j, at, units, kind);
+    (bit + asked) / 2
+}
+
+// The record at a place from which the records are good. One of a property is not reported.
 pub fn visit(j: &[u8], row: &[u8; 17], units: Units, code: usize, at: usize) -> Visited
     requires { ⌜ (at < length (now j)) × (allGood goodRecord (records (drop at (now j))) ≡ true) × IsOpcode code ⌝ }
     ensures { λ r. ⌜ (r .size ≡ sizeOf (drop at (now (j .entry)))) × (r .reported ≡ cond (reports (asking (now (row .entry)) units) code (entryOf (firstRecord (drop at (now (j .entry)))))) 1 0) ⌝ }
 {
     let frame = records::read_frame(j, at);
-    let node = read_type(j, at);
-    let kind = frame.kind as usize;
-    let bit = reported(row[node as usize], code, kind);
-    let asked = asked_here(j, at, units, kind);
-    Visited {
-        size: records::record_size(frame),
-        reported: (bit + asked) / 2,
+    let size = records::record_size(frame);
+    if 4 < frame.kind {
+        return Visited { size, reported: 0 };
     }
+    let reported = reported_here(j, row, units, code, at, frame.kind as usize);
+    Visited { size, reported }
 }
 
 // A place from which the list of an opcode is what it is of the whole journal from operation number k on, by the marks of a scan.

@@ -11,7 +11,7 @@ use Rattle.journal.specs.Scope.{Selection}
 use Rattle.words.specs.Numbers.{beBytes, wordBytes}
 use Rattle.words.proofs.Stores.{length-wordBytes, words-behind, store-first}
 use Rattle.journal.specs.declared.scope.Units.{Units}
-use Rattle.journal.specs.declared.scanning.Counts.{Counts}
+use Rattle.journal.specs.declared.counts.Counts.{Counts}
 use Rattle.journal.specs.Journal.{wellFormed, entries}
 use Rattle.journal.specs.Reportable.{chosen, reportable, countsOf}
 use Rattle.journal.proofs.Entries.{operations-few}

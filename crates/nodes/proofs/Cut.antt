@@ -11,7 +11,7 @@ use lib.ListN.{length, take, drop, length-append}
 use lib.Seq.{take-append-le, take-append-add, take-length, length-take-le}
 use Rattle.journal.specs.declared.operation.Operation.{Operation}
 use Rattle.journal.specs.declared.operation.Operation.the-variants.{Delete, Update, Add}
-use Rattle.journal.specs.declared.scanning.Counts.{Counts}
+use Rattle.journal.specs.declared.counts.Counts.{Counts}
 use Rattle.journal.specs.Journal.{opcode, operands}
 use Rattle.nodes.specs.Run.{areaWords, cost, operator, partWords, onesIn, twosIn, cut}
 use Rattle.nodes.specs.Longest.{LongestOf, AllOf, CutIsLongest}

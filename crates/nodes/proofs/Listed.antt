@@ -5,17 +5,17 @@ use mathlib.Core.List.{List, [], _∷_, _++_}
 use Prim.Native.Nat.{ℕ, zero, suc, _+_, _*_, _-_, _≤_}
 use native.Mathlib.Omega.{arith}
 use native.Mathlib.Nat.{sub-zero, zero-sub, suc-sub-suc}
-use lib.Dec.{ltb, eqb}
+use lib.Dec.{leb, ltb, eqb}
 use borrow.Author.Tests.{eqb-true}
 use lib.ListN.{length, take, drop, length-append, length-drop}
 use lib.Seq.{drop-nil, length-take-le}
 use Rattle.journal.specs.Scope.{Selection}
 use Rattle.records.specs.Choosing.{chosenBy}
 use Rattle.journal.specs.declared.operation.Operation.{Operation}
-use Rattle.journal.specs.declared.scanning.Counts.{Counts}
+use Rattle.journal.specs.declared.counts.Counts.{Counts}
 use Rattle.journal.specs.Journal.{Entry, opcode, entries}
 use Rattle.journal.specs.Reportable.{asks, reports, chosen, reportable, countsOf}
-use Rattle.words.proofs.Choice.{choose, and-left}
+use Rattle.words.proofs.Choice.{choose, and-left, and-right}
 use Rattle.nodes.specs.Run.{areaWords, run, remains, nextState, partWords, cut}
 use Rattle.nodes.specs.Longest.{AllOf}
 use Rattle.node_area.specs.State.{total, remainingOf}
@@ -26,7 +26,7 @@ use Rattle.nodes.proofs.Cut.{code-take, code-drop, body-split, Parts, p
 -- an entry that is reported under an opcode is an operation of it
 pub report-code : (selection : Selection) (code : ℕ) (e : Entry) → reports selection code e ≡ true → opcode (e .operation) ≡ code
 unfolding reports
-report-code selection code e h = eqb-true _ _ (and-left (eqb (opcode (e .operation)) code) _ (and-left _ (asks (selection .units) e) h))
+report-code selection code e h = eqb-true _ _ (and-left (eqb (opcode (e .operation)) code) _ (and-left _ (asks (selection .units) e) (and-right (leb 1 (e .node)) _ h)))
 
 pub chosen-code : (selection : Selection) (code : ℕ) (es : List Entry) → AllOf code (chosen selection code es)
 unfolding chosenBy

@@ -5,7 +5,7 @@ use mathlib.Core.List.{List, [], _∷_}
 use lib.Dec.{leb, ltb, eqb}
 use lib.ListN.{length, take, drop}
 use Rattle.journal.specs.declared.operation.Operation.{Operation}
-use Rattle.journal.specs.declared.scanning.Counts.{Counts}
+use Rattle.journal.specs.declared.counts.Counts.{Counts}
 use Rattle.journal.specs.Journal.{opcode}
 use Rattle.journal.specs.Reportable.{operandWords}
 

@@ -4,7 +4,7 @@ use mathlib.Core.Path.{_≡_}
 use mathlib.Core.Bool.{true}
 use mathlib.Core.List.{List}
 use Rattle.journal.specs.Scope.{Selection}
-use Rattle.journal.specs.declared.scanning.Counts.{Counts}
+use Rattle.journal.specs.declared.counts.Counts.{Counts}
 use Rattle.journal.specs.Journal.{wellFormed}
 use Rattle.journal.specs.Reportable.{countsOf}
 use Rattle.journal.specs.Marks.{Marked}

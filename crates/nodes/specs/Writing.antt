@@ -7,7 +7,7 @@ use lib.Dec.{eqb}
 use lib.ListN.{length, take, drop}
 use Rattle.journal.specs.Scope.{Selection}
 use Rattle.records.specs.Records.{records, allGood}
-use Rattle.journal.specs.declared.scanning.Counts.{Counts}
+use Rattle.journal.specs.declared.counts.Counts.{Counts}
 use Rattle.journal.specs.Journal.{IsOpcode, goodRecord, entries}
 use Rattle.journal.specs.Reportable.{chosen}
 use Rattle.nodes.specs.Run.{areaWords, partWords}

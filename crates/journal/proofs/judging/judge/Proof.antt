@@ -9,14 +9,14 @@ use borrow.Author.Tests.{not-true, not-false}
 use denote.Ref.{now}
 use Rattle.records.specs.Records.{kindOf}
 use Rattle.records.specs.declared.framing.Frame.{Frame}
-use Rattle.journal.specs.Scanning.{goodHere}
+use Rattle.journal.specs.Terms.{nodeHere}
 use Rattle.journal.proofs.RecordLaws.{test-read, test-short, test-bad, test-good}
 use Rattle.journal.proofs.judging.judge.Statement.{statement}
 use Rattle.journal.proofs.judging.judge.Tie as tie
 
 -- the test of the record, by what was read of it
 told : (c : tie.After-is-good) → let s = c .before .before .before .before .before in
-    (leb (kindOf (drop (s .args .at) (now (s .args .j)))) (s .args .most) && goodHere (now (s .args .j)) (s .args .at)) ≡ c .is-good .result
+    (leb (kindOf (drop (s .args .at) (now (s .args .j)))) (s .args .most) && nodeHere (now (s .args .j)) (s .args .at)) ≡ c .is-good .result
 told c =
     let s = c .before .before .before .before .before in
     let frame = c .before .before .read-frame .ensures in

@@ -4,7 +4,7 @@ use Prim.Native.Nat.{ℕ, _%_}
 use native.Mathlib.Nat.{div-one}
 use native.Mathlib.Omega.{arith}
 use borrow.Author.Needs.{needs}
-use Rattle.journal.proofs.WeightLaws.{bit-is}
+use Rattle.journal.proofs.Opcodes.{bit-is}
 use Rattle.journal.proofs.walking.in_set.Statement.{statement}
 use Rattle.journal.proofs.walking.in_set.Tie as tie
 

@@ -1,0 +1,8 @@
+// The scan of a journal: it is judged and its operations are counted in one pass, with marks noted on the way.
+mod counting;
+mod noting;
+mod stride;
+mod weights;
+
+pub use counting::Scanned;
+pub use counting::scan;
