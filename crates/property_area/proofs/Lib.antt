@@ -1,0 +1,4 @@
+pub mod Judging
+pub mod PropertyLaws
+pub mod Written
+pub mod Claims

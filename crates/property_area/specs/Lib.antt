@@ -1,0 +1,6 @@
+pub mod Head
+pub mod Piece
+pub mod Reading
+pub mod Cursor
+pub mod ReadingCases
+pub mod Claims
