@@ -1,0 +1,17 @@
+pub mod Placing
+pub mod Fills
+pub mod Pieces
+pub mod Offsets
+pub mod Joins
+pub mod Cuts
+pub mod Walks
+pub mod Areas
+pub mod Members
+pub mod Sessions
+pub mod Going
+pub mod Steps
+pub mod Passing
+pub mod Standing
+pub mod Seeking
+pub mod Writes
+pub mod Answers

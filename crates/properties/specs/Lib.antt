@@ -1,0 +1,6 @@
+pub mod Changes
+pub mod Filling
+pub mod Session
+pub mod Following
+pub mod Writing
+pub mod Answer
