@@ -6,11 +6,11 @@ use Prim.Native.Nat.{ℕ, _+_, _-_, _%_, _≤_}
 use native.Mathlib.Omega.{arith}
 use lib.Dec.{ltb, eqb}
 use lib.ListN.{length, take, drop}
-use borrow.Author.Tests.{leb-true, ltb-true, eqb-true}
+use borrow.Author.Tests.{leb-true, le-leb, ltb-true, eqb-true, eq-eqb}
 use Rattle.words.specs.Numbers.{be32}
-use Rattle.journal.specs.declared.scanning.Counts.{Counts}
-use Rattle.journal.specs.declared.scanning.Judgement.{Judgement}
-use Rattle.journal.specs.declared.scanning.Judgement.the-variants.{Malformed, Counted}
+use Rattle.journal.specs.declared.counts.Counts.{Counts}
+use Rattle.journal.specs.declared.counts.Judgement.{Judgement}
+use Rattle.journal.specs.declared.counts.Judgement.the-variants.{Malformed, Counted}
 use Rattle.journal.specs.Journal.{wellFormed}
 use Rattle.journal.specs.Scope.{valid, Selection}
 use Rattle.journal.specs.Reportable.{reportable, countsOf, judgementOf}
@@ -22,7 +22,7 @@ use Rattle.nodes.proofs.Listed.{total-is}
 use Rattle.calls.specs.declared.status.Status.{Status}
 use Rattle.calls.specs.declared.status.Status.the-variants as status
 use Rattle.calls.specs.UpdateNodes.{areaAt, withArea, placed, goodState, areaStatus, areaAfter, asksFor, nodesStatus, nodesMemory}
-use Rattle.words.proofs.Choice.{decide, and-right}
+use Rattle.words.proofs.Choice.{decide, and-left, and-right}
 use Rattle.calls.proofs.Memory.{part-lent, part-back}
 
 -- what a status and an area afterwards are to be
@@ -65,6 +65,14 @@ LeftAll m address scope j s after = (s ≡ nodesStatus m address scope j) × (af
 pub placed-inside : (m : List ℕ) (address : ℕ) → placed m address ≡ true → address + 4096 ≤ length m
 unfolding placed
 placed-inside m address e = leb-true (address + 4096) (length m) (and-right (eqb (address % 4096) 0) _ e)
+
+pub placed-aligned : (m : List ℕ) (address : ℕ) → placed m address ≡ true → address % 4096 ≡ 0
+unfolding placed
+placed-aligned m address e = eqb-true _ _ (and-left _ _ e)
+
+pub well-placed : (m : List ℕ) (address : ℕ) → address % 4096 ≡ 0 → address + 4096 ≤ length m → placed m address ≡ true
+unfolding placed
+well-placed m address e h = rw (eq-eqb _ _ e, le-leb _ _ h)
 
 module _ (m : List ℕ) (address scope : ℕ) (j : List ℕ) where
   module _ (p : placed m address ≡ true) where

@@ -5,7 +5,6 @@ use mathlib.Core.List.{List, _∷_}
 use Prim.Native.Nat.{ℕ, _+_, _%_, _≤_}
 use native.Mathlib.Omega.{arith}
 use lib.Dec.{leb}
-use borrow.Author.Tests.{eqb-true, le-leb, eq-eqb}
 use lib.ListN.{length}
 use lib.Seq.{sets, length-sets}
 use Rattle.words.specs.Numbers.{be, be32, beBytes, wordBytes}
@@ -15,7 +14,7 @@ use Rattle.journal.specs.declared.operation.Operation.{Operation}
 use Rattle.journal.specs.Journal.{wellFormed}
 use Rattle.journal.specs.Scope.{valid, unitsOf}
 use Rattle.journal.specs.Reportable.{reportable}
-use Rattle.words.proofs.Choice.{choose, decide, and-left, and-right}
+use Rattle.words.proofs.Choice.{decide, and-left, and-right}
 use Rattle.node_area.specs.Head.{unitIn, isReserved}
 use Rattle.nodes.specs.Run.{remains}
 use Rattle.nodes.specs.Area.{written}
@@ -24,9 +23,9 @@ use Rattle.calls.specs.declared.status.Status.the-variants.{Done, Again,
 use Rattle.calls.specs.Status.{isGiven, isAnswer, statusWord}
 use Rattle.calls.specs.UpdateNodes.{areaAt, withArea, placed, goodState, areaStatus, areaAfter, asksFor, nodesStatus, nodesMemory}
 use Rattle.calls.specs.Buffer.{token, input, statusAt, numberFor, isNodes, Outcome, nodesOutcome, outcome, Found, Left, callOf, answered}
-use Rattle.calls.proofs.Ladder.{ladder-passed}
+use Rattle.calls.proofs.Ladder.{ladder-passed, answer-either}
 use Rattle.calls.proofs.Heads.{whole-buffer, asked, unchanged, carried-out, outcome-ways, nodes-outcome}
-use Rattle.calls.proofs.Areas.{placed-inside}
+use Rattle.calls.proofs.Areas.{placed-inside, placed-aligned, well-placed}
 
 -- ---- update-nodes
 
@@ -49,18 +48,14 @@ module _ (m : List ℕ) (a s : ℕ) (j : List ℕ) where
 
   -- a status of 0 or 1 tells so
   pub passed-is : isAnswer (nodesStatus m a s j) ≡ true → Passed
-  unfolding nodesStatus placed areaStatus
+  unfolding nodesStatus areaStatus
   passed-is h =
       let t = ladder-passed (placed m a) (valid s) (wellFormed j) (isReserved s (areaAt m a)) (goodState (asksFor s (areaAt m a)) j (areaAt m a)) (remains (listed s (areaAt m a) j) (state m a)) h in
-      record { aligned = eqb-true _ _ (and-left _ _ (t .0)); inside = placed-inside m a (t .0); scoped = t .1; formed = t .2; clear = t .3; begun = t .4 }
-
-  answer-either : isAnswer (cond (remains (listed s (areaAt m a) j) (state m a)) Again Done) ≡ true
-  answer-either = choose (remains (listed s (areaAt m a) j) (state m a)) (λ (x : Status). isAnswer x ≡ true) (λ e. refl) (λ e. refl)
+      record { aligned = placed-aligned m a (t .0); inside = placed-inside m a (t .0); scoped = t .1; formed = t .2; clear = t .3; begun = t .4 }
 
   module _ (p : Passed) where
-    well-placed : placed m a ≡ true
-    unfolding placed
-    well-placed = rw (eq-eqb _ _ (p .aligned), le-leb _ _ (p .inside))
+    here : placed m a ≡ true
+    here = well-placed m a (p .aligned) (p .inside)
 
     area-status : areaStatus s (asksFor s (areaAt m a)) j (areaAt m a) ≡ cond (remains (listed s (areaAt m a) j) (state m a)) Again Done
     unfolding areaStatus
@@ -68,14 +63,14 @@ module _ (m : List ℕ) (a s : ℕ) (j : List ℕ) where
 
     pub nodes-status : nodesStatus m a s j ≡ cond (remains (listed s (areaAt m a) j) (state m a)) Again Done
     unfolding nodesStatus
-    nodes-status = rw (well-placed, p .scoped) area-status
+    nodes-status = rw (here, p .scoped) area-status
 
     pub nodes-answers : isAnswer (nodesStatus m a s j) ≡ true
-    nodes-answers = ap isAnswer nodes-status ∙ answer-either
+    nodes-answers = ap isAnswer nodes-status ∙ answer-either (remains (listed s (areaAt m a) j) (state m a))
 
     pub nodes-memory : nodesMemory m a s j ≡ withArea m a (written (unitsOf s (unitIn (areaAt m a))) (areaAt m a) (listed s (areaAt m a) j) (state m a))
     unfolding nodesMemory areaAfter
-    nodes-memory = rw (well-placed, p .scoped, area-status, answer-either)
+    nodes-memory = rw (here, p .scoped, area-status, answer-either (remains (listed s (areaAt m a) j) (state m a)))
 
 -- ---- the argument buffer
 
@@ -148,7 +143,8 @@ module _ (c : Found) where
   -- an answered call with its token has its counts
   nodes-only : token b ≡ 1 → isAnswer (outcome c .status) ≡ true → isNodes b ≡ true
   nodes-only n = outcome-ways c (λ (o : Outcome). isAnswer (o .status) ≡ true → isNodes b ≡ true)
-      (λ e _. e) (λ e _. absurd (omega (arith, n, asked 2 5 2 b e))) (λ e _. absurd (omega (arith, n, asked 3 3 1 b e))) (λ h. absurd (false≢true h))
+      (λ e _. e) (λ e _. absurd (omega (arith, n, asked 2 5 2 b e))) (λ e _. absurd (omega (arith, n, asked 3 3 1 b e))) (λ e _. absurd (omega (arith, n, asked 4 2 1 b e)))
+      (λ h. absurd (false≢true h))
 
   pub answered-is : token b ≡ 1 → answered b (callOf c) ≡ true → Answered
   unfolding nodesOutcome

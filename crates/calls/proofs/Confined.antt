@@ -1,6 +1,6 @@
 -- Demand 1: what no call changes.
 use mathlib.Core.Path.{_≡_, refl, sym, ap, _∙_}
-use mathlib.Core.Bool.{Bool, true, false, cond, false≢true}
+use mathlib.Core.Bool.{Bool, true, false, cond, _&&_, false≢true, true≢false}
 use mathlib.Core.List.{List, [], _∷_}
 use mathlib.Core.Logic.{⊎-elim}
 use Prim.Native.Nat.{ℕ, _+_, _*_, _<_, _≤_}
@@ -8,7 +8,7 @@ use native.Mathlib.Omega.{arith}
 use lib.ListN.{length, getD}
 use lib.Seq.{sets, length-sets}
 use Rattle.words.specs.Numbers.{be32, wordBytes}
-use Rattle.words.proofs.Choice.{decide}
+use Rattle.words.proofs.Choice.{decide, and-left, and-right}
 use Rattle.words.proofs.Stores.{sets-before, sets-after, length-wordBytes}
 use Rattle.dump.specs.declared.registration.Registration.{Registration}
 use Rattle.journal.specs.Journal.{wellFormed}
@@ -20,12 +20,18 @@ use Rattle.calls.specs.declared.status.Number.the-variants.{Given}
 use Rattle.calls.specs.declared.status.Status.the-variants.{Done, Parameter}
 use Rattle.calls.specs.Status.{numberOf, isGiven, isAnswer, statusWord}
 use Rattle.calls.specs.UpdateNodes.{areaAt, withArea, placed, goodState, areaStatus, areaAfter, asksFor, nodesStatus, nodesMemory}
-use Rattle.calls.specs.Buffer.{outputs, input, statusAt, numberFor, isNodes, isIndices, isDump, requestOf, Outcome, nodesOutcome, indicesOutcome, dumpOutcome, refusal, outcome, Found, leaves, Left, callOf}
+use Rattle.properties.specs.Answer.{carries}
+use Rattle.properties.specs.Answer as properties
+use Rattle.calls.specs.UpdateProperties.{propertiesStatus, propertiesMemory}
+use Rattle.calls.specs.Buffer.{outputs, input, statusAt, numberFor, isNodes, isIndices, isDump, isProperties, requestOf}
+use Rattle.calls.specs.Buffer.{Outcome, nodesOutcome, indicesOutcome, dumpOutcome, propertiesOutcome, refusal, outcome, Found, leaves, Left, callOf}
 use Rattle.calls.specs.Terms.{HasStatus, Refused, Asks, Outside}
 use Rattle.calls.specs.Demands.{Confined, Demand1}
-use Rattle.calls.proofs.Areas.{placed-inside, state-within, nodes-checked}
+use Rattle.calls.proofs.Areas.{placed-inside, placed-aligned, state-within, nodes-checked}
 use Rattle.calls.proofs.Ladder.{ladder-passed}
 use Rattle.calls.proofs.Calls.{status-word}
+use Rattle.calls.proofs.PropertiesCalls.{properties-answers}
+use Rattle.calls.proofs.PropertyAnswers as property-answers
 use Rattle.calls.proofs.Heads.{whole-buffer, asked, unchanged, carried-out, outcome-ways}
 use Rattle.calls.proofs.Memory.{part-length, part-kept, part-before, part-behind, part-same, written-length}
 use lib.Dec.{leb, eqb}
@@ -36,6 +42,34 @@ use Rattle.dump.specs.Registration.{isDone, noRegistration, registered, structu
 use Rattle.calls.specs.ConfigureDump.{verdictStatus, dumpStatus}
 use Rattle.calls.specs.GetIndices.{indicesStatus, nextNumber}
 use Rattle.calls.proofs.Requests.{indices-refused, indices-outside, indices-length}
+
+-- ---- the memory that a call leaves whose area is checked by address and scope
+
+module _ (m : List ℕ) (address scope : ℕ) (next : List ℕ) where
+  abbrev left : List ℕ
+  left = cond (placed m address && valid scope) (withArea m address next) m
+
+  -- the ways through the checks of address and scope
+  ways : (P : List ℕ → Type 0) → (placed m address ≡ true → valid scope ≡ true → P (withArea m address next)) → P m → P left
+  ways P f g = decide (placed m address) (λ p. decide (valid scope) (λ v. rw (p, v) (f p v)) (λ v. rw (p, v) g)) (λ p. rw p g)
+
+  left-same : (placed m address ≡ true → valid scope ≡ true → next ≡ areaAt m address) → left ≡ m
+  left-same same = ways (λ (l : List ℕ). l ≡ m) (λ p v. ap (withArea m address) (same p v) ∙ part-same m address 4096) refl
+
+  module _ (sized : length (areaAt m address) ≡ 4096 → length next ≡ 4096) where
+    module _ (p : placed m address ≡ true) where
+      inside : address + 4096 ≤ length m
+      inside = placed-inside m address p
+
+      size : length next ≡ 4096
+      size = sized (part-length m address 4096 inside)
+
+    left-length : length left ≡ length m
+    left-length = ways (λ (l : List ℕ). length l ≡ length m) (λ p v. part-kept m address 4096 (inside p) next (size p)) refl
+
+    left-outside : (k : ℕ) → Outside address 4096 k → getD left k 0 ≡ getD m k 0
+    left-outside k e = ways (λ (l : List ℕ). getD l k 0 ≡ getD m k 0)
+        (λ p v. ⊎-elim (part-before m address 4096 (inside p) next (size p) k) (part-behind m address 4096 (inside p) next (size p) k) e) refl
 
 -- ---- the memory that update-nodes leaves
 
@@ -61,27 +95,43 @@ module _ (m : List ℕ) (address scope : ℕ) (j : List ℕ) where
   unfolding areaAfter
   after-none e = rw e
 
-  -- the ways through the checks of address and scope
-  ways : (P : List ℕ → Type 0) → (placed m address ≡ true → valid scope ≡ true → P (withArea m address next)) → P m → P (nodesMemory m address scope j)
-  unfolding nodesMemory
-  ways P f g = decide (placed m address) (λ p. decide (valid scope) (λ v. rw (p, v) (f p v)) (λ v. rw (p, v) g)) (λ p. rw p g)
-
   nodes-refused : isAnswer (nodesStatus m address scope j) ≡ false → nodesMemory m address scope j ≡ m
-  nodes-refused e = ways (λ (l : List ℕ). l ≡ m) (λ p v. ap (withArea m address) (after-none (sym (ap isAnswer (nodes-checked m address scope j p v)) ∙ e)) ∙ part-same m address 4096) refl
-
-  module _ (p : placed m address ≡ true) where
-    inside : address + 4096 ≤ length m
-    inside = placed-inside m address p
-
-    size : length next ≡ 4096
-    size = after-length scope (asksFor scope area) j area (part-length m address 4096 inside)
+  unfolding nodesMemory
+  nodes-refused e = left-same m address scope next (λ p v. after-none (sym (ap isAnswer (nodes-checked m address scope j p v)) ∙ e))
 
   nodes-length : length (nodesMemory m address scope j) ≡ length m
-  nodes-length = ways (λ (l : List ℕ). length l ≡ length m) (λ p v. part-kept m address 4096 (inside p) next (size p)) refl
+  unfolding nodesMemory
+  nodes-length = left-length m address scope next (after-length scope (asksFor scope area) j area)
 
   nodes-outside : (k : ℕ) → Outside address 4096 k → getD (nodesMemory m address scope j) k 0 ≡ getD m k 0
-  nodes-outside k e = ways (λ (l : List ℕ). getD l k 0 ≡ getD m k 0)
-      (λ p v. ⊎-elim (part-before m address 4096 (inside p) next (size p) k) (part-behind m address 4096 (inside p) next (size p) k) e) refl
+  unfolding nodesMemory
+  nodes-outside = left-outside m address scope next (after-length scope (asksFor scope area) j area)
+
+  -- ---- the memory that update-properties leaves
+
+  abbrev told : List ℕ
+  told = properties.areaAfter area j
+
+  -- past the checks of address and scope, an area that is refused stays
+  told-none : placed m address ≡ true → valid scope ≡ true → isAnswer (propertiesStatus m address scope j) ≡ false → told ≡ area
+  unfolding properties.areaAfter
+  told-none p v e = decide (wellFormed j && carries area j) (λ t. absurd (true≢false (sym (answers t) ∙ e))) (λ t. rw t)
+    where
+      answers : (wellFormed j && carries area j) ≡ true → isAnswer (propertiesStatus m address scope j) ≡ true
+      answers t = properties-answers m address scope j
+          (record { aligned = placed-aligned m address p; inside = placed-inside m address p; scoped = v; formed = and-left _ _ t; known = and-right (wellFormed j) _ t })
+
+  properties-refused : isAnswer (propertiesStatus m address scope j) ≡ false → propertiesMemory m address scope j ≡ m
+  unfolding propertiesMemory
+  properties-refused e = left-same m address scope told (λ p v. told-none p v e)
+
+  properties-length : length (propertiesMemory m address scope j) ≡ length m
+  unfolding propertiesMemory
+  properties-length = left-length m address scope told (property-answers.after-length area j)
+
+  properties-outside : (k : ℕ) → Outside address 4096 k → getD (propertiesMemory m address scope j) k 0 ≡ getD m k 0
+  unfolding propertiesMemory
+  properties-outside = left-outside m address scope told (property-answers.after-length area j)
 
 -- ---- a call's own work
 
@@ -91,7 +141,9 @@ record Proper (c : Found) (o : Outcome) : Type 0 where
   refused-more : isAnswer (o .status) ≡ false → o .more ≡ []
   refused-memory : isAnswer (o .status) ≡ false → o .memory ≡ c .memory
   refused-registration : isAnswer (o .status) ≡ false → o .registration ≡ c .registration
-  beside : (k : ℕ) → (Asks 1 2 1 (c .args) → Outside (be32 (c .args) 12) 4096 k) → (Asks 2 5 2 (c .args) → Outside (be32 (c .args) 20) (be32 (c .args) 24) k) → getD (o .memory) k 0 ≡ getD (c .memory) k 0
+  beside : (k : ℕ) → (Asks 1 2 1 (c .args) → Outside (be32 (c .args) 12) 4096 k) → (Asks 2 5 2 (c .args) → Outside (be32 (c .args) 20) (be32 (c .args) 24) k)
+      → (Asks 4 2 1 (c .args) → Outside (be32 (c .args) 12) 4096 k)
+      → getD (o .memory) k 0 ≡ getD (c .memory) k 0
   size : length (o .memory) ≡ length (c .memory)
 
 module _ (c : Found) where
@@ -118,7 +170,7 @@ module _ (c : Found) where
         refused-more = λ _. refl;
         refused-memory = nodes-refused m (input b 0) (input b 1) j;
         refused-registration = λ _. refl;
-        beside = λ k f g. nodes-outside m (input b 0) (input b 1) j k (f (asked 1 2 1 b e));
+        beside = λ k f g h. nodes-outside m (input b 0) (input b 1) j k (f (asked 1 2 1 b e));
         size = nodes-length m (input b 0) (input b 1) j;
       }
 
@@ -135,7 +187,7 @@ module _ (c : Found) where
         refused-more = λ h. rw h;
         refused-memory = indices-refused m i q;
         refused-registration = λ _. refl;
-        beside = λ k f g. indices-outside m i q k (g (asked 2 5 2 b e));
+        beside = λ k f g h. indices-outside m i q k (g (asked 2 5 2 b e));
         size = indices-length m i q;
       }
 
@@ -158,19 +210,31 @@ module _ (c : Found) where
         refused-more = λ _. refl;
         refused-memory = λ _. refl;
         refused-registration = dump-kept (input b 0) (input b 1) (input b 2);
-        beside = λ _ _ _. refl;
+        beside = λ _ _ _ _. refl;
         size = refl;
+      }
+
+  properties-proper : isProperties b ≡ true → Proper c (propertiesOutcome c)
+  unfolding propertiesOutcome
+  properties-proper e =
+      record {
+        outputs-hold = omega (arith, asked 4 2 1 b e);
+        refused-more = λ _. refl;
+        refused-memory = properties-refused m (input b 0) (input b 1) j;
+        refused-registration = λ _. refl;
+        beside = λ k f g h. properties-outside m (input b 0) (input b 1) j k (h (asked 4 2 1 b e));
+        size = properties-length m (input b 0) (input b 1) j;
       }
 
   refusal-proper : 0 < outputs b → Proper c (refusal c)
   refusal-proper h =
-      record { outputs-hold = h; refused-more = λ _. refl; refused-memory = λ _. refl; refused-registration = λ _. refl; beside = λ _ _ _. refl; size = refl }
+      record { outputs-hold = h; refused-more = λ _. refl; refused-memory = λ _. refl; refused-registration = λ _. refl; beside = λ _ _ _ _. refl; size = refl }
 
   abbrev o : Outcome
   o = outcome c
 
   proper : 0 < outputs b → Proper c o
-  proper h = outcome-ways c (Proper c) nodes-proper indices-proper dump-proper (refusal-proper h)
+  proper h = outcome-ways c (Proper c) nodes-proper indices-proper dump-proper properties-proper (refusal-proper h)
 
   -- ---- the call
 
@@ -203,7 +267,7 @@ module _ (c : Found) where
         refused-registration = λ h. call-ways (λ (x : Left). x .registration ≡ r) (λ _. refl) (λ e p. p .refused-registration (refused-own h e));
         outside-outputs = λ k n. call-ways (λ (x : Left). getD (x .args) k 0 ≡ getD b k 0) (λ _. refl)
             (λ e p. words-outside (statusWord (o .status) ∷ o .more) k (outputs b) (omega (arith, p .outputs-hold)) n);
-        outside-area = λ k f g. call-ways (λ (x : Left). getD (x .memory) k 0 ≡ getD m k 0) (λ _. refl) (λ e p. p .beside k f g);
+        outside-area = λ k f g h. call-ways (λ (x : Left). getD (x .memory) k 0 ≡ getD m k 0) (λ _. refl) (λ e p. p .beside k f g h);
         args-length = call-ways (λ (x : Left). length (x .args) ≡ length b) (λ _. refl) (λ _ _. length-sets b (statusAt b) stored);
         memory-length = call-ways (λ (x : Left). length (x .memory) ≡ length m) (λ _. refl) (λ e p. p .size);
       }

@@ -14,14 +14,16 @@ use Rattle.words.proofs.Stores.{wordBytes-one}
 use Rattle.calls.specs.declared.status.Number.{Number}
 use Rattle.calls.specs.declared.status.Number.the-variants.{Given, Short, NoOutputs, TooMany}
 use Rattle.calls.specs.Status.{numberOf, isGiven, statusWord}
-use Rattle.calls.specs.Buffer.{inputs, outputs, requestOf, statusAt, numberFor, asks, Found, Left, Outcome, nodesOutcome, indicesOutcome, dumpOutcome, refusal, outcome, callOf}
+use Rattle.calls.specs.Buffer.{inputs, outputs, requestOf, statusAt, numberFor, asks}
+use Rattle.calls.specs.Buffer.{Found, Left, Outcome, nodesOutcome, indicesOutcome, dumpOutcome, propertiesOutcome, refusal, outcome, callOf}
 use Rattle.calls.specs.GetIndices.{indicesStatus, nextNumber}
 use Rattle.calls.specs.Terms.{HasStatus, Asks, statusOf}
 use Rattle.calls.specs.ExactNodes.{ExactNodes}
 use Rattle.calls.specs.ExactIndices.{ExactIndices}
 use Rattle.calls.specs.ExactDump.{ExactDump}
+use Rattle.calls.specs.ExactProperties.{ExactProperties}
 use Rattle.calls.specs.Demands.{Numbered, Unknown, ByToken, Demand2}
-use Rattle.calls.proofs.Heads.{asked, given-number, unchanged, carried-out, nodes-outcome, indices-outcome, dump-outcome}
+use Rattle.calls.proofs.Heads.{asked, asks-by, given-number, unchanged, carried-out, nodes-outcome, indices-outcome, dump-outcome, properties-outcome}
 use Rattle.calls.proofs.Calls.{status-word}
 use Rattle.calls.proofs.Requests.{passed-is}
 use Rattle.calls.proofs.IndicesCalls.{number-word}
@@ -29,6 +31,7 @@ use Rattle.calls.proofs.Exactly.{at-most}
 use Rattle.calls.proofs.ExactNodes.{exact-nodes}
 use Rattle.calls.proofs.ExactIndices.{exact-indices}
 use Rattle.calls.proofs.ExactDump.{exact-dump}
+use Rattle.calls.proofs.ExactProperties.{exact-properties}
 
 -- ---- the number
 
@@ -92,8 +95,7 @@ module _ (c : Found) where
       registration-is = ap (λ (y : Left). y .registration) (carried-out c given) ∙ ap (λ (y : Outcome). y .registration) e
 
     asks-is : (t n k : ℕ) → Asks t n k b → asks t n k b ≡ true
-    unfolding asks
-    asks-is t n k h = rw (eq-eqb _ _ (h .0), eq-eqb _ _ (h .1), eq-eqb _ _ (h .2))
+    asks-is t n k h = asks-by t n k b (h .0) (h .1) (h .2)
 
     asks-not : (t n k : ℕ) → (Asks t n k b → ⊥) → asks t n k b ≡ false
     asks-not t n k h = decide (asks t n k b) (λ e. absurd (h (asked t n k b e))) (λ e. e)
@@ -128,10 +130,20 @@ module _ (c : Found) where
       unfolding dumpOutcome
       dump = (rw (status-is (dumpOutcome c) own-dump, registration-is (dumpOutcome c) own-dump) (exact-dump m (be32 b 12) (be32 b 16) (be32 b 20) (c .registration)), memory-is (dumpOutcome c) own-dump)
 
-    module _ (f : Asks 1 2 1 b → ⊥) (g : Asks 2 5 2 b → ⊥) (d : Asks 3 3 1 b → ⊥) where
+    module _ (h : Asks 4 2 1 b) where
+      own-properties : outcome c ≡ propertiesOutcome c
+      own-properties = properties-outcome c (asks-is 4 2 1 h)
+
+      properties : ExactProperties m (c .journal) (be32 b 12) (be32 b 16) (statusOf b x) (x .memory) × (x .registration ≡ c .registration)
+      unfolding propertiesOutcome
+      properties =
+          let own = propertiesOutcome c in
+          (rw (status-is own own-properties, memory-is own own-properties) (exact-properties m (c .journal) (be32 b 12) (be32 b 16)), registration-is own own-properties)
+
+    module _ (f : Asks 1 2 1 b → ⊥) (g : Asks 2 5 2 b → ⊥) (d : Asks 3 3 1 b → ⊥) (q : Asks 4 2 1 b → ⊥) where
       own-none : outcome c ≡ refusal c
       unfolding outcome
-      own-none = rw (asks-not 1 2 1 f, asks-not 2 5 2 g, asks-not 3 3 1 d)
+      own-none = rw (asks-not 1 2 1 f, asks-not 2 5 2 g, asks-not 3 3 1 d, asks-not 4 2 1 q)
 
       unknown : Unknown c x
       unknown = record {
@@ -141,7 +153,7 @@ module _ (c : Found) where
       }
 
     by-token : ByToken c x
-    by-token = record { nodes = nodes; indices = indices; dump = dump; other = unknown }
+    by-token = record { nodes = nodes; indices = indices; dump = dump; properties = properties; other = unknown }
 
 pub demand2 : Demand2
 demand2 = record { numbers = numbers; statuses = by-token }

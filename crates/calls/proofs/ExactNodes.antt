@@ -50,7 +50,7 @@ state-exact : (selection : Selection) (j area : List ℕ) → Exactly (goodState
 unfolding goodState
 state-exact selection j area = either (eqb (be32 area 0) 0) (ltb (be32 area 0) (length (reportable selection j))) (equal (be32 area 0) 0) (below (be32 area 0) (length (reportable selection j)))
 
-asked-exact : (m : List ℕ) (address scope : ℕ) → Exactly ((placed m address && valid scope) ≡ true) (exact.Asked m address scope)
+pub asked-exact : (m : List ℕ) (address scope : ℕ) → Exactly ((placed m address && valid scope) ≡ true) (exact.Asked m address scope)
 asked-exact m address scope =
     let e = both (placed m address) (valid scope) (placed-exact m address) (valid-exact scope) in
     (λ h. let a = e .0 h in record { aligned = a .0 .0; inside = a .0 .1; scoped = a .1 }, λ a. e .1 ((a .aligned, a .inside), a .scoped))

@@ -94,9 +94,11 @@ too-long first second h c =
     omega (arith, cost-least second (omega arith), c .held .1 .0)
 
 pub fewest-witness : FewestWitness
-unfolding joinedRuns cost present operandWords
+unfolding joinedRuns areasOf cost present operandWords
 fewest-witness =
     record {
+      none = refl;
+      two = refl;
       two-areas = record { joined = refl; held = (leb-true 4096 4096 refl, (leb-true 4096 4096 refl, tt)) };
       three-areas = record { joined = refl; held = (leb-true 4092 4096 refl, (leb-true 4096 4096 refl, (leb-true 28 4096 refl, tt))) };
       no-two = too-long;

@@ -7,13 +7,14 @@ use native.Mathlib.Omega.{arith}
 use lib.Dec.{ltb, eqb}
 use lib.ListN.{length}
 use lib.Seq.{sets}
-use borrow.Author.Tests.{ltb-false, eqb-false, eqb-true}
+use borrow.Author.Tests.{le-ltb, ltb-false, eq-eqb, eqb-false, eqb-true}
 use Rattle.words.proofs.Choice.{choose, and-left, and-right}
 use Rattle.words.specs.Numbers.{wordBytes}
 use Rattle.calls.specs.declared.status.Number.{Number}
 use Rattle.calls.specs.declared.status.Number.the-variants.{Given, Short, NoOutputs, TooMany}
 use Rattle.calls.specs.Status.{isGiven, statusWord}
-use Rattle.calls.specs.Buffer.{token, inputs, outputs, isNodes, isIndices, isDump, Outcome, nodesOutcome, indicesOutcome, dumpOutcome, refusal, Found, leaves, statusAt, numberFor, asks, outcome, callOf}
+use Rattle.calls.specs.Buffer.{token, inputs, outputs, isNodes, isIndices, isDump, isProperties, statusAt, numberFor, asks}
+use Rattle.calls.specs.Buffer.{Outcome, nodesOutcome, indicesOutcome, dumpOutcome, propertiesOutcome, refusal, Found, leaves, outcome, callOf}
 
 pub record Whole (b : List ℕ) : Type 0 where
   pub few-inputs : inputs b ≤ 16
@@ -39,6 +40,12 @@ whole-buffer b = go (ltb (length b) 12) (ltb 16 (inputs b)) (ltb 16 (outputs b))
     go false false false true none p q r s e = absurd (false≢true e)
     go false false false false true p q r s e = absurd (false≢true e)
 
+-- one that has a call's counts, and is long enough for them, has the number 0
+pub given-by : (i o : ℕ) (b : List ℕ) → inputs b ≡ i → outputs b ≡ o → (ltb 16 i || ltb 16 o) ≡ false → eqb o 0 ≡ false → 12 + 4 * (i + o) ≤ length b
+    → isGiven (numberFor b) ≡ true
+unfolding numberFor
+given-by i o b e f few some h = rw (le-ltb (length b) 12 (omega arith), e, f, few, le-ltb (length b) (12 + 4 * (i + o)) h, some)
+
 -- the number itself, from the test that the code makes of it
 pub given-number : (n : Number) → isGiven n ≡ true → n ≡ Given
 given-number Given e = refl
@@ -52,6 +59,10 @@ unfolding asks
 asked t i o b e =
     let f = and-right (eqb (token b) t) (eqb (inputs b) i && eqb (outputs b) o) e in
     (eqb-true (token b) t (and-left _ (eqb (inputs b) i && eqb (outputs b) o) e), eqb-true (inputs b) i (and-left _ (eqb (outputs b) o) f), eqb-true (outputs b) o (and-right (eqb (inputs b) i) _ f))
+
+pub asks-by : (t i o : ℕ) (b : List ℕ) → token b ≡ t → inputs b ≡ i → outputs b ≡ o → asks t i o b ≡ true
+unfolding asks
+asks-by t i o b e f g = rw (eq-eqb _ _ e, eq-eqb _ _ f, eq-eqb _ _ g)
 
 -- and asks for no other
 pub asks-else : (t u i o : ℕ) (b : List ℕ) → token b ≡ t → eqb t u ≡ false → asks u i o b ≡ false
@@ -75,9 +86,10 @@ module _ (c : Found) where
   -- ---- a call's own work, by its token
 
   pub outcome-ways : (P : Outcome → Type 0) → (isNodes (c .args) ≡ true → P (nodesOutcome c)) → (isIndices (c .args) ≡ true → P (indicesOutcome c))
-      → (isDump (c .args) ≡ true → P (dumpOutcome c)) → P (refusal c) → P (outcome c)
+      → (isDump (c .args) ≡ true → P (dumpOutcome c)) → (isProperties (c .args) ≡ true → P (propertiesOutcome c)) → P (refusal c) → P (outcome c)
   unfolding outcome
-  outcome-ways P f g d h = choose (isNodes (c .args)) P f (λ _. choose (isIndices (c .args)) P g (λ _. choose (isDump (c .args)) P d (λ _. h)))
+  outcome-ways P f g d q h =
+      choose (isNodes (c .args)) P f (λ _. choose (isIndices (c .args)) P g (λ _. choose (isDump (c .args)) P d (λ _. choose (isProperties (c .args)) P q (λ _. h))))
 
   pub nodes-outcome : isNodes (c .args) ≡ true → outcome c ≡ nodesOutcome c
   unfolding outcome
@@ -94,3 +106,12 @@ module _ (c : Found) where
       let nodes-not = asks-else 3 1 2 1 (c .args) token-is refl in
       let indices-not = asks-else 3 2 5 2 (c .args) token-is refl in
       rw (nodes-not, indices-not, e)
+
+  pub properties-outcome : isProperties (c .args) ≡ true → outcome c ≡ propertiesOutcome c
+  unfolding outcome
+  properties-outcome e =
+      let token-is = asked 4 2 1 (c .args) e .0 in
+      let nodes-not = asks-else 4 1 2 1 (c .args) token-is refl in
+      let indices-not = asks-else 4 2 5 2 (c .args) token-is refl in
+      let dump-not = asks-else 4 3 3 1 (c .args) token-is refl in
+      rw (nodes-not, indices-not, dump-not, e)

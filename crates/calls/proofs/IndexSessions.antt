@@ -6,7 +6,7 @@ use mathlib.Core.Logic.{_⊎_, ⊎-elim}
 use Prim.Native.Nat.{ℕ, _+_, _-_, _≤_, _<_}
 use native.Mathlib.Omega.{arith}
 use lib.Dec.{ltb}
-use borrow.Author.Tests.{lt-ltb, le-ltb, le-leb}
+use borrow.Author.Tests.{lt-ltb, le-leb}
 use lib.ListN.{length, take, drop, length-drop}
 use lib.Seq.{take-all}
 use Rattle.words.specs.Numbers.{Bytes}
@@ -17,14 +17,14 @@ use Rattle.indices.specs.Area.{run}
 use Rattle.indices.specs.Reading.{reading}
 use Rattle.inventory.proofs.Listed.{listed-sound}
 use Rattle.indices.proofs.Written.{fitting-few, fitting-front, holds-due}
-use Rattle.calls.specs.Status.{isGiven}
 use Rattle.calls.specs.GetIndices.{askable, lendable, runFor, goodNumber, dueFits, moreEntries, nextNumber}
-use Rattle.calls.specs.Buffer.{input, numberFor, asks, isIndices, requestOf, Found}
+use Rattle.calls.specs.Buffer.{input, requestOf, Found}
 use Rattle.calls.specs.Session.{isAnswered, Standing}
 use Rattle.calls.specs.IndexSession.{areaThen, numberThen, start, standing, Continues, Session, WellMade, handedOut}
 use Rattle.calls.specs.WholeList.{HandedOut, Ends, WholeList}
 use Rattle.calls.proofs.Requests.{Passed, run-some, some-due}
 use Rattle.calls.proofs.IndicesCalls.{Answered, answered-is, will-answer}
+use Rattle.calls.proofs.Heads.{given-by, asks-by}
 use Rattle.calls.proofs.Session as session
 
 -- ---- the run from a place on
@@ -115,14 +115,6 @@ module _ (i : List ℕ) (flag type : ℕ) (bytes : Bytes i) (formed : wellFormed
         abbrev room : ℕ
         room = input (c .args) 3
 
-        given-is : isGiven (numberFor (c .args)) ≡ true
-        unfolding numberFor
-        given-is = rw (le-ltb (length (c .args)) 12 (omega (arith, m .whole)), m .five-inputs, m .two-outputs, le-ltb (length (c .args)) 40 (m .whole))
-
-        indices-is : isIndices (c .args) ≡ true
-        unfolding asks
-        indices-is = rw (m .indices, m .five-inputs, m .two-outputs)
-
         lent : lendable (c .memory) address room ≡ true
         unfolding lendable
         lent = rw (le-leb 4 room (omega (arith, m .large)), le-leb (address + room) 4294967296 (m .below), le-leb (address + room) (length (c .memory)) (m .inside))
@@ -147,7 +139,9 @@ module _ (i : List ℕ) (flag type : ℕ) (bytes : Bytes i) (formed : wellFormed
             }
 
         answers : isAnswered c ≡ true
-        answers = will-answer c given-is indices-is passed
+        answers =
+            let b = c .args in
+            will-answer c (given-by 5 2 b (m .five-inputs) (m .two-outputs) refl refl (m .whole)) (asks-by 2 5 2 b (m .indices) (m .five-inputs) (m .two-outputs)) passed
 
   -- ---- the account of a session
 

@@ -52,7 +52,8 @@ module _ (c : Found) where
   -- an answered call with its token has its counts
   indices-only : token b ≡ 2 → isAnswer (outcome c .status) ≡ true → isIndices b ≡ true
   indices-only n = outcome-ways c (λ (o : Outcome). isAnswer (o .status) ≡ true → isIndices b ≡ true)
-      (λ e _. absurd (omega (arith, n, asked 1 2 1 b e))) (λ e _. e) (λ e _. absurd (omega (arith, n, asked 3 3 1 b e))) (λ h. absurd (false≢true h))
+      (λ e _. absurd (omega (arith, n, asked 1 2 1 b e))) (λ e _. e) (λ e _. absurd (omega (arith, n, asked 3 3 1 b e))) (λ e _. absurd (omega (arith, n, asked 4 2 1 b e)))
+      (λ h. absurd (false≢true h))
 
   module _ (given : isGiven (numberFor b) ≡ true) (own : isIndices b ≡ true) where
     work : outcome c ≡ indicesOutcome c

@@ -33,6 +33,11 @@ ladder-passed true true false r g m h = absurd (false≢true h)
 ladder-passed true true true false g m h = absurd (false≢true h)
 ladder-passed true true true true false m h = absurd (false≢true h)
 
+-- and where something remains or not, the last step is an answer
+pub answer-either : (m : Bool) → isAnswer (cond m Again Done) ≡ true
+answer-either true = refl
+answer-either false = refl
+
 -- "-3 in every other case"
 pub ladder-otherwise : (p v w r g m : Bool) → let s = statusWord (ladder p v w r g m) in (s ≤ 1 → ⊥) → (s ≡ minus 1 → ⊥) → s ≡ minus 3
 ladder-otherwise false v w r g m a f = refl

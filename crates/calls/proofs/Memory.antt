@@ -74,6 +74,10 @@ part-same m a n =
     ∙ ap (λ (l : List ℕ). take a m ++ l) (ap₂ _++_ (take-take n n (drop a m) (omega arith)) (sym (drop-drop n a m)) ∙ take-append-drop n (drop a m))
     ∙ take-append-drop a m
 
+-- an area with an answer in its front keeps its length
+pub front-length : (front area : List ℕ) → length front ≤ length area → length (front ++ drop (length front) area) ≡ length area
+front-length front area h = simp (length-append, length-drop) (omega arith)
+
 -- an area behind an answer in its front
 pub front-behind : (front area : List ℕ) (k : ℕ) → length front ≤ k → getD (front ++ drop (length front) area) k 0 ≡ getD area k 0
 front-behind front area k h =

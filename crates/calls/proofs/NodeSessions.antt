@@ -7,7 +7,7 @@ use Prim.Native.Nat.{ℕ, _+_, _*_, _≤_, _<_}
 use native.Mathlib.Omega.{arith}
 use native.Mathlib.Nat.{eq-or-lt-of-le}
 use lib.Dec.{ltb, eqb}
-use borrow.Author.Tests.{lt-ltb, le-ltb, eq-eqb}
+use borrow.Author.Tests.{lt-ltb, eq-eqb}
 use lib.ListN.{length, take, drop, length-take, take-append-drop}
 use lib.Seq.{take-all}
 use Rattle.words.specs.Numbers.{beBytes, wordBytes}
@@ -25,9 +25,8 @@ use Rattle.nodes.proofs.Runs.{RunFacts, run-facts, operandWords-append, operand
 use Rattle.node_area.specs.Head.{headOf, carriedHead, stateIn, unitIn}
 use Rattle.nodes.proofs.Carried.{state-of, reserved-of, unit-of, written-head}
 use Rattle.nodes.proofs.Claims.{area-claims}
-use Rattle.calls.specs.Status.{isGiven}
 use Rattle.calls.specs.UpdateNodes.{areaAt, goodState}
-use Rattle.calls.specs.Buffer.{input, numberFor, asks, isNodes, Found}
+use Rattle.calls.specs.Buffer.{input, Found}
 use Rattle.calls.specs.Session.{isAnswered, Standing}
 use Rattle.calls.specs.NodeSession.{address, areaBefore, areaThen, carriedThen, start, standing, Continues, Session, WellMade, reported}
 use Rattle.calls.specs.Demands.{Bounded, Accounted, Ends, Demand3}
@@ -35,6 +34,7 @@ use Rattle.calls.specs.Fewest.{joinedRuns, Cutting, areasOf, FewestAreas
 use Rattle.calls.proofs.Memory.{part-length, part-stored, written-length}
 use Rattle.calls.proofs.Calls.{Passed, Answered, answered-is, will-answer}
 use Rattle.calls.proofs.Fewest.{endOf, areas-least, stays-behind, another-area}
+use Rattle.calls.proofs.Heads.{given-by, asks-by}
 use Rattle.calls.proofs.Session as session
 
 -- the words of a part of a list are no more than the list's
@@ -143,14 +143,6 @@ module _ (j : List ℕ) (s u : ℕ) (u-small : u < 18446744073709551616) (ls : L
       good-state : (eqb k 0 || ltb k (length os)) ≡ true
       good-state = ⊎-elim (λ e. rw (eq-eqb k 0 e)) (λ l. simp (lt-ltb k (length os) l, or-true)) (o .place)
 
-      given-is : isGiven (numberFor (c .args)) ≡ true
-      unfolding numberFor
-      given-is = rw (le-ltb (length (c .args)) 12 (omega arith), m .two-inputs, m .one-output, le-ltb (length (c .args)) 24 (m .whole))
-
-      nodes-is : isNodes (c .args) ≡ true
-      unfolding asks
-      nodes-is = rw (m .nodes, m .two-inputs, m .one-output)
-
       passed : Passed (c .memory) (address c) (input (c .args) 1) (c .journal)
       unfolding goodState
       passed = record {
@@ -163,7 +155,9 @@ module _ (j : List ℕ) (s u : ℕ) (u-small : u < 18446744073709551616) (ls : L
       }
 
       answers : isAnswered c ≡ true
-      answers = will-answer c given-is nodes-is passed
+      answers =
+          let b = c .args in
+          will-answer c (given-by 2 1 b (m .two-inputs) (m .one-output) refl refl (m .whole)) (asks-by 1 2 1 b (m .nodes) (m .two-inputs) (m .one-output)) passed
 
   -- ---- the account of a session
 

@@ -16,6 +16,7 @@ use Rattle.calls.specs.Status.{isGiven, isAnswer, statusWord}
 use Rattle.calls.specs.UpdateNodes.{nodesStatus, nodesMemory}
 use Rattle.dump.specs.Registration.{registrationAfter}
 use Rattle.calls.specs.ConfigureDump.{dumpStatus}
+use Rattle.calls.specs.UpdateProperties.{propertiesStatus, propertiesMemory}
 use Rattle.calls.specs.GetIndices.{indicesStatus, indicesMemory, nextNumber}
 
 -- 01: "Token, number of inputs, number of outputs, the inputs, the outputs; the first output is the status."
@@ -74,6 +75,9 @@ isIndices b = asks 2 5 2 b
 abbrev pub isDump : List ℕ → Bool
 isDump b = asks 3 3 1 b
 
+abbrev pub isProperties : List ℕ → Bool
+isProperties b = asks 4 2 1 b
+
 -- 01, update-nodes: "Inputs: address, scope. One output."
 unfoldable pub nodesOutcome : Found → Outcome
 nodesOutcome f =
@@ -109,17 +113,31 @@ dumpOutcome f =
       registration = registrationAfter (f .memory) command address len (f .registration);
     }
 
+-- 02, M-103, update-properties: inputs address and scope, one output
+unfoldable pub propertiesOutcome : Found → Outcome
+propertiesOutcome f =
+    let address = input (f .args) 0 in
+    let scope = input (f .args) 1 in
+    record {
+      status = propertiesStatus (f .memory) address scope (f .journal);
+      more = [];
+      memory = propertiesMemory (f .memory) address scope (f .journal);
+      registration = f .registration;
+    }
+
 -- a call that is refused for its token, counts or parameters
 abbrev pub refusal : Found → Outcome
 refusal f = record { status = Parameter; more = []; memory = f .memory; registration = f .registration }
 
--- 01: "Tokens here: 1 update-nodes, 2 get-indices, 3 configure-kernel-dump.", "an unknown token or counts unlike the call's own give status -3". Further tokens are added here.
+-- 01: "Tokens here: 1 update-nodes, 2 get-indices, 3 configure-kernel-dump.", "an unknown token or counts unlike the call's own give status -3".
+-- 02, M-103: "Add ibm,update-properties, .. token 4". Further tokens are added here.
 unfoldable pub outcome : Found → Outcome
 outcome f =
     cond (isNodes (f .args)) (nodesOutcome f)
     (cond (isIndices (f .args)) (indicesOutcome f)
     (cond (isDump (f .args)) (dumpOutcome f)
-    (refusal f)))
+    (cond (isProperties (f .args)) (propertiesOutcome f)
+    (refusal f))))
 
 -- All that a call leaves; the journal and the inventory are only read.
 pub record Left : Type 0 where

@@ -19,6 +19,7 @@ use Rattle.calls.specs.Terms.{minus, HasStatus, Refused, Asks, statusOf,
 use Rattle.calls.specs.ExactNodes.{ExactNodes}
 use Rattle.calls.specs.ExactIndices.{ExactIndices}
 use Rattle.calls.specs.ExactDump.{ExactDump}
+use Rattle.calls.specs.ExactProperties.{ExactProperties}
 use Rattle.calls.specs.Session.{isAnswered, Standing, Among}
 use Rattle.calls.specs.NodeSession.{start, after, standing, Session, WellMade, reported}
 
@@ -34,6 +35,7 @@ pub record Confined (f : Found) (x : Left) : Type 0 where
   pub refused-registration : Refused (f .args) x → x .registration ≡ f .registration
   pub outside-outputs : (k : ℕ) → Outside (12 + 4 * be32 (f .args) 4) (4 * be32 (f .args) 8) k → getD (x .args) k 0 ≡ getD (f .args) k 0
   pub outside-area : (k : ℕ) → (Asks 1 2 1 (f .args) → Outside (be32 (f .args) 12) 4096 k) → (Asks 2 5 2 (f .args) → Outside (be32 (f .args) 20) (be32 (f .args) 24) k)
+      → (Asks 4 2 1 (f .args) → Outside (be32 (f .args) 12) 4096 k)
       → getD (x .memory) k 0 ≡ getD (f .memory) k 0
   pub args-length : length (x .args) ≡ length (f .args)
   pub memory-length : length (x .memory) ≡ length (f .memory)
@@ -72,7 +74,11 @@ pub record ByToken (f : Found) (x : Left) : Type 0 where
   pub dump : Asks 3 3 1 (f .args) →
       let b = f .args in
       ExactDump (f .memory) (be32 b 12) (be32 b 16) (be32 b 20) (statusOf b x) (f .registration) (x .registration) × (x .memory ≡ f .memory)
-  pub other : (Asks 1 2 1 (f .args) → ⊥) → (Asks 2 5 2 (f .args) → ⊥) → (Asks 3 3 1 (f .args) → ⊥) → Unknown f x
+  -- 02, M-103, token 4: inputs address and scope, one output
+  pub properties : Asks 4 2 1 (f .args) →
+      let b = f .args in
+      ExactProperties (f .memory) (f .journal) (be32 b 12) (be32 b 16) (statusOf b x) (x .memory) × (x .registration ≡ f .registration)
+  pub other : (Asks 1 2 1 (f .args) → ⊥) → (Asks 2 5 2 (f .args) → ⊥) → (Asks 3 3 1 (f .args) → ⊥) → (Asks 4 2 1 (f .args) → ⊥) → Unknown f x
 
 pub record Demand2 : Type 0 where
   pub numbers : (f : Found) → Numbered (f .args) (be32 (f .args) 4) (be32 (f .args) 8) (numberOf (callOf f .number))

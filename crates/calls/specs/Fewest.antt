@@ -50,6 +50,8 @@ deletes n = replicate n (Delete 42)
 
 -- 2,036 deletes fill two areas. With a first run of 1,017 or fewer no two areas hold them, and three do.
 pub record FewestWitness : Type 0 where
+  pub none : areasOf [] ≡ 1
+  pub two : areasOf (deletes 1018 ∷ deletes 1018 ∷ []) ≡ 2
   pub two-areas : Cutting (deletes 2036) (deletes 1018 ∷ deletes 1018 ∷ [])
   pub three-areas : Cutting (deletes 2036) (deletes 1017 ∷ deletes 1018 ∷ deletes 1 ∷ [])
   pub no-two : (first second : List Operation) → length first ≤ 1017 → Cutting (deletes 2036) (first ∷ second ∷ []) → ⊥

@@ -1,6 +1,7 @@
 pub mod Status
 pub mod Lent
 pub mod UpdateNodes
+pub mod UpdateProperties
 pub mod GetIndices
 pub mod ConfigureDump
 pub mod Buffer
@@ -8,11 +9,15 @@ pub mod Terms
 pub mod ExactNodes
 pub mod ExactIndices
 pub mod ExactDump
+pub mod ExactProperties
 pub mod Session
 pub mod NodeSession
 pub mod IndexSession
+pub mod PropertySession
 pub mod Demands
 pub mod Fewest
 pub mod WholeList
+pub mod WholeNode
 pub mod Readings
+pub mod PropertyReadings
 pub mod Witnesses

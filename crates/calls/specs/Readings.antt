@@ -365,7 +365,7 @@ cases =
     ∷ numbered 2 1 200 0
     -- "an unknown token or counts unlike the call's own give status -3"
     ∷ unknown 0 2 1
-    ∷ unknown 4 2 1
+    ∷ unknown 5 2 1
     ∷ unknown 1 3 1
     ∷ unknown 1 2 2
     ∷ unknown 2 5 1

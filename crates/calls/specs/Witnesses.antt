@@ -11,7 +11,10 @@ use Rattle.dump.specs.Claims.{times}
 use Rattle.journal.specs.Journal.{wellFormed}
 use Rattle.journal.specs.Scope.{valid, selectionOf}
 use Rattle.journal.specs.Reportable.{reportable, operandWords}
-use Rattle.journal.specs.Claims.{long, unit}
+use Rattle.journal.specs.Claims.{long, unit, property}
+use Rattle.properties.specs.Changes.{changes, isDue}
+use Rattle.properties.specs.Changes.{properties as told}
+use Rattle.properties.specs.Filling.{weight}
 use Rattle.inventory.specs.Inventory as inventory
 use Rattle.inventory.specs.Listing.{listed}
 use Rattle.calls.specs.GetIndices.{askable}
@@ -19,6 +22,7 @@ use Rattle.calls.specs.Buffer.{Found, found}
 use Rattle.calls.specs.Session.{isAnswered, Among}
 use Rattle.calls.specs.NodeSession as nodes
 use Rattle.calls.specs.IndexSession as indices
+use Rattle.calls.specs.PropertySession as properties
 use Rattle.calls.specs.Readings.{inventoryOf}
 
 -- ---- demand 3: 510 additions, of which an area holds 509
@@ -87,3 +91,26 @@ pub record IndicesWitness : Type 0 where
   pub well-made : Among indices.after (indices.WellMade sensors 1 9) indices.start indicesCalls 2
   pub enough : length (listed 1 9 sensors) ≤ 2
   pub ended : indices.standing indicesCalls .done ≡ true
+
+-- ---- the whole node: a property with a name of one letter and a value of 4,071 bytes, of which an area holds 4,070
+
+abbrev pub changed : List ℕ
+changed = property 4079 5 1 (0 ∷ replicate 4071 7)
+
+-- a call of scope 1 for the node 42 with a work area at an address, over 4,096 bytes of memory that begin with phandle and state
+abbrev pub propertiesCall : ℕ → ℕ → Found
+propertiesCall address state = found (wordBytes (4 ∷ 2 ∷ 1 ∷ address ∷ 1 ∷ 99 ∷ [])) (wordBytes (42 ∷ state ∷ 0 ∷ 0 ∷ []) ++ replicate 4080 9) changed [] noRegistration
+
+-- the area of the second is past memory's end
+abbrev pub propertiesCalls : List Found
+propertiesCalls = propertiesCall 0 0 ∷ propertiesCall 4096 0 ∷ propertiesCall 0 4080 ∷ []
+
+pub record PropertiesWitness : Type 0 where
+  pub bytes : Bytes changed
+  pub formed : wellFormed changed ≡ true
+  pub known : isDue (changes 42 changed) ≡ true
+  pub session : properties.Session changed 42 propertiesCalls
+  pub refused : isAnswered (propertiesCall 4096 0) ≡ false
+  pub well-made : Among nodes.after (properties.WellMade changed) (properties.start 42) propertiesCalls 2
+  pub enough : weight (told (changes 42 changed)) ≤ 4040 * 2
+  pub ended : properties.standing 42 propertiesCalls .done ≡ true
