@@ -1,9 +1,10 @@
 -- What a call's own work leaves, way by way through the code, and what comes of it once the status is stored.
-use mathlib.Core.Path.{_≡_, _∙_}
+use mathlib.Core.Path.{_≡_, ap, _∙_}
 use mathlib.Core.Bool.{true, false, cond}
-use mathlib.Core.List.{List, [], _∷_}
-use Prim.Native.Nat.{ℕ, _+_}
+use mathlib.Core.List.{List, [], _∷_, _++_}
+use Prim.Native.Nat.{ℕ, _+_, _-_}
 use native.Mathlib.Omega.{arith}
+use lib.ListN.{length, take, drop}
 use lib.Seq.{sets}
 use Rattle.words.specs.Numbers.{beBytes, wordBytes}
 use Rattle.words.proofs.Numbers.{length-beBytes}
@@ -16,12 +17,27 @@ use Rattle.calls.specs.declared.status.Number.the-variants.{Given}
 use Rattle.calls.specs.declared.status.Status.{Status}
 use Rattle.calls.specs.declared.status.Status.the-variants.{Parameter}
 use Rattle.calls.specs.Status.{isGiven, isAnswer, statusWord}
-use Rattle.calls.specs.UpdateNodes.{nodesStatus, nodesMemory}
+use Rattle.journal.specs.Scope.{valid}
+use Rattle.properties.specs.Answer.{outcomeOf, areaAfter}
+use Rattle.calls.specs.UpdateNodes.{withArea, placed, nodesStatus, nodesMemory}
+use Rattle.calls.specs.UpdateProperties.{statusFor, propertiesStatus, propertiesMemory}
 use Rattle.calls.specs.ConfigureDump.{dumpStatus}
 use Rattle.calls.specs.GetIndices.{indicesStatus, indicesMemory, nextNumber}
-use Rattle.calls.specs.Buffer.{input, requestOf, isNodes, isIndices, isDump, statusAt, numberFor, Found, nodesOutcome, indicesOutcome, dumpOutcome, outcome, leaves, callOf}
-use Rattle.calls.proofs.Heads.{asked, carried-out, nodes-outcome, indices-outcome, dump-outcome}
+use Rattle.calls.specs.Buffer.{input, requestOf, isNodes, isIndices, isDump, isProperties, statusAt, numberFor, Found, nodesOutcome, indicesOutcome, dumpOutcome, propertiesOutcome, outcome, leaves, callOf}
+use Rattle.calls.proofs.Areas.{placed-inside}
+use Rattle.calls.proofs.Memory.{part-lent, part-back}
+use Rattle.calls.proofs.Heads.{asked, carried-out, nodes-outcome, indices-outcome, dump-outcome, properties-outcome}
 use Rattle.rtas.specs.Working.{Worked}
+
+-- the area of an update-properties call with what the call makes of it, put back into memory
+pub left-properties : (m : List ℕ) (address scope : ℕ) (j : List ℕ) → placed m address ≡ true → valid scope ≡ true → (s : Status) (v : List ℕ) → length v ≡ 4096
+    → s ≡ statusFor (outcomeOf (take (address + 4096 - address) (drop address m)) j) → v ≡ areaAfter (take (address + 4096 - address) (drop address m)) j
+    → (s ≡ propertiesStatus m address scope j) × (take address m ++ (v ++ drop (address + 4096 - address) (drop address m)) ≡ propertiesMemory m address scope j)
+unfolding propertiesStatus propertiesMemory
+left-properties m address scope j p e s v n f g =
+    let inside = placed-inside m address p in
+    let back = part-back m address 4096 inside v n in
+    rw (p, e, back, ← part-lent m address 4096 inside) (f, ap (withArea m address) g)
 
 module _ (c : Found) where
   abbrev b : List ℕ
@@ -49,9 +65,14 @@ module _ (c : Found) where
   unfolding dumpOutcome wordBytes
   worked-dump s next e f g = let o = dump-outcome c e in record { status-is = rw o f; registration-is = rw o g; args-are = rw o; memory-is = rw o }
 
-  pub worked-none : isNodes b ≡ false → isIndices b ≡ false → isDump b ≡ false → Worked c Parameter (c .registration) b (c .memory)
+  pub worked-properties : (s : Status) (memory : List ℕ) → isProperties b ≡ true → s ≡ propertiesStatus (c .memory) (input b 0) (input b 1) (c .journal)
+      → memory ≡ propertiesMemory (c .memory) (input b 0) (input b 1) (c .journal) → Worked c s (c .registration) b memory
+  unfolding propertiesOutcome wordBytes
+  worked-properties s memory e f g = let o = properties-outcome c e in record { status-is = rw o f; registration-is = rw o; args-are = rw o; memory-is = rw o g }
+
+  pub worked-none : isNodes b ≡ false → isIndices b ≡ false → isDump b ≡ false → isProperties b ≡ false → Worked c Parameter (c .registration) b (c .memory)
   unfolding outcome wordBytes
-  worked-none e f g = record { status-is = rw (e, f, g); registration-is = rw (e, f, g); args-are = rw (e, f, g); memory-is = rw (e, f, g) }
+  worked-none e f g h = record { status-is = rw (e, f, g, h); registration-is = rw (e, f, g, h); args-are = rw (e, f, g, h); memory-is = rw (e, f, g, h) }
 
   -- the status word is stored before the outputs behind it, which stand already
   stored-all : (s : Status) (next : Registration) (l memory : List ℕ) → Worked c s next l memory → sets l (statusAt b) (beBytes 4 (statusWord s)) ≡ sets b (statusAt b) (wordBytes (statusWord (outcome c .status) ∷ outcome c .more))

@@ -13,11 +13,14 @@ ghost use Rattle.rtas.specs.Working.{Worked};
 ghost use Rattle.calls.specs.Demands.{Demand1, Demand2, Demand3};
 ghost use Rattle.calls.specs.Fewest.{FewestAreas, FewestWitness};
 ghost use Rattle.calls.specs.WholeList.{WholeList};
-ghost use Rattle.calls.specs.Witnesses.{NodesWitness, IndicesWitness};
+ghost use Rattle.calls.specs.WholeNode.{WholeNode};
+ghost use Rattle.calls.specs.Witnesses.{NodesWitness, IndicesWitness, PropertiesWitness};
 ghost use Rattle.calls.specs.Readings.{Readings};
+ghost use Rattle.calls.specs.PropertyReadings.{PropertyReadings};
 use crate::dump_call::configure_kernel_dump;
 use crate::indices_call::get_indices;
 use crate::nodes_call::update_nodes;
+use crate::properties_call::update_properties;
 use crate::work::Work;
 use calls::Number;
 use calls::Request;
@@ -131,6 +134,15 @@ fn dispatch(
         let len = words::read_be32(args, 20);
         return configure_kernel_dump(&*memory, registration, command, address, len);
     }
+    if asks_for(&*args, 4, 2, 1) {
+        let address = words::read_be32(args, 12);
+        let scope = words::read_be32(args, 16);
+        let status = update_properties(memory, journal, address, scope);
+        return Work {
+            status,
+            registration,
+        };
+    }
     Work {
         status: Status::Parameter,
         registration,
@@ -146,7 +158,7 @@ pub fn call(
     registration: Registration,
 ) -> Answer
     ensures { λ r. ⌜ leaves (r .number) (now (args .exit)) (now (memory .exit)) (r .registration) ≡ callOf (found (now (args .entry)) (now (memory .entry)) (now (journal .entry)) (now (inventory .entry)) registration) ⌝ }
-    ensures demands { λ _. ⌜ Demand1 × Demand2 × Demand3 × FewestAreas × WholeList × NodesWitness × FewestWitness × IndicesWitness × Readings ⌝ }
+    ensures demands { λ _. ⌜ Demand1 × Demand2 × Demand3 × FewestAreas × WholeList × WholeNode × NodesWitness × FewestWitness × IndicesWitness × PropertiesWitness × Readings × PropertyReadings ⌝ }
 {
     let number = number_for(&*args);
     if !is_given(number) {

@@ -3,6 +3,7 @@ mod calling;
 mod dump_call;
 mod indices_call;
 mod nodes_call;
+mod properties_call;
 mod work;
 
 pub use calling::Answer;
@@ -11,4 +12,5 @@ pub use dump_call::configure_kernel_dump;
 pub use indices_call::Listed;
 pub use indices_call::get_indices;
 pub use nodes_call::update_nodes;
+pub use properties_call::update_properties;
 pub use work::Work;

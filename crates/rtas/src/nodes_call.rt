@@ -14,7 +14,7 @@ use node_area::StateVariable;
 use nodes::Progress;
 
 // Whether an address is a multiple of 4,096 with its area inside memory.
-fn is_placed(memory: &[u8], address: usize) -> bool
+pub fn is_placed(memory: &[u8], address: usize) -> bool
     requires { ⌜ address < 4294967296 ⌝ }
     ensures { λ r. ⌜ r ≡ placed (now (memory .entry)) address ⌝ }
 {
@@ -65,7 +65,7 @@ fn answer_area(area: &mut [u8], j: &[u8], row: &[u8; 17], scope: u32) -> Status
     ensures { λ r. ⌜ r ≡ areaStatus scope (asking (now (row .entry)) (unitsOf scope (unitIn (now (area .entry))))) (now (j .entry)) (now (area .entry)) ⌝ }
     ensures { λ _. ⌜ now (area .exit) ≡ areaAfter scope (asking (now (row .entry)) (unitsOf scope (unitIn (now (area .entry))))) (now (j .entry)) (now (area .entry)) ⌝ }
 {
-    let scanned = journal::scan(j, row, units_in(area, scope));
+    let scanned = scanning::scan(j, row, units_in(area, scope));
     let judgement = scanned.judgement;
     let noted = scanned.noted;
     let marks = scanned.marks;

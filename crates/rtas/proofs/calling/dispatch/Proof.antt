@@ -7,9 +7,9 @@ use lib.ListN.{length}
 use borrow.Author.Needs.{needs}
 use denote.Ref.{now}
 use Rattle.calls.proofs.Heads.{Whole, whole-buffer, asked}
-use Rattle.calls.specs.Buffer.{isNodes, isIndices, isDump, Found, found}
+use Rattle.calls.specs.Buffer.{isNodes, isIndices, isDump, isProperties, Found, found}
 use Rattle.calls.specs.Status.{isGiven}
-use Rattle.rtas.proofs.Works.{worked-nodes, worked-indices, worked-dump, worked-none}
+use Rattle.rtas.proofs.Works.{worked-nodes, worked-indices, worked-dump, worked-properties, worked-none}
 use Rattle.rtas.proofs.calling.dispatch.Statement.{statement}
 use Rattle.rtas.proofs.calling.dispatch.Tie as tie
 
@@ -67,12 +67,29 @@ returns-3 c =
     let told = rw (c .before .before .before .before .before .before .read-be323 .ensures, c .before .before .before .before .read-be324 .ensures, c .before .before .read-be325 .ensures) at (c .configure-kernel-dump .ensures) in
     worked-dump (entry (c .before .before .before .before .before .before .before .before .before .before .before .before .before .before .before .before .before .before .before .before .before)) _ _ (dump-yes (c .before .before .before .before .before .before .before)) (told .0) (told .1)
 
--- ---- any other
+-- ---- update-properties
+
+asks-for-requires-4 : tie.Need-asks-for-requires-4
+asks-for-requires-4 c κs = omega (arith, whole (c .before .before .before .before .before .before .before .before .before .before .before .before .before .before) .size)
+
+properties-yes : (c : tie.After-read-be32-arg6) → isProperties (now (c .before .before .before .before .before .before .before .before .before .before .before .before .before .before .before .before .before .args .args)) ≡ true
+properties-yes c = sym (c .before .before .asks-for4 .ensures) ∙ c .before .if4 .taken
+
+-- two inputs are inside
+properties-inside : (c : tie.After-read-be32-arg6) → 24 ≤ length (now (c .before .before .before .before .before .before .before .before .before .before .before .before .before .before .before .before .before .args .args))
+properties-inside c = let s = c .before .before .before .before .before .before .before .before .before .before .before .before .before .before .before .before .before in omega (arith, whole s .size, asked 4 2 1 (now (s .args .args)) (properties-yes c))
 
 returns-4 : tie.Need-returns-4
 returns-4 c =
-    worked-none (entry (c .before .before .before .before .before .before .before .before .before .before .before .before .before)) (sym (c .before .before .before .before .before .before .before .asks-for .ensures) ∙ c .before .before .before .before .before .before .if1 .left)
-    (sym (c .before .before .before .before .asks-for2 .ensures) ∙ c .before .before .before .if2 .left) (sym (c .before .asks-for3 .ensures) ∙ c .if3 .left)
+    let told = rw (c .before .before .before .before .before .before .read-be326 .ensures, c .before .before .before .before .read-be327 .ensures) at (c .before .before .update-properties .ensures) in
+    worked-properties (entry (c .before .before .before .before .before .before .before .before .before .before .before .before .before .before .before .before .before .before .before .before .before .before .before .before)) _ _ (properties-yes (c .before .before .before .before .before .before .before)) (told .0) (told .1)
+
+-- ---- any other
+
+returns-5 : tie.Need-returns-5
+returns-5 c =
+    worked-none (entry (c .before .before .before .before .before .before .before .before .before .before .before .before .before .before .before .before)) (sym (c .before .before .before .before .before .before .before .before .before .before .asks-for .ensures) ∙ c .before .before .before .before .before .before .before .before .before .if1 .left)
+    (sym (c .before .before .before .before .before .before .before .asks-for2 .ensures) ∙ c .before .before .before .before .before .before .if2 .left) (sym (c .before .before .before .before .asks-for3 .ensures) ∙ c .before .before .before .if3 .left) (sym (c .before .asks-for4 .ensures) ∙ c .if4 .left)
 
 pub dispatch-spec : {M : Type 1} → statement M
 dispatch-spec =
@@ -98,5 +115,12 @@ dispatch-spec =
     (λ c. search needs)
     (λ c. search needs)
     returns-3
+    asks-for-requires-4
+    (λ c κs. omega (arith, properties-inside c))
+    (λ c κs. omega (arith, properties-inside (c .before .before)))
+    (λ c κs. search needs)
     (λ c. search needs)
-    returns-4)
+    (λ c. search needs)
+    returns-4
+    (λ c. search needs)
+    returns-5)
