@@ -1,11 +1,11 @@
 -- The sets of an index area as words in a buffer.
-use mathlib.Core.Path.{_≡_, refl, ap, _∙_}
+use mathlib.Core.Path.{_≡_, refl, _∙_}
 use mathlib.Core.List.{List, [], _∷_}
 use Prim.Native.Nat.{ℕ, zero, suc, _+_, _*_, _-_, _/_, _<_, _≤_, min}
 use native.Mathlib.Omega.{arith}
 use lib.Dec.{ltb}
 use lib.ListN.{length, getD}
-use lib.Seq.{sets, length-sets}
+use lib.Seq.{sets}
 use Rattle.words.specs.Numbers.{be32}
 use Rattle.words.specs.Nul.{untilNul}
 use Rattle.words.proofs.Choice.{choose}
@@ -19,7 +19,8 @@ use Rattle.indices.specs.Cursor.{entriesFrom, remaining}
 use Rattle.indices.proofs.IndexLaws.{code-part, fine-inside, entries-in-order}
 use Rattle.indices.proofs.Fine.{fine-some, code-ends, nul-place, code-place, Reads, reads-next}
 use Rattle.draugsten.specs.declared.reading.IndexReading.{IndexReading}
-use Rattle.draugsten.specs.Readings.{setsWords, indexReading, indicesOut, entriesTold, WordsTell}
+use Rattle.draugsten.specs.Readings.{setWords, setsWords, indexReading, indicesOut, entriesTold, WordsTell}
+use Rattle.draugsten.proofs.EntryWords as entry
 
 -- ---- the length of a code by the last bytes of its field
 
@@ -40,25 +41,13 @@ module _ (area : List ℕ) (at n : ℕ) (p : (n ≡ lengthAt area at) × (faultA
 
 -- ---- sets stored one after the other
 
--- The words of the first i sets are stored, and those of the rest are to come, from a place on.
-pub record Storing (area start : List ℕ) (count : ℕ) (l : List ℕ) (at i : ℕ) : Type 0 where
-  pub few : i ≤ count
-  pub ahead : Reads (count - i) area at
-  pub same : length l ≡ length start
-  pub rest : sets l (3 * i) (setsWords (count - i) area at) ≡ sets start 0 (setsWords count area 4)
-
-pub storing-first : (area start : List ℕ) (count : ℕ) → Reads count area 4 → Storing area start count start 4 0
-storing-first area start count h =
-    let all : count - 0 ≡ count = omega arith in
-    record { few = omega arith; ahead = rw all h; same = refl; rest = rw all }
+abbrev pub Storing : List ℕ → List ℕ → ℕ → List ℕ → ℕ → ℕ → Type 0
+Storing = entry.Storing 3 Reads setsWords 4
 
 module _ {area start l : List ℕ} {count at i : ℕ} (t : Storing area start count l at i) where
   module _ (more : i < count) where
-    left : count - i ≡ suc (count - (i + 1))
-    left = omega arith
-
     next : (faultAt area at ≡ Fine) × Reads (count - (i + 1)) area (at + (8 + lengthAt area at))
-    next = reads-next (count - (i + 1)) area at (rw left at (t .ahead))
+    next = reads-next (count - (i + 1)) area at (entry.storing-passed t more)
 
     -- the set at the place has no fault, so it stands in the area
     pub storing-fine : faultAt area at ≡ Fine
@@ -69,18 +58,11 @@ module _ {area start l : List ℕ} {count at i : ℕ} (t : Storing area start co
 
     pub storing-next : {m : List ℕ} (x n r : ℕ) → x ≡ be32 area at → n ≡ lengthAt area at → r ≡ length (untilNul (fieldAt area at)) → m ≡ sets l (3 * i) (x ∷ (at + 8) ∷ r ∷ []) → Storing area start count m (at + (8 + n)) (i + 1)
     unfolding setsWords
-    storing-next x n r index size long f =
-        let place : 3 * (i + 1) ≡ suc (suc (suc (3 * i))) = omega arith in
-        record {
-          few = omega arith;
-          ahead = rw size (next .1);
-          same = ap length f ∙ length-sets l (3 * i) (x ∷ (at + 8) ∷ r ∷ []) ∙ t .same;
-          rest = rw (f, place, index, size, long) (rw left at (t .rest));
-        }
+    storing-next x n r index size long f = rw size (entry.storing-next t more (setWords area at) (at + (8 + lengthAt area at)) refl refl (next .1) (f ∙ rw (index, long)))
 
   pub storing-end : count ≤ i → l ≡ sets start 0 (setsWords count area 4)
   unfolding setsWords
-  storing-end h = let none : count - i ≡ 0 = omega arith in rw none at (t .rest)
+  storing-end = entry.storing-end t refl
 
 -- ---- the words tell the entries
 

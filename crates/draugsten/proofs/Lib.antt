@@ -1,3 +1,5 @@
 pub mod Registrations
+pub mod EntryWords
 pub mod NodeWords
 pub mod IndexWords
+pub mod PropertyWords

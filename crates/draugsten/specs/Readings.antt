@@ -15,8 +15,14 @@ use Rattle.node_area.specs.Reading as nodes
 use Rattle.inventory.specs.Listing.{Entry}
 use Rattle.indices.specs.declared.reading.Refusal as indices-refusal
 use Rattle.indices.specs.Reading as indices
+use Rattle.property_area.specs.declared.reading.Refusal as properties-refusal
+use Rattle.property_area.specs.declared.reading.Located.{Located}
+use Rattle.property_area.specs.Head as property-head
+use Rattle.property_area.specs.Piece.{Piece}
+use Rattle.property_area.specs.Reading as properties
 use Rattle.draugsten.specs.declared.reading.NodeReading.{NodeReading}
 use Rattle.draugsten.specs.declared.reading.IndexReading.{IndexReading}
+use Rattle.draugsten.specs.declared.reading_properties.PropertyReading.{PropertyReading}
 
 -- ---- node areas
 
@@ -68,3 +74,38 @@ entriesTold area (i ∷ s ∷ n ∷ ws) = record { index = i; code = take n (dro
 -- The words of an area's sets tell the entries of its reading, in order.
 abbrev pub WordsTell : Type 0
 WordsTell = (area : List ℕ) (es : List Entry) → indices.reading area ≡ read es → entriesTold area (setsWords (length es) area 4) ≡ es
+
+-- ---- property areas
+
+-- a property as five words: where its name stands and its length, its descriptor, where its value stands and its length
+abbrev pub propertyWords : Located → List ℕ
+propertyWords l = l .name ∷ l .«name_length» ∷ l .descriptor ∷ l .value ∷ l .«value_length» ∷ []
+
+unfoldable pub propertiesWords : ℕ → List ℕ → ℕ → List ℕ
+propertiesWords zero area at = []
+propertiesWords (suc n) area at = let l = properties.locatedAt area at in propertyWords l ++ propertiesWords n area (properties.endOf l)
+
+-- the refusal's number and offset, or the phandle, the state and the number of properties
+abbrev pub propertyReading : List ℕ → Reading Piece properties-refusal.Refusal → PropertyReading
+propertyReading area (read ps) = record { refusal = 0; phandle = property-head.phandleIn area; state = property-head.stateIn area; offset = 0; entries = length ps }
+propertyReading area (refused r at) = record { refusal = properties.refusalNumber r; phandle = 0; state = 0; offset = at; entries = 0 }
+
+-- the buffer with as many whole properties as it has room for; a refusal leaves it as it was
+abbrev pub propertiesOut : List ℕ → List ℕ → Reading Piece properties-refusal.Refusal → List ℕ
+propertiesOut out area (read ps) = sets out 0 (propertiesWords (min (length out / 5) (length ps)) area property-head.firstAt)
+propertiesOut out area (refused r at) = out
+
+-- the pieces that words tell of an area: name and value are parts of it, and the descriptor tells whether the property is deleted and whether more follows
+unfoldable pub piecesTold : List ℕ → List ℕ → List Piece
+piecesTold area [] = []
+piecesTold area (s ∷ []) = []
+piecesTold area (s ∷ n ∷ []) = []
+piecesTold area (s ∷ n ∷ d ∷ []) = []
+piecesTold area (s ∷ n ∷ d ∷ v ∷ []) = []
+piecesTold area (s ∷ n ∷ d ∷ v ∷ m ∷ ws) =
+    let l : Located = record { name = s; «name_length» = n; descriptor = d; value = v; «value_length» = m } in
+    properties.pieceIn area l ∷ piecesTold area ws
+
+-- The words of an area's properties tell the pieces of its reading, in order.
+abbrev pub PropertyWordsTell : Type 0
+PropertyWordsTell = (area : List ℕ) (ps : List Piece) → properties.reading area ≡ read ps → piecesTold area (propertiesWords (length ps) area property-head.firstAt) ≡ ps

@@ -1,3 +1,4 @@
 // The static library: what C and Rust programs link. Every function takes any buffers.
 mod calling;
 mod reading;
+mod reading_properties;

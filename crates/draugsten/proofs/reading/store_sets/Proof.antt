@@ -6,7 +6,8 @@ use lib.ListN.{length}
 use borrow.Author.Needs.{needs}
 use denote.Ref.{now}
 use Rattle.indices.specs.Reading.{lengthAt}
-use Rattle.draugsten.proofs.IndexWords.{Storing, storing-first, storing-fine, storing-room, storing-next, storing-end}
+use Rattle.draugsten.proofs.EntryWords.{storing-first}
+use Rattle.draugsten.proofs.IndexWords.{Storing, storing-fine, storing-room, storing-next, storing-end}
 use Rattle.draugsten.proofs.reading.store_sets.Statement.{statement}
 use Rattle.draugsten.proofs.reading.store_sets.Tie as tie
 
@@ -25,7 +26,7 @@ unfolding lengthAt
 length-read c = c .read-be32 .ensures
 
 loop-holds : tie.Need-loop-holds Inv-loop μ-loop
-loop-holds c = storing-first _ _ _ (c .before .before .pre .1)
+loop-holds c = storing-first _ _ _ _ _ _ _ (c .before .before .pre .1)
 
 code-length-requires : tie.Need-code-length-requires Inv-loop μ-loop
 code-length-requires c κs = (length-read (c .before), storing-fine (c .before .before .before .loop .inv) (c .before .before .loop-test .taken))
