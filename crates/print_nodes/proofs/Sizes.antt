@@ -2,11 +2,11 @@
 use mathlib.Core.Path.{_≡_, refl, sym, ap, _∙_}
 use mathlib.Core.Bool.{Bool, true, false, cond, not}
 use mathlib.Core.List.{List, [], _∷_, _++_}
-use Prim.Native.Nat.{ℕ, zero, suc, _+_, _*_, _-_, _/_, _%_, _≤_}
+use Prim.Native.Nat.{ℕ, zero, suc, _+_, _*_, _-_, _≤_}
 use native.Mathlib.Omega.{arith}
-use lib.Dec.{ltb, eqb}
+use lib.Dec.{eqb}
 use lib.ListN.{length, take, drop, length-append, length-drop}
-use lib.Seq.{sets, length-sets, length-take-le}
+use lib.Seq.{sets, length-take-le}
 use borrow.Author.Tests.{eqb-true, ne-eqb, not-false}
 use Rattle.words.specs.Numbers.{words}
 use Rattle.words.proofs.Words.{length-words}
@@ -21,33 +21,10 @@ use Rattle.node_area.specs.Reading.{Verdict, good, bad, verdict, reading, readB
 use Rattle.node_area.specs.Head.{areaSize, headSize, stateIn, isReserved}
 use Rattle.node_area.specs.Cursor.{remaining, startOf}
 use Rattle.node_area.proofs.Verdicts.{entries-in-order}
-use Rattle.print_nodes.specs.Put.{Fits}
-use Rattle.print_nodes.specs.Text.{digits, decimal, hexDigits, hex, numbered, ended, operand, line, lines, assumedScope, text, textOf, LongInput, newline, space, state-, delete-, update-, add-, end-, refused-, -at-}
-
--- ---- pieces
-
-length-digits : (n v : ℕ) → length (digits n v) ≤ n
-unfolding digits
-length-digits zero v = omega arith
-length-digits (suc n) v =
-    choose (ltb v 10) (λ (s : List ℕ). length s ≤ suc n) (λ _. omega arith) (λ _. omega (arith, length-digits n (v / 10), length-append (digits n (v / 10)) ((48 + v % 10) ∷ [])))
-
-length-hexDigits : (n v : ℕ) → length (hexDigits n v) ≡ n
-unfolding hexDigits
-length-hexDigits zero v = refl
-length-hexDigits (suc n) v = rw (length-append, length-hexDigits n (v / 16)) (omega arith)
-
-length-numbered : (word : List ℕ) (v : ℕ) → length (numbered word v) ≤ length word + 20
-unfolding numbered decimal
-length-numbered word v = omega (arith, length-append word (digits 20 v), length-digits 20 v)
-
-length-ended : (word : List ℕ) (v : ℕ) → length (ended word v) ≤ length word + 21
-unfolding ended
-length-ended word v = omega (arith, length-append (numbered word v) newline, length-numbered word v)
-
-length-operand : (word : List ℕ) (v : ℕ) → length (operand word v) ≡ length word + 8
-unfolding operand hex
-length-operand word v = rw (length-append, length-hexDigits 8 v)
+use Rattle.printing.specs.Put.{Fits}
+use Rattle.printing.specs.Text.{newline, space, state-, delete-, end-, ended, operand, refusalLine}
+use Rattle.printing.proofs.Sizes.{length-ended, length-operand, refusal-fits, inside-buffer}
+use Rattle.print_nodes.specs.Text.{update-, add-, line, lines, assumedScope, text, textOf, LongInput}
 
 length-line : (o : Operation) → length (line o) ≤ 22
 unfolding line
@@ -103,18 +80,15 @@ module _ (input : List ℕ) where
       go (read os) g h = let same : length os ≡ n = cc in (area-read input os g .size, rw (g, entries-in-order assumedScope input os g, same, w))
       go (refused r at) g h = (cc, cc)
 
-  pub refused-text : (r : Refusal) (at : ℕ) → checkOf (reading assumedScope input) ≡ Refused r at → text input ≡ numbered refused- (refusalNumber r) ++ ended -at- at
+  pub refused-text : (r : Refusal) (at : ℕ) → checkOf (reading assumedScope input) ≡ Refused r at → text input ≡ refusalLine (refusalNumber r) at
   unfolding text
   refused-text r at e = go (reading assumedScope input) refl e
     where
-      go : (x : Reading Operation Refusal) → reading assumedScope input ≡ x → checkOf x ≡ Refused r at → textOf (stateIn input) (reading assumedScope input) ≡ numbered refused- (refusalNumber r) ++ ended -at- at
+      go : (x : Reading Operation Refusal) → reading assumedScope input ≡ x → checkOf x ≡ Refused r at → textOf (stateIn input) (reading assumedScope input) ≡ refusalLine (refusalNumber r) at
       go (read os) g h = cc
       go (refused q k) g h = let same : _≡_ {A = Reading Operation Refusal} (refused q k) (refused r at) = cc in rw g (ap (textOf (stateIn input)) same)
 
 -- ---- the text fits
-
-pub refusal-fits : (n at : ℕ) → Fits 0 (numbered refused- n ++ ended -at- at)
-refusal-fits n at = omega (arith, length-append (numbered refused- n) (ended -at- at), length-numbered refused- n, length-ended -at- at)
 
 pub text-fits : (input : List ℕ) → Fits 0 (text input)
 unfolding text
@@ -129,11 +103,11 @@ text-fits input = go (reading assumedScope input) refl
 
 -- the text stays inside its buffer
 pub text-room : (input l m : List ℕ) (r : ℕ) → length l ≡ 32768 → r ≡ length (text input) → m ≡ sets l 0 (text input) → r ≤ length m
-text-room input l m r size e s = rw (s, length-sets l 0 (text input)) (omega (arith, text-fits input))
+text-room input l m r size e s = inside-buffer (text input) l m r (text-fits input) size e s
 
 -- ---- an input that is no area
 
-wrong-size : (input : List ℕ) → (length input ≡ areaSize → ⊥) → text input ≡ numbered refused- 20 ++ ended -at- 0
+wrong-size : (input : List ℕ) → (length input ≡ areaSize → ⊥) → text input ≡ refusalLine 20 0
 unfolding text reading
 wrong-size input h = rw (ne-eqb (length input) areaSize h)
 

@@ -1,67 +1,25 @@
 // The text of a node work area, put into a buffer.
 ghost use mathlib.Core.Path.{_≡_};
-ghost use mathlib.Core.List.{_++_};
 ghost use lib.ListN.{length};
 ghost use lib.Seq.{sets};
 ghost use Rattle.node_area.specs.declared.reading.Check.the-variants.{Entries};
 ghost use Rattle.node_area.specs.Reading.{refusalNumber, reading, checkOf};
 ghost use Rattle.node_area.specs.Cursor.{remaining, startOf};
-ghost use Rattle.print_nodes.specs.Text.{refused-, -at-, numbered, ended, operand, entry, line, lines, assumedScope, text, LongInput};
-ghost use Rattle.print_nodes.specs.Put.{Fits, Put};
+ghost use Rattle.printing.specs.Put.{Fits, Put};
+ghost use Rattle.print_nodes.specs.Text.{entry, line, lines, assumedScope, text, LongInput};
 use journal::Operation;
 use node_area::Check;
 use node_area::Cursor;
 use node_area::Next;
 use node_area::Refusal;
 use node_area::StateVariable;
+use printing::put_bytes;
+use printing::put_ended;
+use printing::put_operand;
+use printing::put_refusal;
 
 // The program is not told a scope, and assumes one that is not 3.
 const SCOPE: u32 = 1;
-
-fn put_bytes(bytes: &[u8], out: &mut [u8; 32768], at: usize) -> usize
-    requires { ⌜ Fits at (now bytes) ⌝ }
-    ensures { λ r. ⌜ Put (now (out .entry)) (now (out .exit)) at r (now (bytes .entry)) ⌝ }
-{
-    let mut i = 0;
-    let mut to = at;
-    while i < bytes.len() {
-        out[to] = bytes[i];
-        to += 1;
-        i += 1;
-    }
-    to
-}
-
-// A word, and a number in decimal digits.
-fn put_number(word: &[u8], v: u64, out: &mut [u8; 32768], at: usize) -> usize
-    requires { ⌜ Fits at (numbered (now word) v) ⌝ }
-    ensures { λ r. ⌜ Put (now (out .entry)) (now (out .exit)) at r (numbered (now (word .entry)) v) ⌝ }
-{
-    let mut digits = [0u8; 20];
-    let n = io::decimal(v, &mut digits);
-    let to = put_bytes(word, out, at);
-    put_bytes(&digits[..n], out, to)
-}
-
-// The same at the end of a line.
-fn put_ended(word: &[u8], v: u64, out: &mut [u8; 32768], at: usize) -> usize
-    requires { ⌜ Fits at (ended (now word) v) ⌝ }
-    ensures { λ r. ⌜ Put (now (out .entry)) (now (out .exit)) at r (ended (now (word .entry)) v) ⌝ }
-{
-    let to = put_number(word, v, out, at);
-    put_bytes(b"\n", out, to)
-}
-
-// A word, and an operand in eight hexadecimal digits.
-fn put_operand(word: &[u8], v: u32, out: &mut [u8; 32768], at: usize) -> usize
-    requires { ⌜ Fits at (operand (now word) v) ⌝ }
-    ensures { λ r. ⌜ Put (now (out .entry)) (now (out .exit)) at r (operand (now (word .entry)) v) ⌝ }
-{
-    let mut digits = [0u8; 16];
-    let n = io::hex(v as u64, 8, &mut digits);
-    let to = put_bytes(word, out, at);
-    put_bytes(&digits[..n], out, to)
-}
 
 fn put_entry(o: Operation, out: &mut [u8; 32768], at: usize) -> usize
     requires { ⌜ Fits at (entry o) ⌝ }
@@ -129,13 +87,6 @@ fn refusal_number(r: Refusal) -> u64
         Refusal::Order => 26,
         Refusal::Unterminated => 27,
     }
-}
-
-fn put_refusal(number: u64, offset: usize, out: &mut [u8; 32768]) -> usize
-    ensures { λ r. ⌜ Put (now (out .entry)) (now (out .exit)) 0 r (numbered refused- number ++ ended -at- offset) ⌝ }
-{
-    let to = put_number(b"refused ", number, out, 0);
-    put_ended(b" at ", offset as u64, out, to)
 }
 
 // Puts the text of an input at the front of a buffer and gives its length; the rest of the buffer stays.

@@ -3,7 +3,7 @@ use mathlib.Core.Path.{sym, _∙_}
 use borrow.Author.Needs.{needs}
 use denote.Ref.{now}
 use Rattle.print_nodes.specs.Text.{text}
-use Rattle.print_nodes.proofs.Puts.{put-whole}
+use Rattle.printing.proofs.Puts.{put-whole}
 use Rattle.print_nodes.proofs.Sizes.{refused-text, long-input}
 use Rattle.print_nodes.proofs.text.print_area.Statement.{statement}
 use Rattle.print_nodes.proofs.text.print_area.Tie as tie

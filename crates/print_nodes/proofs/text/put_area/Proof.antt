@@ -5,9 +5,10 @@ use native.Mathlib.Omega.{arith}
 use borrow.Author.Needs.{needs}
 use denote.Ref.{now}
 use Rattle.node_area.specs.Cursor.{remaining, startOf}
-use Rattle.print_nodes.specs.Put.{Fits}
-use Rattle.print_nodes.specs.Text.{state-, end-, ended, lines}
-use Rattle.print_nodes.proofs.Puts.{fits-first, fits-then, put-then}
+use Rattle.printing.specs.Put.{Fits}
+use Rattle.printing.specs.Text.{state-, end-, ended}
+use Rattle.print_nodes.specs.Text.{lines}
+use Rattle.printing.proofs.Puts.{fits-first, fits-then, put-then}
 use Rattle.print_nodes.proofs.Sizes.{area-text, text-fits}
 use Rattle.print_nodes.proofs.text.put_area.Statement.{statement}
 use Rattle.print_nodes.proofs.text.put_area.Tie as tie

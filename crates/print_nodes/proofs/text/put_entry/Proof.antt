@@ -1,7 +1,8 @@
 -- `text::put_entry` meets its contract.
 use borrow.Author.Needs.{needs}
-use Rattle.print_nodes.specs.Text.{operand, add-, space}
-use Rattle.print_nodes.proofs.Puts.{fits-first, fits-then, put-then}
+use Rattle.printing.specs.Text.{operand, space}
+use Rattle.print_nodes.specs.Text.{add-}
+use Rattle.printing.proofs.Puts.{fits-first, fits-then, put-then}
 use Rattle.print_nodes.proofs.text.put_entry.Statement.{statement}
 use Rattle.print_nodes.proofs.text.put_entry.Tie as tie
 

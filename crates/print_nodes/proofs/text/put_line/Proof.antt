@@ -1,7 +1,8 @@
 -- `text::put_line` meets its contract.
 use borrow.Author.Needs.{needs}
-use Rattle.print_nodes.specs.Text.{newline, entry, line}
-use Rattle.print_nodes.proofs.Puts.{fits-first, fits-then, put-then}
+use Rattle.printing.specs.Text.{newline}
+use Rattle.print_nodes.specs.Text.{entry, line}
+use Rattle.printing.proofs.Puts.{fits-first, fits-then, put-then}
 use Rattle.print_nodes.proofs.text.put_line.Statement.{statement}
 use Rattle.print_nodes.proofs.text.put_line.Tie as tie
 

@@ -7,7 +7,7 @@ use denote.Ref.{now}
 use Rattle.node_area.specs.Cursor.{remaining, startOf}
 use Rattle.print_nodes.specs.Text.{line, lines}
 use Rattle.print_nodes.proofs.Lines.{lines-end, lines-entry, fewer}
-use Rattle.print_nodes.proofs.Puts.{fits-first, Ahead, ahead-first, ahead-then, ahead-none}
+use Rattle.printing.proofs.Puts.{fits-first, Ahead, ahead-first, ahead-then, ahead-none}
 use Rattle.print_nodes.proofs.text.put_lines.Statement.{statement}
 use Rattle.print_nodes.proofs.text.put_lines.Tie as tie
 

@@ -1,0 +1,5 @@
+pub mod Bytes
+pub mod Shown
+pub mod Entries
+pub mod Lines
+pub mod Sizes

@@ -1,0 +1,22 @@
+-- `put::put_operand` meets its contract.
+use native.Mathlib.Omega.{arith}
+use denote.Ref.{now}
+use Rattle.printing.specs.Text.{hex, operand}
+use Rattle.printing.proofs.Puts.{fits-first, fits-then, put-then}
+use Rattle.printing.proofs.put.put_operand.Statement.{statement}
+use Rattle.printing.proofs.put.put_operand.Tie as tie
+
+put-bytes-requires : tie.Need-put-bytes-requires
+unfolding operand
+put-bytes-requires c κs = fits-first _ (now (c .before .before .args .word)) (hex (c .before .before .args .v)) (c .before .before .pre)
+
+put-hex-requires : tie.Need-put-hex-requires
+unfolding operand
+put-hex-requires c κs = ((omega arith, omega arith, omega arith), fits-then (hex _) (c .before .before .before .before .pre) (c .before .put-bytes .ensures))
+
+returns : tie.Need-returns
+unfolding operand
+returns c = put-then (c .before .before .put-bytes .ensures) (c .put-hex .ensures)
+
+pub put-operand-spec : {M : Type 1} → statement M
+put-operand-spec = tie.close (tie.spec put-bytes-requires put-hex-requires returns)
