@@ -1,7 +1,7 @@
 /*
  * One partition's calls from beginning to end: a session of update-nodes, another one for one unit, a session of
- * get-indices, and a kernel dump structure that is registered and unregistered. Exits with 1 where something is not as
- * it should be.
+ * update-properties for one node, in which a value is divided, a session of get-indices, and a kernel dump structure that
+ * is registered and unregistered. Exits with 1 where something is not as it should be.
  */
 #include "draugsten.h"
 
@@ -22,7 +22,10 @@ enum {
     UNIT_SCOPE = 3,
     INDICATOR = 0,
     SENSOR = 1,
-    TYPE = 9006
+    TYPE = 9006,
+    NODE = 0x3000,          /* phandles */
+    OTHER_NODE = 0x3001,
+    VALUE_SIZE = 6000
 };
 
 /* What the platform holds for the partition. */
@@ -277,6 +280,112 @@ static void run_unit_session(struct partition *partition)
     expect(operations == (UNIT_RECORDS + 1) / 2, "every record of the unit is handed out, and no other");
 }
 
+/* ---- update-properties */
+
+/* A property of a node: a new value, or, where there is none, that it is deleted. */
+struct change {
+    uint32_t phandle;
+    const char *name;
+    const uint8_t *value;
+    size_t length;
+};
+
+/* A value that one area has no room for; make_property_journal fills it. */
+static uint8_t long_value[VALUE_SIZE];
+
+static const struct change changes[] = {
+    {NODE, "status", (const uint8_t *)"okay", 5},
+    {OTHER_NODE, "status", (const uint8_t *)"fail", 5},
+    {NODE, "ibm,vpd", long_value, VALUE_SIZE},
+    {NODE, "ibm,fail-safe", (const uint8_t *)"", 0},
+    {NODE, "linux,phandle", NULL, 0},
+};
+
+enum { CHANGES = sizeof changes / sizeof changes[0] };
+
+static size_t put_property(uint8_t *to, const struct change *change)
+{
+    size_t name_size = strlen(change->name) + 1;
+
+    put_le16(to, (uint32_t)(6 + name_size + change->length));
+    put_le16(to + 2, change->value ? 5 : 6);
+    put_le32(to + 4, change->phandle);
+    memcpy(to + 8, change->name, name_size);
+    if (change->length > 0)
+        memcpy(to + 8 + name_size, change->value, change->length);
+    return 8 + name_size + change->length;
+}
+
+static void make_property_journal(struct partition *partition)
+{
+    size_t at = 0;
+    size_t i;
+
+    for (i = 0; i < VALUE_SIZE; i++)
+        long_value[i] = (uint8_t)i;
+    for (i = 0; i < CHANGES; i++)
+        at += put_property(partition->journal + at, &changes[i]);
+    partition->journal_length = at;
+}
+
+static void print_property(const uint8_t *area, const uint32_t *words)
+{
+    uint32_t descriptor = words[2];
+
+    printf("    %.*s: ", (int)words[1], (const char *)area + words[0]);
+    if (descriptor == DRAUGSTEN_DESCRIPTOR_NAME_ONLY)
+        printf("no value\n");
+    else if (descriptor == DRAUGSTEN_DESCRIPTOR_DELETED)
+        printf("deleted\n");
+    else
+        printf("%" PRIu32 " bytes%s\n", words[4], descriptor > DRAUGSTEN_DESCRIPTOR_DELETED ? ", more follow" : "");
+}
+
+/* Reads the area that an answered call left. The bytes of the long value are joined from `joined` on; gives their end. */
+static size_t read_property_area(const struct partition *partition, uint32_t status, uint8_t *value, size_t joined)
+{
+    static uint32_t words[DRAUGSTEN_PROPERTY_ELEMENTS * DRAUGSTEN_PROPERTIES_LIMIT];
+    const uint8_t *area = partition->memory + NODE_AREA;
+    struct draugsten_property_reading reading;
+    size_t i;
+
+    reading = draugsten_read_properties(area, DRAUGSTEN_PROPERTY_AREA_SIZE, words, sizeof words / sizeof words[0]);
+    expect(reading.refusal == DRAUGSTEN_REFUSAL_NONE, "the property area is read");
+    expect(reading.phandle == NODE, "the property area names the node");
+    printf("  status %" PRIu32 ", state %" PRIu32 ", %zu properties\n", status, reading.state, reading.entries);
+    for (i = 0; i < reading.entries; i++) {
+        const uint32_t *property = words + DRAUGSTEN_PROPERTY_ELEMENTS * i;
+
+        print_property(area, property);
+        if (property[1] == 7 && memcmp(area + property[0], "ibm,vpd", 7) == 0) {
+            expect(joined + property[4] <= VALUE_SIZE, "the value is no longer than it was");
+            memcpy(value + joined, area + property[3], property[4]);
+            joined += property[4];
+        }
+    }
+    return joined;
+}
+
+static void run_property_session(struct partition *partition)
+{
+    static uint8_t value[VALUE_SIZE];
+    uint32_t inputs[2] = {NODE_AREA, SCOPE};
+    uint32_t status = DRAUGSTEN_STATUS_CALL_AGAIN;
+    size_t joined = 0;
+
+    make_property_journal(partition);
+    printf("update-properties, %d records, node %08x\n", CHANGES, NODE);
+    memset(partition->memory + NODE_AREA, 0, 16);
+    put_be32(partition->memory + NODE_AREA, NODE);
+    while (status == DRAUGSTEN_STATUS_CALL_AGAIN) {
+        call(partition, DRAUGSTEN_TOKEN_UPDATE_PROPERTIES, inputs, 2, &status, 1);
+        expect(is_answered(status), "update-properties is answered");
+        joined = read_property_area(partition, status, value, joined);
+    }
+    expect(joined == VALUE_SIZE && memcmp(value, long_value, VALUE_SIZE) == 0, "the joined value is the new one");
+    printf("  ibm,vpd: %zu bytes joined\n", joined);
+}
+
 /* ---- get-indices */
 
 struct item {
@@ -432,6 +541,7 @@ int main(void)
     partition.registration = draugsten_no_registration();
     run_node_session(&partition);
     run_unit_session(&partition);
+    run_property_session(&partition);
     run_index_session(&partition);
     run_dump_commands(&partition);
     expect(fflush(stdout) == 0, "the output is written");

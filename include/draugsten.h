@@ -1,6 +1,6 @@
 /*
- * Draugsten: the RTAS calls ibm,update-nodes, ibm,get-indices and ibm,configure-kernel-dump on the platform's side, and
- * readers of the work areas that the first two fill. Link libdraugsten.a, which is for x86-64.
+ * Draugsten: the RTAS calls ibm,update-nodes, ibm,get-indices, ibm,configure-kernel-dump and ibm,update-properties on the
+ * platform's side, and readers of the work areas that all but the dump fill. Link libdraugsten.a, which is for x86-64.
  *
  * For every function:
  * - It takes any contents and any lengths, and returns.
@@ -41,16 +41,22 @@ extern "C" {
 #define DRAUGSTEN_STRUCTURE_LEAST 40            /* bytes of a dump structure */
 #define DRAUGSTEN_STRUCTURE_LIMIT 512
 #define DRAUGSTEN_ENTRY_ELEMENTS 3              /* elements of `out` that a reader writes for one entry */
+#define DRAUGSTEN_PROPERTY_AREA_SIZE 4096       /* bytes of a property area, and what its address is a multiple of */
+#define DRAUGSTEN_PROPERTIES_LIMIT 679          /* properties in one property area, at most */
+#define DRAUGSTEN_NAME_LIMIT 31                 /* bytes of a property's name, without its NUL */
+#define DRAUGSTEN_VALUE_LIMIT 32768             /* bytes of a property's value */
+#define DRAUGSTEN_PROPERTY_ELEMENTS 5           /* elements of `out` that draugsten_read_properties writes for one */
 
 /*
  * Bytes of stack that a function takes, with its return address and what it writes below the stack pointer, but without
  * its arguments and its result, which the caller has on its own stack, and without what memcpy and memset take. There is
- * no recursion, so it depends on no buffer. Measured, and stated with room: 5,528, 24, 56 and 40 bytes.
+ * no recursion, so it depends on no buffer. tests/stack.c measures them; they are stated with room.
  */
 #define DRAUGSTEN_STACK_CALL 6144
 #define DRAUGSTEN_STACK_NO_REGISTRATION 128
 #define DRAUGSTEN_STACK_READ_NODES 256
 #define DRAUGSTEN_STACK_READ_INDICES 256
+#define DRAUGSTEN_STACK_READ_PROPERTIES 256
 
 /* ---- calls */
 
@@ -58,7 +64,8 @@ extern "C" {
 enum draugsten_token {
     DRAUGSTEN_TOKEN_UPDATE_NODES = 1,
     DRAUGSTEN_TOKEN_GET_INDICES = 2,
-    DRAUGSTEN_TOKEN_CONFIGURE_KERNEL_DUMP = 3
+    DRAUGSTEN_TOKEN_CONFIGURE_KERNEL_DUMP = 3,
+    DRAUGSTEN_TOKEN_UPDATE_PROPERTIES = 4
 };
 
 /*
@@ -120,16 +127,25 @@ struct draugsten_registration draugsten_no_registration(void);
  *                           2 outputs:           status, Next Starting Number
  *              configure-kernel-dump, 3 inputs:  command, address, length
  *                                     1 output:  status
+ *              update-properties, 2 inputs:      address, scope (negative, 1, 2 or 3; it chooses nothing)
+ *                                 1 output:      status
  *            Written, with number 0: the status word, and by an answered get-indices the Next Starting Number. Never:
  *            any other byte.
  * memory     The partition's memory, from address 0 on.
  *            Written by an answered update-nodes: of the 4,096 bytes from the address on, those up to the terminator's
- *            end. By an answered get-indices: of the size from the address on, those up to the last entry's end.
+ *            end. By an answered get-indices: of the size from the address on, those up to the last entry's end. By an
+ *            answered update-properties: of the 4,096 bytes from the address on, those up to the last property's end.
  *            Never: any byte behind these, any byte outside the area, and any byte by a refused call or a dump command.
- * journal    The changes that update-nodes reports; no other call looks at them. Records, little-endian: length (2
- *            bytes, counts what follows), kind (2), node type (2), then for kind 1 (delete) and 2 (update) the phandle
- *            (4), for kind 3 (add) the parent's phandle (4) and the drc-index (4), for kind 4 (update in a unit) the
- *            unit address (8) and the phandle (4). Node types are 1 to 14 in kinds 1 to 3, and 15 and 16 in kind 4.
+ * journal    The changes that update-nodes and update-properties report; no other call looks at them. Records,
+ *            little-endian: length (2 bytes, counts what follows) and kind (2).
+ *              kinds 1 to 4, changes of nodes: node type (2), then for kind 1 (delete) and 2 (update) the phandle (4),
+ *              for kind 3 (add) the parent's phandle (4) and the drc-index (4), for kind 4 (update in a unit) the unit
+ *              address (8) and the phandle (4). Node types are 1 to 14 in kinds 1 to 3, and 15 and 16 in kind 4.
+ *              kinds 5 and 6, changes of properties: the node's phandle (4), the name (1 to 31 bytes, none zero) and
+ *              one NUL, then for kind 5 (a new value) the value (0 to 32,768 bytes) to the record's end, and for kind 6
+ *              (deleted) nothing.
+ *            update-nodes passes over kinds 5 and 6, and update-properties over kinds 1 to 4; a malformed record of any
+ *            kind is refused by both.
  * inventory  What get-indices lists; no other call looks at it. Records, little-endian: length (2), kind 16 (2),
  *            0 indicator or 1 sensor (2), type (4), index (4), location code (1 to 1,023 bytes, none zero).
  * registration  As the partition's last call gave it. Only an answered configure-kernel-dump changes it.
@@ -139,6 +155,16 @@ struct draugsten_registration draugsten_no_registration(void);
  * answered call leaves the new state there and twelve zero bytes; in scope 3, with status 0 as with 1, the new state, the
  * same unit address and four zero bytes. While the status is 1, the next call finds the sixteen bytes that the last
  * answered one left. A unit that no record names has nothing to report: status 0. All other scopes pass over kind 4.
+ *
+ * A session of update-properties reports what changed in one node. It begins with the node's phandle (4 bytes,
+ * big-endian) and twelve zero bytes at the head of the area. An answered call leaves there the phandle, the new state (the
+ * journal offset of the record or of the value's byte that is due; 0 with status 0) and eight zero bytes, then the number
+ * of properties (4) and the properties: each its name and one NUL, its descriptor (4) and the bytes of its value that
+ * the descriptor tells of, with no padding and no terminator. While the status is 1, the next call finds the
+ * sixteen bytes that the last answered one left. All that fits is handed out; only the last value is divided, and only
+ * where a byte of it fits; its rest stands first in the next area, again with its name. Refused with -3 are a phandle
+ * that no record of kind 5 or 6 carries, bytes 8 to 15 that are not zero, and a state that the node's session, begun at
+ * 0, never carries.
  *
  * A session of get-indices begins with Starting Number 1; while the status is 1, the next call has the Next Starting
  * Number.
@@ -165,7 +191,12 @@ enum draugsten_refusal {
     DRAUGSTEN_REFUSAL_NO_COUNT = 30,            /* under 4 bytes; at 0 */
     DRAUGSTEN_REFUSAL_SET_PAST_END = 31,        /* 31 to 33 at the set: index, length, code */
     DRAUGSTEN_REFUSAL_CODE_LENGTH = 32,         /* zero, above 1,024 or no multiple of 4 */
-    DRAUGSTEN_REFUSAL_CODE = 33                 /* not a code, then one to four NULs, then nothing else */
+    DRAUGSTEN_REFUSAL_CODE = 33,                /* not a code, then one to four NULs, then nothing else */
+    /* property areas */
+    DRAUGSTEN_REFUSAL_PROPERTY_AREA_SIZE = 40,  /* not 4,096 bytes; at 0 */
+    DRAUGSTEN_REFUSAL_PROPERTY_RESERVED = 41,   /* bytes 8 to 15 not zero; at 8 */
+    DRAUGSTEN_REFUSAL_PROPERTY_NAME = 42,       /* not 1 to 31 bytes and a NUL; 42 and 43 at the property */
+    DRAUGSTEN_REFUSAL_PROPERTY_PAST_END = 43    /* descriptor or value past the end */
 };
 
 enum draugsten_opcode {
@@ -173,6 +204,15 @@ enum draugsten_opcode {
     DRAUGSTEN_OPCODE_UPDATE = 2,                /* phandle */
     DRAUGSTEN_OPCODE_ADD = 3                    /* parent's phandle, drc-index */
 };
+
+/* A property's descriptor. */
+#define DRAUGSTEN_DESCRIPTOR_NAME_ONLY 0x00000000u      /* a property with no value */
+#define DRAUGSTEN_DESCRIPTOR_DELETED 0x80000000u        /* the property is to be deleted */
+/*
+ * Any other number below 0x80000000 is the length of the bytes that follow and complete the value. One above it is the
+ * two's complement of the length of bytes whose rest later calls hand out: the bytes of a name are joined, in order, until
+ * a descriptor that is not above 0x80000000.
+ */
 
 struct draugsten_node_reading {
     uint32_t refusal;                           /* enum draugsten_refusal */
@@ -185,6 +225,14 @@ struct draugsten_index_reading {
     uint32_t refusal;                           /* enum draugsten_refusal */
     size_t offset;                              /* the refusal's place in the area, in bytes; otherwise 0 */
     size_t entries;                             /* all entries of the area; 0 with a refusal */
+};
+
+struct draugsten_property_reading {
+    uint32_t refusal;                           /* enum draugsten_refusal */
+    uint32_t phandle;                           /* of the area; 0 with a refusal */
+    uint32_t state;                             /* the area's State Variable; 0 with a refusal */
+    size_t offset;                              /* the refusal's place in the area, in bytes; otherwise 0 */
+    size_t entries;                             /* all properties of the area; 0 with a refusal */
 };
 
 /*
@@ -210,6 +258,19 @@ struct draugsten_node_reading draugsten_read_nodes(const uint8_t *area, size_t a
  */
 struct draugsten_index_reading draugsten_read_indices(const uint8_t *area, size_t area_length, uint64_t *out,
                                                       size_t out_length);
+
+/*
+ * Reads a property area, as update-properties leaves it. Phandle and state may be any, and bytes behind the last property
+ * are not looked at.
+ *
+ * area  The whole area. Only read.
+ * out   Written, where nothing is refused: for each property five words, byte offset of its name in the area, length of
+ *       the name without its NUL, the descriptor, byte offset of its value in the area, length of the value's bytes there;
+ *       as many whole properties as out_length words have room for; 5 x 679 words hold any area's. Never: the words
+ *       behind these, and any word with a refusal.
+ */
+struct draugsten_property_reading draugsten_read_properties(const uint8_t *area, size_t area_length, uint32_t *out,
+                                                            size_t out_length);
 
 #ifdef __cplusplus
 }

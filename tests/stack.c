@@ -15,11 +15,16 @@ enum {
     NODE_AREA = 0x1000,
     INDEX_AREA = 0x2000,
     INDEX_AREA_SIZE = 12 + DRAUGSTEN_INDEX_AREA_SUFFICIENT, /* of the short code and the long one */
+    PROPERTY_AREA = 0x3000,
+    NODE = 9,
+    LONG_VALUE = 5000,                                      /* which is divided */
+    NODES_SIZE = 34,                                        /* of the journal's records of nodes */
+    LONG_RECORD = NODES_SIZE + 12 + 11,                     /* where that of the long value begins */
     RETURN_ADDRESS = 8
 };
 
 static uint8_t stack[STACK] __attribute__((aligned(16)));
-static uint8_t memory[0x3000], args[40];
+static uint8_t memory[0x4000], args[40];
 static uint32_t words[64];
 static uint64_t numbers[64];
 static int faults;
@@ -50,6 +55,7 @@ static __typeof__(draugsten_no_registration) *no_registration;
 static __typeof__(draugsten_call) *call;
 static __typeof__(draugsten_read_nodes) *read_nodes;
 static __typeof__(draugsten_read_indices) *read_indices;
+static __typeof__(draugsten_read_properties) *read_properties;
 
 static void choose(int library)
 {
@@ -58,17 +64,21 @@ static void choose(int library)
     call = library ? draugsten_call : (__typeof__(call))nothing;
     read_nodes = library ? draugsten_read_nodes : (__typeof__(read_nodes))nothing;
     read_indices = library ? draugsten_read_indices : (__typeof__(read_indices))nothing;
+    read_properties = library ? draugsten_read_properties : (__typeof__(read_properties))nothing;
 }
 
-/* A delete, an update and an addition; sensors with a short code and, as `prepare` makes it, the longest. */
-static const uint8_t journal[] = {8, 0, 1, 0, 11, 0, 1, 0, 0, 0, 8, 0, 2, 0, 11, 0, 2, 0, 0, 0,
-                                  12, 0, 3, 0, 11, 0, 3, 0, 0, 0, 4, 0, 0, 0};
+/* A delete, an update and an addition; a short value, a deleted property and, as `prepare` makes it, a long value; sensors
+ * with a short code and, as `prepare` makes it, the longest. */
+static uint8_t journal[LONG_RECORD + 10 + LONG_VALUE] = {
+    8,  0, 1, 0, 11,   0, 1, 0, 0,   0, 8,  0, 2, 0, 11,   0, 2, 0, 0,   0, 12, 0, 3, 0, 11, 0, 3, 0, 0, 0, 4, 0, 0, 0,
+    10, 0, 5, 0, NODE, 0, 0, 0, 'a', 0, 'v', 'w', 9, 0, 6, 0, NODE, 0, 0, 0, 'b', 'c', 0};
 static uint8_t inventory[17 + 14 + DRAUGSTEN_CODE_LIMIT] = {15, 0, 16, 0, 1, 0, 7, 0, 0, 0, 9, 0, 0, 0, 'U', '7', '8'};
 
 /* The words of an argument buffer for a call of each kind that is answered. */
-static const uint32_t calls[3][10] = {
+static const uint32_t calls[4][10] = {
     {DRAUGSTEN_TOKEN_UPDATE_NODES, 2, 1, NODE_AREA, 1},
     {DRAUGSTEN_TOKEN_GET_INDICES, 5, 2, 1, 7, INDEX_AREA, INDEX_AREA_SIZE, 1},
+    {DRAUGSTEN_TOKEN_UPDATE_PROPERTIES, 2, 1, PROPERTY_AREA, 1},
     {DRAUGSTEN_TOKEN_CONFIGURE_KERNEL_DUMP, 3, 1, DRAUGSTEN_COMMAND_REGISTER, 0, 80},
 };
 
@@ -76,6 +86,7 @@ static struct draugsten_registration registration;
 static struct draugsten_answer answer;
 static struct draugsten_node_reading node_reading;
 static struct draugsten_index_reading index_reading;
+static struct draugsten_property_reading property_reading;
 
 /* ---- what is measured */
 
@@ -86,7 +97,8 @@ static void starting(void)
 
 static void calling(void)
 {
-    for (int i = 0; i < 3; i++) {
+    memset(memory + PROPERTY_AREA + 4, 0, 12); /* the session's start */
+    for (int i = 0; i < 4; i++) {
         for (int byte = 0; byte < 40; byte++)
             args[byte] = (uint8_t)(calls[i][byte / 4] >> (24 - 8 * (byte % 4)));
         answer = call(args, sizeof args, memory, sizeof memory, journal, sizeof journal, inventory, sizeof inventory,
@@ -102,6 +114,11 @@ static void reading_nodes(void)
 static void reading_indices(void)
 {
     index_reading = read_indices(memory + INDEX_AREA, INDEX_AREA_SIZE, numbers, 64);
+}
+
+static void reading_properties(void)
+{
+    property_reading = read_properties(memory + PROPERTY_AREA, 4096, words, 64);
 }
 
 /* ---- measuring */
@@ -137,12 +154,17 @@ static void measure(const char *name, void (*work)(void), size_t said)
     faults += taken > said;
 }
 
-/* A dump structure at 0, with one section from 40 on, a node area that is zero, and the second sensor. */
+/* A dump structure at 0, with one section from 40 on, a node area that is zero, a property area that names the node, the
+ * long value, and the second sensor. */
 static void prepare(void)
 {
     memset(memory, 0, sizeof memory);
     memory[3] = memory[5] = memory[43] = memory[45] = 1;
     memory[11] = 40;
+    memory[PROPERTY_AREA + 3] = NODE;
+    memcpy(journal + LONG_RECORD, journal + NODES_SIZE, 10);
+    journal[LONG_RECORD] = (8 + LONG_VALUE) % 256;
+    journal[LONG_RECORD + 1] = (8 + LONG_VALUE) / 256;
     memcpy(inventory + 17, inventory, 14);
     inventory[17] = (12 + DRAUGSTEN_CODE_LIMIT) % 256;
     inventory[18] = (12 + DRAUGSTEN_CODE_LIMIT) / 256;
@@ -156,7 +178,9 @@ int main(void)
     measure("draugsten_call", calling, DRAUGSTEN_STACK_CALL);
     measure("draugsten_read_nodes", reading_nodes, DRAUGSTEN_STACK_READ_NODES);
     measure("draugsten_read_indices", reading_indices, DRAUGSTEN_STACK_READ_INDICES);
-    if (answer.registration.length != 80 || node_reading.entries != 3 || index_reading.entries != 2) {
+    measure("draugsten_read_properties", reading_properties, DRAUGSTEN_STACK_READ_PROPERTIES);
+    if (answer.registration.length != 80 || node_reading.entries != 3 || index_reading.entries != 2 ||
+        property_reading.entries != 3) {
         puts("stack: a call or a reading did not do its work");
         faults++;
     }

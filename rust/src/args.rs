@@ -57,6 +57,12 @@ pub fn configure_kernel_dump(command: Command, address: u32, length: u32) -> [u8
     buffer(3, &[command as u32, address, length])
 }
 
+/// The argument buffer of update-properties. The work area is the 4,096 bytes of memory at `address`; its first bytes hold
+/// the node's phandle, big-endian, and twelve zero bytes, or the sixteen bytes that the last answered call left.
+pub fn update_properties(address: u32, scope: i32) -> [u8; 24] {
+    buffer(4, &[address, scope as u32])
+}
+
 /// The Next Starting Number that an answered get-indices left.
 pub fn next_starting_number(args: &[u8; 40]) -> u32 {
     word(args, 36)

@@ -45,8 +45,8 @@ impl fmt::Display for Fault {
 impl std::error::Error for Fault {}
 
 /// Runs the call that the argument buffer asks for. `args` gets the status, by an answered get-indices also the Next
-/// Starting Number; an answered update-nodes or get-indices writes its work area in `memory`; an answered
-/// configure-kernel-dump changes the registration. Nothing else changes.
+/// Starting Number; an answered update-nodes, get-indices or update-properties writes its work area in `memory`; an
+/// answered configure-kernel-dump changes the registration. Nothing else changes.
 pub fn call(
     args: &mut [u8],
     memory: &mut [u8],

@@ -32,6 +32,15 @@ pub struct IndexReading {
     pub entries: usize,
 }
 
+#[repr(C)]
+pub struct PropertyReading {
+    pub refusal: u32,
+    pub phandle: u32,
+    pub state: u32,
+    pub offset: usize,
+    pub entries: usize,
+}
+
 extern "C" {
     fn draugsten_no_registration() -> Registration;
 
@@ -56,6 +65,13 @@ extern "C" {
     ) -> NodeReading;
 
     fn draugsten_read_indices(area: *const u8, area_length: usize, out: *mut u64, out_length: usize) -> IndexReading;
+
+    fn draugsten_read_properties(
+        area: *const u8,
+        area_length: usize,
+        out: *mut u32,
+        out_length: usize,
+    ) -> PropertyReading;
 }
 
 pub fn no_registration() -> Registration {
@@ -97,4 +113,11 @@ pub fn read_nodes(area: &[u8], scope: u32, out: &mut [u32]) -> NodeReading {
 pub fn read_indices(area: &[u8], out: &mut [u64]) -> IndexReading {
     // SAFETY: both pointers are slices', with their lengths; `out`, which is written, is borrowed by `&mut`.
     unsafe { draugsten_read_indices(area.as_ptr(), area.len(), out.as_mut_ptr(), out.len()) }
+}
+
+/// Five words of `out` for each property: byte offset and length of its name, its descriptor, byte offset and length of
+/// its value.
+pub fn read_properties(area: &[u8], out: &mut [u32]) -> PropertyReading {
+    // SAFETY: both pointers are slices', with their lengths; `out`, which is written, is borrowed by `&mut`.
+    unsafe { draugsten_read_properties(area.as_ptr(), area.len(), out.as_mut_ptr(), out.len()) }
 }

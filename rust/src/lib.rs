@@ -1,6 +1,6 @@
-//! Safe Rust over `libdraugsten.a`: the RTAS calls ibm,update-nodes, ibm,get-indices and ibm,configure-kernel-dump on
-//! the platform's side, and readers of the work areas that the first two fill. `include/draugsten.h` has what each
-//! buffer holds and which bytes are written.
+//! Safe Rust over `libdraugsten.a`: the RTAS calls ibm,update-nodes, ibm,get-indices, ibm,configure-kernel-dump and
+//! ibm,update-properties on the platform's side, and readers of the work areas that all but the dump fill.
+//! `include/draugsten.h` has what each buffer holds and which bytes are written.
 //!
 //! ```
 //! use draugsten::{args, call, read_nodes, Answer, Operation, Registration};
@@ -23,9 +23,11 @@
 pub mod args;
 mod calling;
 mod ffi;
+mod properties;
 mod reading;
 mod registration;
 
 pub use calling::{call, Answer, Fault};
+pub use properties::{read_properties, Descriptor, Property, PropertyArea, NAME_LIMIT, VALUE_LIMIT};
 pub use reading::{read_indices, read_nodes, read_state, Entry, Operation, Reason, Refusal, CODE_LIMIT, FIELD_LIMIT};
 pub use registration::{Phase, Registration, STRUCTURE_LIMIT};

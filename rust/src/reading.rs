@@ -52,7 +52,8 @@ pub struct Refusal {
     pub offset: usize,
 }
 
-/// What is wrong with an area. `as u32` gives its number: 20 to 27 of node areas, 30 to 33 of index areas.
+/// What is wrong with an area. `as u32` gives its number: 20 to 27 of node areas, 30 to 33 of index areas, 40 to 43 of
+/// property areas.
 /// 23 is withdrawn: an operator with no operands is passed over.
 #[derive(Clone, Copy, PartialEq, Eq, Debug)]
 pub enum Reason {
@@ -78,6 +79,14 @@ pub enum Reason {
     CodeLength = 32,
     /// Not a code, then one to four NULs, then nothing else.
     Code = 33,
+    /// A property area of not 4,096 bytes.
+    PropertyAreaSize = 40,
+    /// Bytes 8 to 15 of a property area not zero.
+    PropertyReserved = 41,
+    /// Not a name of 1 to 31 bytes with its NUL.
+    PropertyName = 42,
+    /// A descriptor or a value past the end.
+    PropertyPastEnd = 43,
 }
 
 impl fmt::Display for Refusal {
@@ -129,7 +138,7 @@ fn entry<'a>(area: &'a [u8], numbers: &[u64]) -> Entry<'a> {
     Entry { index: numbers[0] as u32, code: &area[start..end] }
 }
 
-fn accepted(number: u32, offset: usize) -> Result<(), Refusal> {
+pub(crate) fn accepted(number: u32, offset: usize) -> Result<(), Refusal> {
     let reason = match number {
         0 => return Ok(()),
         20 => Reason::AreaSize,
@@ -143,6 +152,10 @@ fn accepted(number: u32, offset: usize) -> Result<(), Refusal> {
         31 => Reason::SetPastEnd,
         32 => Reason::CodeLength,
         33 => Reason::Code,
+        40 => Reason::PropertyAreaSize,
+        41 => Reason::PropertyReserved,
+        42 => Reason::PropertyName,
+        43 => Reason::PropertyPastEnd,
         _ => unreachable!("the library gives no refusal {number}"),
     };
     Err(Refusal { reason, offset })

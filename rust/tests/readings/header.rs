@@ -1,6 +1,8 @@
 //! Every number that the header names has a name in the crate.
 
-use draugsten::{args, Answer, Fault, Phase, Reason, CODE_LIMIT, FIELD_LIMIT, STRUCTURE_LIMIT};
+use draugsten::{
+    args, Answer, Fault, Phase, Reason, CODE_LIMIT, FIELD_LIMIT, NAME_LIMIT, STRUCTURE_LIMIT, VALUE_LIMIT,
+};
 
 const HEADER: &str = include_str!("../../../include/draugsten.h");
 
@@ -23,6 +25,8 @@ fn number(text: &str) -> Option<i32> {
 fn limits() {
     assert_eq!(numbers("DRAUGSTEN_CODE_LIMIT"), [("", CODE_LIMIT as i32)]);
     assert_eq!(numbers("DRAUGSTEN_STRUCTURE_LIMIT"), [("", STRUCTURE_LIMIT as i32)]);
+    assert_eq!(numbers("DRAUGSTEN_NAME_LIMIT"), [("", NAME_LIMIT as i32)]);
+    assert_eq!(numbers("DRAUGSTEN_VALUE_LIMIT"), [("", VALUE_LIMIT as i32)]);
     // The header makes these of the code's limit.
     assert_eq!((FIELD_LIMIT, args::SUFFICIENT_SIZE), (1024, 1036));
 }
@@ -74,6 +78,10 @@ fn refusals() {
         ("SET_PAST_END", Reason::SetPastEnd as i32),
         ("CODE_LENGTH", Reason::CodeLength as i32),
         ("CODE", Reason::Code as i32),
+        ("PROPERTY_AREA_SIZE", Reason::PropertyAreaSize as i32),
+        ("PROPERTY_RESERVED", Reason::PropertyReserved as i32),
+        ("PROPERTY_NAME", Reason::PropertyName as i32),
+        ("PROPERTY_PAST_END", Reason::PropertyPastEnd as i32),
     ];
     assert_eq!(numbers("DRAUGSTEN_REFUSAL_"), expected);
 }

@@ -6,3 +6,4 @@ mod header;
 mod indices;
 mod nodes;
 mod partition;
+mod properties;

@@ -26,6 +26,11 @@ impl Partition {
         self.call(&mut args::update_nodes(NODE_AREA as u32, scope))
     }
 
+    /// The work area is that of update-nodes.
+    pub fn update_properties(&mut self, scope: i32) -> Result<Answer, Fault> {
+        self.call(&mut args::update_properties(NODE_AREA as u32, scope))
+    }
+
     pub fn node_area(&self) -> &[u8] {
         &self.memory[NODE_AREA..]
     }
