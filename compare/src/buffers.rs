@@ -49,6 +49,12 @@ pub fn unit_record(node_type: u16, unit: u64, phandle: u32) -> Vec<u8> {
     record(4, &body)
 }
 
+/// A journal record of kind 5, a property's new value, or of kind 6, a deleted property.
+pub fn property_record(phandle: u32, name: &[u8], value: Option<&[u8]>) -> Vec<u8> {
+    let kind = if value.is_some() { 5 } else { 6 };
+    record(kind, &[&phandle.to_le_bytes(), name, &[0], value.unwrap_or(&[])].concat())
+}
+
 /// An inventory record.
 pub fn inventory_record(flag: u16, kind: u32, index: u32, code: &[u8]) -> Vec<u8> {
     let mut body = flag.to_le_bytes().to_vec();

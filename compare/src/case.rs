@@ -52,7 +52,7 @@ impl Wanted {
 #[derive(Clone)]
 pub struct SessionCase {
     pub seed: u64,
-    /// The journal of update-nodes, or the inventory of get-indices.
+    /// The journal of update-nodes or update-properties, or the inventory of get-indices.
     pub records: Vec<u8>,
     pub asked: Asked,
     /// No refused calls between.
@@ -67,6 +67,8 @@ pub enum Asked {
         flag: u32,
         kind: u32,
     },
+    /// A session for each of these phandles, all at the same time over one journal.
+    Properties(Vec<u32>),
 }
 
 #[derive(Clone)]
@@ -75,6 +77,7 @@ pub enum Case {
     Call(CallCase),
     ReadNodes { scope: u32, read: ReadCase },
     ReadIndices(ReadCase),
+    ReadProperties(ReadCase),
     Session(SessionCase),
 }
 
@@ -99,6 +102,9 @@ impl Case {
                 format!("node area, scope {scope:#010x}, out {}\n", read.out) + &text::buffer("area", &read.area)
             }
             Case::ReadIndices(read) => format!("index area, out {}\n", read.out) + &text::buffer("area", &read.area),
+            Case::ReadProperties(read) => {
+                format!("property area, out {}\n", read.out) + &text::buffer("area", &read.area)
+            }
             Case::Session(session) => session.text(),
         }
     }
@@ -113,6 +119,7 @@ impl SessionCase {
                 format!("update-nodes sessions: {}", wanted.join("; "))
             }
             Asked::Indices { flag, kind } => format!("get-indices session, flag {flag}, type {kind}"),
+            Asked::Properties(phandles) => format!("update-properties sessions of {phandles:#010x?}"),
         };
         format!("{asked}, {between}\n") + &text::records("records", &self.records)
     }

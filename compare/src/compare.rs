@@ -119,12 +119,19 @@ pub fn run_read_indices(subject: &dyn Subject, case: &ReadCase) -> ReadResult<u6
     ReadResult { reading, out }
 }
 
+pub fn run_read_properties(subject: &dyn Subject, case: &ReadCase) -> ReadResult<u32> {
+    let mut out: Vec<u32> = (0..case.out + GUARD_NUMBERS).map(|place| 0xa5a5_0000 + place as u32).collect();
+    let reading = subject.read_properties(&case.area, &mut out[..case.out]);
+    ReadResult { reading, out }
+}
+
 impl<T: Copy> ReadResult<T> {
-    /// The entries in `out`.
-    pub fn entries(&self) -> Vec<[T; 3]> {
-        let room = (self.out.len() - GUARD_NUMBERS) / 3;
+    /// The entries in `out`, each of so many numbers.
+    pub fn entries<const ELEMENTS: usize>(&self) -> Vec<[T; ELEMENTS]> {
+        let room = (self.out.len() - GUARD_NUMBERS) / ELEMENTS;
         let entries = room.min(self.reading.entries as usize);
-        self.out.chunks_exact(3).take(entries).map(|entry| [entry[0], entry[1], entry[2]]).collect()
+        let whole = self.out.chunks_exact(ELEMENTS).take(entries);
+        whole.map(|entry| std::array::from_fn(|element| entry[element])).collect()
     }
 }
 
@@ -163,6 +170,11 @@ pub fn difference(sides: Sides, case: &Case, coverage: &mut Coverage) -> Option<
         Case::ReadIndices(read) => {
             let (paper, tested) = (run_read_indices(sides.paper, read), run_read_indices(sides.tested, read));
             coverage.index_area(read, &paper.reading);
+            read_difference(sides, &paper, &tested)
+        }
+        Case::ReadProperties(read) => {
+            let (paper, tested) = (run_read_properties(sides.paper, read), run_read_properties(sides.tested, read));
+            coverage.property_area(read, &paper.reading);
             read_difference(sides, &paper, &tested)
         }
         Case::Session(case) => session::difference(sides, case, coverage),

@@ -12,11 +12,12 @@ pub struct Registration {
     pub copy: [u8; 512],
 }
 
-/// What a reading tells: the refusal (0, 20 to 27 or 30 to 33) with its offset, or the number of all entries and, for
-/// a node area, the state.
+/// What a reading tells: the refusal (0, 20 to 27, 30 to 33 or 40 to 43) with its offset, or the number of all entries
+/// and, for a node or property area, the state, for a property area also the phandle.
 #[derive(Clone, Copy, PartialEq, Eq, Debug)]
 pub struct Reading {
     pub refusal: u32,
+    pub phandle_or_zero: u32,
     pub state_or_zero: u32,
     pub offset: u64,
     pub entries: u64,
@@ -57,6 +58,15 @@ mod c {
         pub entries: usize,
     }
 
+    #[repr(C)]
+    pub struct PropertyReading {
+        pub refusal: u32,
+        pub phandle: u32,
+        pub state: u32,
+        pub offset: usize,
+        pub entries: usize,
+    }
+
     extern "C" {
         pub fn draugsten_call(
             args: *mut u8,
@@ -82,6 +92,15 @@ mod c {
         /// Three numbers of `out` for each entry: index, byte offset of the code in the area, length of the code
         /// without its NULs. `out_len` counts numbers.
         pub fn draugsten_read_indices(area: *const u8, area_len: usize, out: *mut u64, out_len: usize) -> IndexReading;
+
+        /// Five words of `out` for each property: offset and length of its name, its descriptor, offset and length of
+        /// its value. `out_len` counts words.
+        pub fn draugsten_read_properties(
+            area: *const u8,
+            area_len: usize,
+            out: *mut u32,
+            out_len: usize,
+        ) -> PropertyReading;
     }
 }
 
@@ -132,6 +151,7 @@ impl Subject for Library {
         let read = unsafe { c::draugsten_read_nodes(area.as_ptr(), area.len(), scope, out.as_mut_ptr(), out.len()) };
         Reading {
             refusal: read.refusal,
+            phandle_or_zero: 0,
             state_or_zero: read.state,
             offset: read.offset as u64,
             entries: read.entries as u64,
@@ -141,6 +161,24 @@ impl Subject for Library {
     fn read_indices(&self, area: &[u8], out: &mut [u64]) -> Reading {
         // SAFETY: as above.
         let read = unsafe { c::draugsten_read_indices(area.as_ptr(), area.len(), out.as_mut_ptr(), out.len()) };
-        Reading { refusal: read.refusal, state_or_zero: 0, offset: read.offset as u64, entries: read.entries as u64 }
+        Reading {
+            refusal: read.refusal,
+            phandle_or_zero: 0,
+            state_or_zero: 0,
+            offset: read.offset as u64,
+            entries: read.entries as u64,
+        }
+    }
+
+    fn read_properties(&self, area: &[u8], out: &mut [u32]) -> Reading {
+        // SAFETY: as above.
+        let read = unsafe { c::draugsten_read_properties(area.as_ptr(), area.len(), out.as_mut_ptr(), out.len()) };
+        Reading {
+            refusal: read.refusal,
+            phandle_or_zero: read.phandle,
+            state_or_zero: read.state,
+            offset: read.offset as u64,
+            entries: read.entries as u64,
+        }
     }
 }

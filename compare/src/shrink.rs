@@ -31,7 +31,7 @@ fn bytes_of(case: &Case, part: Part) -> &[u8] {
         (Case::Call(call), Part::Memory) => &call.memory,
         (Case::Call(call), Part::Arguments) => &call.args,
         (Case::Call(call), Part::Copy) => &call.registration.copy,
-        (Case::ReadNodes { read, .. } | Case::ReadIndices(read), Part::Area) => &read.area,
+        (Case::ReadNodes { read, .. } | Case::ReadIndices(read) | Case::ReadProperties(read), Part::Area) => &read.area,
         (Case::Session(session), Part::Session) => &session.records,
         _ => &[],
     }
@@ -46,7 +46,9 @@ fn with_bytes(case: &Case, part: Part, bytes: Vec<u8>) -> Case {
         (Case::Call(call), Part::Memory) => call.memory = bytes,
         (Case::Call(call), Part::Arguments) => call.args = bytes,
         (Case::Call(call), Part::Copy) if bytes.len() == 512 => call.registration.copy.copy_from_slice(&bytes),
-        (Case::ReadNodes { read, .. } | Case::ReadIndices(read), Part::Area) => read.area = bytes,
+        (Case::ReadNodes { read, .. } | Case::ReadIndices(read) | Case::ReadProperties(read), Part::Area) => {
+            read.area = bytes
+        }
         (Case::Session(session), Part::Session) => session.records = bytes,
         _ => {}
     }
@@ -92,6 +94,7 @@ impl Shrinking<'_> {
             Case::Session(session) => Case::Session(SessionCase { plain: true, ..session }),
             Case::ReadNodes { scope, read } => Case::ReadNodes { scope, read: ReadCase { out: 0, ..read } },
             Case::ReadIndices(read) => Case::ReadIndices(ReadCase { out: 0, ..read }),
+            Case::ReadProperties(read) => Case::ReadProperties(ReadCase { out: 0, ..read }),
             Case::Call(mut call) => {
                 call.registration.length = 0;
                 Case::Call(call)
@@ -191,6 +194,10 @@ mod tests {
 
         fn read_indices(&self, area: &[u8], out: &mut [u64]) -> Reading {
             Paper.read_indices(area, out)
+        }
+
+        fn read_properties(&self, area: &[u8], out: &mut [u32]) -> Reading {
+            Paper.read_properties(area, out)
         }
     }
 

@@ -34,17 +34,20 @@ pub trait Subject {
 
     /// As above, with three numbers for each entry.
     fn read_indices(&self, area: &[u8], out: &mut [u64]) -> Reading;
+
+    /// As above, with five words for each property.
+    fn read_properties(&self, area: &[u8], out: &mut [u32]) -> Reading;
 }
 
 /// Writes as many whole entries as fit.
-fn put_entries<T: Copy>(out: &mut [T], entries: impl Iterator<Item = [T; 3]>) {
-    for (place, entry) in out.chunks_exact_mut(3).zip(entries) {
+fn put_entries<T: Copy, const ELEMENTS: usize>(out: &mut [T], entries: impl Iterator<Item = [T; ELEMENTS]>) {
+    for (place, entry) in out.chunks_exact_mut(ELEMENTS).zip(entries) {
         place.copy_from_slice(&entry);
     }
 }
 
 fn refused_reading(refusal: u32, offset: u64) -> Reading {
-    Reading { refusal, state_or_zero: 0, offset, entries: 0 }
+    Reading { refusal, phandle_or_zero: 0, state_or_zero: 0, offset, entries: 0 }
 }
 
 /// Puts an implementation of the paper behind the trait.
@@ -88,7 +91,7 @@ macro_rules! paper_subject {
                     Ok(nodes) => {
                         put_entries(out, nodes.operations.iter().map(|o| [o.opcode, o.first, o.second]));
                         let entries = nodes.operations.len() as u64;
-                        Reading { refusal: 0, state_or_zero: nodes.state, offset: 0, entries }
+                        Reading { refusal: 0, phandle_or_zero: 0, state_or_zero: nodes.state, offset: 0, entries }
                     }
                     Err(refused) => refused_reading(refused.number, refused.offset),
                 }
@@ -98,7 +101,23 @@ macro_rules! paper_subject {
                 match $rules::readers::read_indices(area) {
                     Ok(indices) => {
                         put_entries(out, indices.iter().map(|i| [u64::from(i.index), i.code_at, i.code_length]));
-                        Reading { refusal: 0, state_or_zero: 0, offset: 0, entries: indices.len() as u64 }
+                        let entries = indices.len() as u64;
+                        Reading { refusal: 0, phandle_or_zero: 0, state_or_zero: 0, offset: 0, entries }
+                    }
+                    Err(refused) => refused_reading(refused.number, refused.offset),
+                }
+            }
+
+            fn read_properties(&self, area: &[u8], out: &mut [u32]) -> Reading {
+                match $rules::readers::read_properties(area) {
+                    Ok(read) => {
+                        let words = |p: &$rules::readers::Property| {
+                            [p.name_at, p.name_length, p.descriptor, p.value_at, p.value_length]
+                        };
+                        put_entries(out, read.list.iter().map(words));
+                        let entries = read.list.len() as u64;
+                        let (phandle_or_zero, state_or_zero) = (read.phandle, read.state);
+                        Reading { refusal: 0, phandle_or_zero, state_or_zero, offset: 0, entries }
                     }
                     Err(refused) => refused_reading(refused.number, refused.offset),
                 }

@@ -25,11 +25,11 @@ pub const INDEX_REFUSALS: &[(u32, &str)] = &[
 ];
 
 pub struct Facts {
-    /// The scope that the reader is told; 0 for an index area.
+    /// The scope that the reader is told; 0 for an index or property area.
     scope: u32,
-    area: Vec<u8>,
-    out: u64,
-    reading: Reading,
+    pub area: Vec<u8>,
+    pub out: u64,
+    pub reading: Reading,
 }
 
 pub fn facts(scope: u32, case: &ReadCase, reading: &Reading) -> Facts {
@@ -37,11 +37,11 @@ pub fn facts(scope: u32, case: &ReadCase, reading: &Reading) -> Facts {
 }
 
 impl Facts {
-    fn length(&self) -> usize {
+    pub fn length(&self) -> usize {
         self.area.len()
     }
 
-    fn refused(&self, number: u32) -> bool {
+    pub fn refused(&self, number: u32) -> bool {
         self.reading.refusal == number
     }
 
@@ -128,7 +128,7 @@ impl Facts {
         self.first_set().is_some_and(|set| set.1 == number)
     }
 
-    fn entries(&self) -> bool {
+    pub fn entries(&self) -> bool {
         self.reading.refusal == 0 && self.reading.entries > 0
     }
 

@@ -5,6 +5,8 @@ mod combinations;
 mod dump;
 mod indices;
 mod nodes;
+mod properties;
+mod property_areas;
 
 use crate::buffers::{record_places, word_at};
 use crate::case::{Asked, CallCase, ReadCase};
@@ -66,17 +68,17 @@ const ANSWERS: [(&str, u32, i32); 10] = [
 ];
 
 /// The answers that a token can have; the last column is for all other tokens and for buffers too short for one.
-const POSSIBLE: [[bool; 4]; 10] = [
-    [true, true, true, true],
-    [true, true, true, true],
-    [true, true, true, true],
-    [true, true, true, true],
-    [true, true, true, false],
-    [true, true, false, false],
-    [true, true, false, false],
-    [true, true, true, true],
-    [false, false, true, false],
-    [false, false, true, false],
+const POSSIBLE: [[bool; 5]; 10] = [
+    [true, true, true, true, true],
+    [true, true, true, true, true],
+    [true, true, true, true, true],
+    [true, true, true, true, true],
+    [true, true, true, true, false],
+    [true, true, false, true, false],
+    [true, true, false, true, false],
+    [true, true, true, true, true],
+    [false, false, true, false, false],
+    [false, false, true, false, false],
 ];
 
 const BUFFER_RULES: [&str; 7] = [
@@ -89,7 +91,7 @@ const BUFFER_RULES: [&str; 7] = [
     "-3: counts unlike the call's own",
 ];
 
-const SESSION_ROWS: [&str; 11] = [
+const SESSION_ROWS: [&str; 16] = [
     "update-nodes sessions to the end",
     "get-indices sessions to the end",
     "answered calls in sessions",
@@ -101,10 +103,15 @@ const SESSION_ROWS: [&str; 11] = [
     "update-nodes sessions of a unit to the end",
     "two units over one journal at the same time",
     "a unit and another scope over one journal at the same time",
+    "update-properties sessions to the end",
+    "properties that update-properties handed out",
+    "two nodes' properties over one journal at the same time",
+    "the same node's properties twice at the same time",
+    "update-properties sessions of nine or more answered calls",
 ];
 
 pub struct Coverage {
-    answers: [[u64; 4]; 10],
+    answers: [[u64; 5]; 10],
     buffer: Table,
     node_rules: Table,
     node_lines: Table,
@@ -112,10 +119,14 @@ pub struct Coverage {
     index_lines: Table,
     dump_rules: Table,
     dump_lines: Table,
+    property_rules: Table,
+    property_lines: Table,
     node_areas: Table,
     node_area_lines: Table,
     index_areas: Table,
     index_area_lines: Table,
+    property_areas: Table,
+    property_area_lines: Table,
     sessions: Table,
     combinations: Combinations,
 }
@@ -123,7 +134,7 @@ pub struct Coverage {
 impl Coverage {
     pub fn new() -> Coverage {
         Coverage {
-            answers: [[0; 4]; 10],
+            answers: [[0; 5]; 10],
             buffer: Table::new("the argument buffer, by rule", BUFFER_RULES.into_iter()),
             node_rules: Table::new("update-nodes, by rule", nodes::RULES.into_iter()),
             node_lines: Table::of_lines("update-nodes, lines", nodes::LINES),
@@ -131,10 +142,14 @@ impl Coverage {
             index_lines: Table::of_lines("get-indices, lines", indices::LINES),
             dump_rules: Table::new("configure-kernel-dump, by rule", dump::RULES.into_iter()),
             dump_lines: Table::of_lines("configure-kernel-dump, lines", dump::LINES),
+            property_rules: Table::new("update-properties, by rule", properties::RULES.into_iter()),
+            property_lines: Table::of_lines("update-properties, lines", properties::LINES),
             node_areas: Table::new("node areas read", areas::NODE_REFUSALS.iter().map(|row| row.1)),
             node_area_lines: Table::of_lines("node areas, lines", areas::NODE_LINES),
             index_areas: Table::new("index areas read", areas::INDEX_REFUSALS.iter().map(|row| row.1)),
             index_area_lines: Table::of_lines("index areas, lines", areas::INDEX_LINES),
+            property_areas: Table::new("property areas read", property_areas::REFUSALS.iter().map(|row| row.1)),
+            property_area_lines: Table::of_lines("property areas, lines", property_areas::LINES),
             sessions: Table::new("sessions", SESSION_ROWS.into_iter()),
             combinations: Combinations::new(),
         }
@@ -158,6 +173,10 @@ impl Coverage {
                 self.index_rules.add(rule_or_answered(result.rule), 1);
                 self.index_lines.count_lines(indices::LINES, &indices::facts(case, result, &inputs));
             }
+            Some(4) => {
+                self.property_rules.add(rule_or_answered(result.rule), 1);
+                self.property_lines.count_lines(properties::LINES, &properties::facts(case, result, &inputs));
+            }
             _ => {
                 self.dump_rules.add(rule_or_answered(result.rule), 1);
                 self.dump_lines.count_lines(dump::LINES, &dump::facts(case, result, &inputs));
@@ -168,8 +187,8 @@ impl Coverage {
     fn count_answer(&mut self, token: Option<u32>, result: &CallResult) {
         let status = if result.number == 0 { result.status().unwrap_or(0) } else { 0 };
         let column = match token {
-            Some(token @ 1..=3) => token as usize - 1,
-            _ => 3,
+            Some(token @ 1..=4) => token as usize - 1,
+            _ => 4,
         };
         if let Some(row) = ANSWERS.iter().position(|answer| (answer.1, answer.2) == (result.number, status)) {
             self.answers[row][column] += 1;
@@ -184,6 +203,11 @@ impl Coverage {
     pub fn index_area(&mut self, case: &ReadCase, reading: &Reading) {
         count_refusal(&mut self.index_areas, areas::INDEX_REFUSALS, reading.refusal);
         self.index_area_lines.count_lines(areas::INDEX_LINES, &areas::facts(0, case, reading));
+    }
+
+    pub fn property_area(&mut self, case: &ReadCase, reading: &Reading) {
+        count_refusal(&mut self.property_areas, property_areas::REFUSALS, reading.refusal);
+        self.property_area_lines.count_lines(property_areas::LINES, &areas::facts(0, case, reading));
     }
 
     /// Sessions over one journal or one inventory that came to their ends.
@@ -207,6 +231,16 @@ impl Coverage {
                 self.sessions.add(SESSION_ROWS[7], entries);
                 self.calls_in_a_session(answered);
             }
+            Asked::Properties(phandles) => {
+                let sessions = phandles.len() as u64;
+                let other = phandles.iter().any(|&phandle| phandle != phandles[0]);
+                self.sessions.add(SESSION_ROWS[11], sessions);
+                self.sessions.add(SESSION_ROWS[12], entries);
+                self.sessions.add(SESSION_ROWS[13], u64::from(other));
+                self.sessions.add(SESSION_ROWS[14], u64::from(has_equals(phandles)));
+                self.sessions.add(SESSION_ROWS[15], u64::from(answered / sessions >= 9));
+                self.calls_in_a_session(answered / sessions);
+            }
         }
     }
 
@@ -216,7 +250,7 @@ impl Coverage {
         self.sessions.add(SESSION_ROWS[5], u64::from(answered >= 5));
     }
 
-    fn tables(&self) -> [&Table; 12] {
+    fn tables(&self) -> [&Table; 16] {
         [
             &self.buffer,
             &self.node_rules,
@@ -225,10 +259,14 @@ impl Coverage {
             &self.index_lines,
             &self.dump_rules,
             &self.dump_lines,
+            &self.property_rules,
+            &self.property_lines,
             &self.node_areas,
             &self.node_area_lines,
             &self.index_areas,
             &self.index_area_lines,
+            &self.property_areas,
+            &self.property_area_lines,
             &self.sessions,
         ]
     }
@@ -241,7 +279,7 @@ impl Coverage {
             missing.extend(zero.map(|row| format!("{}: {}", table.title, row.0)));
         }
         for (row, answer) in ANSWERS.iter().enumerate() {
-            let never = (0..4).filter(|&column| POSSIBLE[row][column] && self.answers[row][column] == 0);
+            let never = (0..5).filter(|&column| POSSIBLE[row][column] && self.answers[row][column] == 0);
             missing.extend(never.map(|column| format!("{} of column {}", answer.0, column + 1)));
         }
         missing.extend(self.combinations.missing());
@@ -249,13 +287,14 @@ impl Coverage {
     }
 
     pub fn print(&self) {
-        println!("\nanswers           token 1    token 2    token 3     others");
+        println!("\nanswers           token 1    token 2    token 3    token 4     others");
         for (row, answer) in ANSWERS.iter().enumerate() {
             let cell = |column: usize| match (POSSIBLE[row][column], self.answers[row][column]) {
                 (false, 0) => String::from("-"),
                 (_, times) => times.to_string(),
             };
-            println!("  {:<12} {:>10} {:>10} {:>10} {:>10}", answer.0, cell(0), cell(1), cell(2), cell(3));
+            let cells: Vec<String> = (0..5).map(|column| format!(" {:>10}", cell(column))).collect();
+            println!("  {:<12}{}", answer.0, cells.concat());
         }
         self.tables().iter().for_each(|table| table.print());
         self.combinations.print();
@@ -267,6 +306,10 @@ impl Coverage {
         println!("\n{} rows never came up", missing.len());
         missing.iter().for_each(|row| println!("  {row}"));
     }
+}
+
+fn has_equals(list: &[u32]) -> bool {
+    list.iter().enumerate().any(|(place, one)| list[..place].contains(one))
 }
 
 fn little(number: &[u8]) -> u64 {

@@ -5,7 +5,7 @@ use crate::case::CallCase;
 use crate::compare::CallResult;
 use crate::paper::{readers, records, scope, update_nodes};
 
-pub const RULES: [&str; 12] = [
+pub const RULES: [&str; 15] = [
     "answered",
     "address no multiple of 4,096",
     "area not inside memory",
@@ -18,6 +18,9 @@ pub const RULES: [&str; 12] = [
     "bytes 4 to 15 not zero",
     "bytes 12 to 15 not zero",
     "state",
+    "malformed: name",
+    "malformed: bytes behind a deleted property's name",
+    "malformed: value",
 ];
 
 pub struct Facts {
@@ -32,6 +35,8 @@ pub struct Facts {
     state: u64,
     /// The units of a small journal's records, where it is good.
     units: Vec<u64>,
+    /// A small journal, good, has records of kinds 5 and 6.
+    properties: bool,
     /// The first record that is malformed: its kind and length, its node type.
     bad_record: Option<(u64, u64)>,
     bad_node_type: Option<u64>,
@@ -58,6 +63,7 @@ pub fn facts(case: &CallCase, result: &CallResult, inputs: &[u64]) -> Facts {
         behind_state: area.iter().skip(4).take(12).copied().collect(),
         state: area.get(..4).map_or(0, super::big),
         units: units(&case.journal),
+        properties: has_properties(&case.journal),
         bad_record: bad.map(|record| (super::little(&record[2..4]), super::little(&record[..2]))),
         bad_node_type: bad.and_then(|record| record.get(4..6)).map(super::little),
         list: None,
@@ -84,6 +90,10 @@ fn units(journal: &[u8]) -> Vec<u64> {
     changes.iter().filter_map(|change| change.unit).collect()
 }
 
+fn has_properties(journal: &[u8]) -> bool {
+    journal.len() <= 4096 && records::properties(journal).is_ok_and(|properties| !properties.is_empty())
+}
+
 fn note_run(facts: &mut Facts, area: &[u8], remain: bool) {
     let Ok(nodes) = readers::read_nodes(area, facts.scope) else {
         return;
@@ -100,7 +110,7 @@ fn aligned_end(facts: &Facts) -> Option<u64> {
 
 /// The call was refused by the journal.
 fn malformed(facts: &Facts) -> bool {
-    RULES[4..=8].contains(&facts.rule)
+    facts.rule.starts_with("malformed")
 }
 
 /// The first malformed record: its kind and its length.
@@ -176,7 +186,11 @@ pub const LINES: &[Line<Facts>] = &[
     ("journal refused, kind 4 of length 12", |f| bad(f, 4, 12)),
     ("journal refused, kind 4 of length 15", |f| bad(f, 4, 15)),
     ("journal refused, kind 4 of length 17", |f| bad(f, 4, 17)),
-    ("journal refused, kind 5 of length 16", |f| bad(f, 5, 16)),
+    ("journal refused, kind 7 of length 16", |f| bad(f, 7, 16)),
+    ("journal refused, kind 5 of length 7", |f| bad(f, 5, 7)),
+    ("journal refused, kind 6 of length 39", |f| bad(f, 6, 39)),
+    ("journal refused, kind 5 by its name", |f| f.rule == RULES[12] && f.bad_record.is_some_and(|r| r.0 == 5)),
+    ("journal refused, kind 6 by its name", |f| f.rule == RULES[12] && f.bad_record.is_some_and(|r| r.0 == 6)),
     ("journal refused, node type 14 in kind 4", |f| bad_type_in(f, 4, 14)),
     ("journal refused, node type 17 in kind 4", |f| bad_type_in(f, 4, 17)),
     ("journal refused, node type 0 in kind 4", |f| bad_type_in(f, 4, 0)),
@@ -201,6 +215,10 @@ pub const LINES: &[Line<Facts>] = &[
     ("kind 4 passed over in scope 1", |f| passes_over_units(f) && f.scope == 1),
     ("kind 4 passed over in scope 2", |f| passes_over_units(f) && f.scope == 2),
     ("kind 4 passed over in a negative scope", |f| passes_over_units(f) && f.scope >= 0x8000_0000),
+    ("kinds 5 and 6 passed over in scope 1", |f| answered(f, 1) && f.properties),
+    ("kinds 5 and 6 passed over in scope 2", |f| answered(f, 2) && f.properties),
+    ("kinds 5 and 6 passed over in scope 3", |f| answered(f, 3) && f.properties),
+    ("kinds 5 and 6 passed over in a negative scope", |f| f.rule.is_empty() && f.scope >= 0x8000_0000 && f.properties),
     ("unit 0, with records", |f| unit(f) == Some(0) && f.units.contains(&0)),
     ("unit 0, without a record", |f| unit(f) == Some(0) && !f.units.is_empty() && !f.units.contains(&0)),
     ("a unit without a record beside others", |f| {

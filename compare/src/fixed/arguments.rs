@@ -39,13 +39,16 @@ pub fn readings() -> Vec<CallReading> {
         refused("16 and 16, 139 bytes: 10", &[1, 16, 16], 139, 10),
         status("16 and 16, 140 bytes: -3", &[1, 16, 16], 140),
         status("token 0: -3", &[0, 2, 1], 24),
-        status("token 4: -3", &[4, 2, 1], 24),
+        status("token 5: -3", &[5, 2, 1], 24),
         status("token 0xffffffff: -3", &[0xffff_ffff, 0, 3], 24),
         status("update-nodes with 3 inputs: -3", &[1, 3, 1], 28),
         status("update-nodes with 2 outputs: -3 in the first", &[1, 2, 2], 28),
         status("get-indices with 1 output: -3", &[2, 5, 1], 36),
         status("get-indices with 6 inputs: -3", &[2, 6, 2], 44),
         status("dump with 2 inputs: -3", &[3, 2, 1], 24),
+        status("update-properties with 1 input: -3", &[4, 1, 1], 24),
+        status("update-properties with 3 inputs: -3", &[4, 3, 1], 28),
+        status("update-properties with 2 outputs: -3 in the first", &[4, 2, 2], 28),
         status("dump with 2 outputs: -3 in the first", &[3, 3, 2], 40),
     ];
     readings.push(long_buffer());

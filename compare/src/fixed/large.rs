@@ -2,7 +2,7 @@
 //! shared by all of them; around both ends of the first 4 GiB every byte is compared, the rest is not looked at.
 
 use super::NONE;
-use crate::buffers::{arguments, inventory_record, put_word, words};
+use crate::buffers::{arguments, inventory_record, property_record, put_word, words};
 use crate::compare::Sides;
 use crate::library::Registration;
 use crate::subject::Subject;
@@ -65,7 +65,8 @@ fn failure(subject: &dyn Subject, reading: &LargeReading, memory: &mut [u8]) -> 
     put(memory, &reading.before);
     let mut args = reading.args.clone();
     let inventory = inventory_record(1, 9, 7, b"abc");
-    let answered = subject.call(&mut args, memory, &[], &inventory, NONE);
+    let journal = property_record(7, b"a", Some(b"v"));
+    let answered = subject.call(&mut args, memory, &journal, &inventory, NONE);
     let mut expected = reading.args.clone();
     let inputs = expected[7] as usize;
     for (place, &output) in reading.outputs.iter().enumerate() {
@@ -103,6 +104,17 @@ fn nodes() -> LargeReading {
     }
 }
 
+fn properties() -> LargeReading {
+    LargeReading {
+        name: "update-properties, the area ends at 2^32",
+        args: arguments(4, &[0xffff_f000, 1], &[5]),
+        before: (0xffff_f000, words(&[7, 0, 0, 0, 9, 9])),
+        outputs: vec![0],
+        writes: (0xffff_f010, b"\0\0\0\x01a\0\0\0\0\x01v".to_vec()),
+        registration: NONE,
+    }
+}
+
 /// The dump has no rule on 2^32: a structure may reach past it.
 fn dump() -> LargeReading {
     let mut structure = vec![0; 80];
@@ -126,6 +138,7 @@ fn dump() -> LargeReading {
 fn readings() -> Vec<LargeReading> {
     vec![
         nodes(),
+        properties(),
         indices("address + size = 2^32", 0xffff_fff0, 16, true),
         indices("address + size = 2^32 + 1", 0xffff_fff0, 17, false),
         indices("address 0xfffffff1 + 16", 0xffff_fff1, 16, false),

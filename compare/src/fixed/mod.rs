@@ -7,11 +7,13 @@ mod dump;
 mod indices;
 mod large;
 mod nodes;
+mod properties;
+mod property_areas;
 mod scopes;
 
 use crate::buffers::put_word;
 use crate::case::{CallCase, ReadCase};
-use crate::compare::{run_call, run_read_indices, run_read_nodes, Sides};
+use crate::compare::{run_call, run_read_indices, run_read_nodes, run_read_properties, Sides};
 use crate::crash;
 use crate::library::Registration;
 use crate::subject::Subject;
@@ -97,6 +99,37 @@ pub struct AreaReading {
     result: Result<Vec<[u64; 3]>, (u32, u64)>,
 }
 
+/// A property area and the reading that it has to have: its phandle, its state and five words for each property.
+pub struct PropertyReading {
+    name: String,
+    area: Vec<u8>,
+    head: (u32, u32),
+    result: Result<Vec<[u32; 5]>, (u32, u64)>,
+}
+
+impl PropertyReading {
+    fn failure(&self, subject: &dyn Subject) -> Option<String> {
+        let words = 5 * self.result.as_ref().map_or(0, |properties| properties.len());
+        let rooms = [words + 6, words, words.saturating_sub(1), 0];
+        rooms.into_iter().find_map(|room| self.failure_with_room(subject, room))
+    }
+
+    fn failure_with_room(&self, subject: &dyn Subject, out: usize) -> Option<String> {
+        let result = run_read_properties(subject, &ReadCase { area: self.area.clone(), out });
+        let (reading, got) = (result.reading, result.entries::<5>());
+        let told = (reading.refusal, reading.phandle_or_zero, reading.state_or_zero, reading.offset, reading.entries);
+        let (expected, list) = match &self.result {
+            Ok(list) => ((0, self.head.0, self.head.1, 0, list.len() as u64), list.as_slice()),
+            Err((refusal, offset)) => ((*refusal, 0, 0, *offset, 0), [].as_slice()),
+        };
+        if told == expected && got == list[..list.len().min(out / 5)] {
+            return None;
+        }
+        let (name, side) = (&self.name, subject.name());
+        Some(format!("fixed reading '{name}' on {side}, out {out}: {reading:?}\n  {got:x?}, written {list:x?}"))
+    }
+}
+
 impl AreaReading {
     fn failure(&self, subject: &dyn Subject) -> Option<String> {
         let entries = self.result.as_ref().map_or(0, |entries| entries.len());
@@ -109,11 +142,11 @@ impl AreaReading {
         let (reading, got) = match self.of {
             Of::Nodes { scope } => {
                 let result = run_read_nodes(subject, scope, &case);
-                (result.reading, result.entries().iter().map(|entry| entry.map(u64::from)).collect())
+                (result.reading, result.entries::<3>().iter().map(|entry| entry.map(u64::from)).collect())
             }
             Of::Indices => {
                 let result = run_read_indices(subject, &case);
-                (result.reading, result.entries())
+                (result.reading, result.entries::<3>())
             }
         };
         let told = (reading.refusal, reading.state_or_zero, reading.offset, reading.entries);
@@ -132,12 +165,19 @@ impl AreaReading {
 
 /// Runs all fixed readings on both sides; gives what was otherwise than written.
 pub fn run(sides: Sides) -> Vec<String> {
-    let calls: Vec<CallReading> =
-        [arguments::readings(), nodes::readings(), scopes::readings(), indices::readings(), dump::readings()]
-            .into_iter()
-            .flatten()
-            .collect();
+    let calls: Vec<CallReading> = [
+        arguments::readings(),
+        nodes::readings(),
+        scopes::readings(),
+        indices::readings(),
+        dump::readings(),
+        properties::readings(),
+    ]
+    .into_iter()
+    .flatten()
+    .collect();
     let areas = areas::readings();
+    let property_areas = property_areas::readings();
     let mut failures = Vec::new();
     for subject in [sides.paper, sides.tested] {
         for (place, reading) in calls.iter().enumerate() {
@@ -148,8 +188,13 @@ pub fn run(sides: Sides) -> Vec<String> {
             crash::running_fixed(calls.len() + place);
             failures.extend(reading.failure(subject));
         }
+        for (place, reading) in property_areas.iter().enumerate() {
+            crash::running_fixed(calls.len() + areas.len() + place);
+            failures.extend(reading.failure(subject));
+        }
     }
-    println!("fixed readings: {} calls and {} areas on both sides", calls.len(), areas.len());
+    let all_areas = areas.len() + property_areas.len();
+    println!("fixed readings: {} calls and {all_areas} areas on both sides", calls.len());
     match large::run(sides) {
         Some((readings, wrong)) => {
             println!("fixed readings in a memory of 4 GiB and 8,192 bytes: {readings} calls on both sides");

@@ -25,7 +25,7 @@ fn other_count(random: &mut Random) -> u32 {
 }
 
 fn other_token(random: &mut Random) -> u32 {
-    random.pick(&[0, 1, 2, 3, 4, 5, 0x0100_0000, 0x0101, 0x8000_0001, 0xffff_ffff])
+    random.pick(&[0, 1, 2, 3, 4, 5, 6, 0x0100_0000, 0x0400_0000, 0x0104, 0x0101, 0x8000_0001, 0xffff_ffff])
 }
 
 /// Damages a whole buffer of a call in one place.

@@ -1,6 +1,7 @@
 //! Damage to journals and inventories.
 
 use super::inventories::{self, LONGEST};
+use super::properties;
 use crate::buffers::{inventory_record, journal_record, record, record_places, unit_record};
 use crate::random::Random;
 
@@ -16,13 +17,14 @@ fn bad_journal_record(random: &mut Random) -> Vec<u8> {
     let kind = random.between(1, 3) as u16;
     let body = [10, 0, 1, 2, 3, 4, 5, 6, 7, 8, 9, 10, 11, 12];
     let unit_body = [15, 0, 1, 2, 3, 4, 5, 6, 7, 8, 9, 10, 11, 12, 13, 14];
-    match random.below(7) {
-        0 => journal_record(kind, random.pick(&[0, 15, 15, 16, 16, 17, 0x101, 0x0a00, 0xffff]), 7, 7),
+    match random.below(10) {
+        0 => journal_record(kind, random.pick(&[0, 15, 15, 16, 16, 17, 17, 0x101, 0x0a00, 0xffff]), 7, 7),
         1 => record(kind, &body[..if kind == 3 { 6 } else { 10 }]),
         2 => record(kind, &body[..random.pick(&[0, 1, 2, 5, 7, 9, 11, 14])]),
         3 => unit_record(random.pick(&[0, 1, 10, 14, 14, 17, 17, 0x10f, 0x0f00, 0xffff]), 7, 7),
         4 => record(4, &unit_body[..random.pick(&[0, 2, 6, 10, 13, 13, 15, 15, 16])]),
-        _ => record(random.pick(&[0, 5, 5, 16, 0x101, 0x104, 0xffff]), &body[..random.pick(&[6, 10, 14])]),
+        5 | 6 => record(random.pick(&[0, 7, 7, 16, 0x101, 0x104, 0x105, 0xffff]), &body[..random.pick(&[6, 10, 14])]),
+        _ => properties::bad_record(random),
     }
 }
 
@@ -70,7 +72,9 @@ fn other_number(random: &mut Random, old: u16) -> u16 {
         1 => old.wrapping_sub(1),
         2 => old ^ (1 << random.below(16)),
         3 => old ^ 0x0100,
-        4 => random.pick(&[0, 1, 2, 3, 4, 5, 8, 12, 13, 15, 16, 91, 92, 1035, 1036, 0x0101, 0xff, 0xffff]),
+        4 => random.pick(&[
+            0, 1, 2, 3, 4, 5, 6, 7, 8, 12, 13, 15, 16, 38, 39, 91, 92, 1035, 1036, 32_806, 32_807, 0x0101, 0xff, 0xffff,
+        ]),
         _ => random.next() as u16,
     }
 }

@@ -15,7 +15,7 @@ pub fn case(random: &mut Random) -> ReadCase {
         damage(random, &mut area);
     }
     let entries = paper::readers::read_indices(&area).map_or(2, |entries| entries.len());
-    let out = super::room(random, entries);
+    let out = super::room(random, 3 * entries);
     ReadCase { area, out }
 }
 

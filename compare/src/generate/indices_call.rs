@@ -36,7 +36,7 @@ fn number_of_entries(random: &mut Random) -> usize {
 fn good_plan(random: &mut Random) -> Plan {
     let flag = random.below(2) as u32;
     let kind = inventories::good_kind(random, flag);
-    let stock = if random.one_in(1500) {
+    let stock = if random.one_in(1000) {
         inventories::full_stock(random, flag, kind)
     } else {
         let entries = number_of_entries(random);
@@ -73,7 +73,7 @@ pub fn size(random: &mut Random, stock: &Stock, start: u32) -> u32 {
         4 | 5 => exact - 1,
         6 => exact + random.between(1, 12),
         7 => random.pick(&[4, 5, 8, 11, 12, 15, 16, 17, 19, 20]),
-        8 => random.pick(&[91, 92, 93, AMPLE - 1, AMPLE, AMPLE + 1]),
+        8 => random.pick(&[91, 92, 93, AMPLE - 1, AMPLE, AMPLE + 1, AMPLE + 1]),
         9 => random.between(4, 300),
         10 => random.between(4, 6000),
         _ => AMPLE,

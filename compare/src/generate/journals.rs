@@ -1,5 +1,6 @@
 //! Journals.
 
+use super::properties;
 use crate::buffers::{journal_record, unit_record};
 use crate::case::Wanted;
 use crate::random::Random;
@@ -17,7 +18,7 @@ pub enum Size {
 }
 
 pub fn size_for_call(random: &mut Random) -> Size {
-    match random.below(2000) {
+    match random.below(1400) {
         0 => Size::Full,
         1..=60 => Size::Areas,
         61..=360 => Size::Area,
@@ -78,7 +79,7 @@ fn reported_types(scope: u32, kind: u16) -> &'static [u16] {
 }
 
 /// An operand: any word, and words that look like something else.
-fn operand(random: &mut Random) -> u32 {
+pub fn operand(random: &mut Random) -> u32 {
     match random.below(6) {
         0 => random.pick(&[0, 1, 0x0100_0001, 0x0200_0001, 0x0300_0002, 0xffff_ffff]),
         1 => random.below(8) as u32,
@@ -103,7 +104,10 @@ fn record_of_other_unit(random: &mut Random, unit: u64) -> Vec<u8> {
 }
 
 /// A record of any kind and node type.
-fn any_record(random: &mut Random, wanted: Wanted) -> Vec<u8> {
+pub fn any_record(random: &mut Random, wanted: Wanted) -> Vec<u8> {
+    if random.one_in(6) {
+        return properties::short_record(random);
+    }
     if random.one_in(if wanted.scope == 3 { 2 } else { 4 }) {
         return record_of_other_unit(random, wanted.unit);
     }
@@ -122,6 +126,9 @@ fn reported_record(random: &mut Random, wanted: Wanted, opcode: u16) -> Vec<u8> 
 
 /// A record that is passed over.
 fn passed_over_record(random: &mut Random, wanted: Wanted) -> Vec<u8> {
+    if random.one_in(6) {
+        return properties::short_record(random);
+    }
     if random.one_in(2) {
         return record_of_other_unit(random, wanted.unit);
     }

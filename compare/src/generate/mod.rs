@@ -10,6 +10,9 @@ pub mod journals;
 pub mod memories;
 mod node_areas;
 mod nodes_call;
+mod properties;
+mod properties_call;
+mod property_areas;
 pub mod registrations;
 mod structures;
 
@@ -21,19 +24,22 @@ use journals::Size;
 pub fn case(seed: u64, number: u64) -> Case {
     let mut random = Random::for_case(seed, number);
     match random.below(100) {
-        0..=71 => Case::Call(call(&mut random)),
-        72..=83 => node_areas::case(&mut random),
-        84..=93 => Case::ReadIndices(index_areas::case(&mut random)),
-        94..=96 => Case::Session(node_session(&mut random)),
+        0..=64 => Case::Call(call(&mut random)),
+        65..=75 => node_areas::case(&mut random),
+        76..=84 => Case::ReadIndices(index_areas::case(&mut random)),
+        85..=92 => Case::ReadProperties(property_areas::case(&mut random)),
+        93..=94 => Case::Session(node_session(&mut random)),
+        95..=96 => Case::Session(property_session(&mut random)),
         _ => Case::Session(index_session(&mut random)),
     }
 }
 
 /// A call of any token, good or damaged.
 pub fn call(random: &mut Random) -> CallCase {
-    let mut call = match random.below(10) {
+    let mut call = match random.below(13) {
         0..=3 => nodes_call::call(random),
         4..=6 => indices_call::call(random),
+        7..=9 => properties_call::call(random),
         _ => dump_call::call(random),
     };
     match random.below(16) {
@@ -57,14 +63,14 @@ fn faults(random: &mut Random) -> usize {
     }
 }
 
-/// Room for this many entries in `out`, a number less or more, nothing, or much.
-fn room(random: &mut Random, entries: usize) -> usize {
+/// Room for this many numbers in `out`, a number less or more, nothing, or much.
+fn room(random: &mut Random, numbers: usize) -> usize {
     match random.below(6) {
         0 => random.below(4),
-        1 => 3 * entries,
-        2 => (3 * entries).saturating_sub(1),
-        3 => random.between(0, 3 * entries + 3),
-        _ => 3 * entries + random.below(10),
+        1 => numbers,
+        2 => numbers.saturating_sub(1),
+        3 => random.between(0, numbers + 3),
+        _ => numbers + random.below(10),
     }
 }
 
@@ -110,6 +116,22 @@ fn mixed(random: &mut Random, left: &[u8], right: &[u8]) -> Vec<u8> {
         journal.extend(parts[of].next().into_iter().flatten());
     }
     journal
+}
+
+fn property_session(random: &mut Random) -> SessionCase {
+    let size = match random.below(3000) {
+        0 => Size::Full,
+        1..=600 => Size::Areas,
+        601..=1500 => Size::Area,
+        _ => Size::Small,
+    };
+    let stock = properties::stock(random, size);
+    let mut phandles = vec![stock.phandle];
+    while phandles.len() < 3 && random.one_in(2) {
+        phandles.push(random.pick(&stock.others));
+    }
+    let asked = Asked::Properties(phandles);
+    SessionCase { seed: random.next(), records: stock.journal, asked, plain: random.one_in(4) }
 }
 
 fn index_session(random: &mut Random) -> SessionCase {

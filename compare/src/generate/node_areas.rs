@@ -119,5 +119,5 @@ fn room(random: &mut Random, area: &[u8], scope: u32) -> usize {
         Ok(nodes) => nodes.operations.len(),
         Err(_) => word_at(area, 16).map_or(0, |word| (word & 0xff) as usize),
     };
-    super::room(random, entries)
+    super::room(random, 3 * entries)
 }

@@ -80,22 +80,22 @@ fn bad_state(random: &mut Random, plan: &Plan) -> u32 {
 }
 
 /// An address that is no multiple, or whose area is not inside memory.
-fn spoil_address(random: &mut Random, plan: &mut Plan) {
+pub fn spoil_address(random: &mut Random, memory: &mut usize, address: &mut u32) {
     match random.below(7) {
         0 | 1 => {
             let more = random.pick(&[1, 2, 4, 8, 16, 512, 2048, 4092, 4095]);
-            plan.address = plan.address.wrapping_add(more);
+            *address = address.wrapping_add(more);
         }
-        2 => plan.address = (plan.memory / 4096 * 4096) as u32,
-        3 => plan.address = random.pick(&[0xffff_f000, 0xffff_f000, 0x8000_0000, 0xffff_ffff, 0x7fff_f000]),
-        4 => plan.memory = plan.address as usize + 4095,
-        5 => plan.memory = plan.address as usize + random.pick(&[0, 1, 16, 4092, 4095]),
-        _ => plan.memory = random.pick(&[0, 0, 1, 16, 4095]),
+        2 => *address = (*memory / 4096 * 4096) as u32,
+        3 => *address = random.pick(&[0xffff_f000, 0xffff_f000, 0x8000_0000, 0xffff_ffff, 0x7fff_f000]),
+        4 => *memory = *address as usize + 4095,
+        5 => *memory = *address as usize + random.pick(&[0, 1, 16, 4092, 4095]),
+        _ => *memory = random.pick(&[0, 0, 1, 16, 4095]),
     }
 }
 
 /// A scope that is none, or one of the others.
-fn other_scope(random: &mut Random) -> u32 {
+pub fn other_scope(random: &mut Random) -> u32 {
     match random.below(4) {
         0 => random.pick(&[0, 4]),
         1 => random.pick(&[5, 0x101, 0x103, 0x1_0001, 0x0100_0000, 0x0300_0000, 0x7fff_ffff]),
@@ -106,7 +106,7 @@ fn other_scope(random: &mut Random) -> u32 {
 
 fn spoil(random: &mut Random, plan: &mut Plan) {
     match random.below(8) {
-        0 | 1 => spoil_address(random, plan),
+        0 | 1 => spoil_address(random, &mut plan.memory, &mut plan.address),
         2 => plan.scope = other_scope(random),
         3 | 4 => damage::damage_journal(random, &mut plan.journal),
         5 => {

@@ -6,7 +6,10 @@ pub mod kernel_dump;
 pub mod readers;
 pub mod records;
 pub mod scope;
+#[cfg(test)]
+mod tests;
 pub mod update_nodes;
+pub mod update_properties;
 pub mod words;
 
 pub use kernel_dump::{Phase, Registration};
@@ -76,8 +79,8 @@ fn number_above_0(args: &[u8]) -> Option<(u32, &'static str)> {
     None
 }
 
-/// "Tokens here: 1 update-nodes, 2 get-indices, 3 configure-kernel-dump." "an unknown token or counts unlike the call's
-/// own give status -3"
+/// "Tokens here: 1 update-nodes, 2 get-indices, 3 configure-kernel-dump." M-103: "ibm,update-properties, .. token 4".
+/// "an unknown token or counts unlike the call's own give status -3"
 fn answer(
     args: &[u8],
     memory: &mut [u8],
@@ -104,7 +107,12 @@ fn answer(
             let new = kernel_dump::configure_kernel_dump(memory, &inputs, registration)?;
             Ok(Answered { outputs: vec![0], registration: new })
         }
-        (1..=3, _) => refused(-3, "counts unlike the call's own"),
+        // 001: "Number Inputs 2", "Number Outputs 1"
+        (4, (2, 1)) => {
+            let status = update_properties::update_properties(memory, journal, input(0), input(1))?;
+            Ok(Answered { outputs: vec![status], registration: same })
+        }
+        (1..=4, _) => refused(-3, "counts unlike the call's own"),
         _ => refused(-3, "unknown token"),
     }
 }

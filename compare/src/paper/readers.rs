@@ -1,6 +1,6 @@
 //! "Readers": "A reading gives the entries, or a refusal number with a byte offset; it writes nothing."
 
-use super::records::Operation;
+use super::records::{Operation, LONGEST_NAME};
 use super::words::{as_word, word};
 
 #[derive(Clone, Copy, PartialEq, Eq, Debug)]
@@ -21,6 +21,23 @@ pub struct Index {
     pub index: u32,
     pub code_at: u64,
     pub code_length: u64,
+}
+
+/// The phandle and the state of a property area, and its properties.
+pub struct Properties {
+    pub phandle: u32,
+    pub state: u32,
+    pub list: Vec<Property>,
+}
+
+/// One property of an area: where its name stands, without the NUL, its descriptor, and where its value stands.
+#[derive(Clone, Copy, PartialEq, Eq, Debug)]
+pub struct Property {
+    pub name_at: u32,
+    pub name_length: u32,
+    pub descriptor: u32,
+    pub value_at: u32,
+    pub value_length: u32,
 }
 
 fn refused_at<T>(number: u32, offset: usize) -> Result<T, Refused> {
@@ -139,5 +156,54 @@ fn code_length(field: &[u8]) -> Option<usize> {
         Some(end)
     } else {
         None
+    }
+}
+
+/// M-103: "40 not 4,096 bytes (0); 41 bytes 8 to 15 not zero (8); then at each property's offset". Bytes behind the last
+/// property are not looked at.
+pub fn read_properties(area: &[u8]) -> Result<Properties, Refused> {
+    if area.len() != 4096 {
+        return refused_at(40, 0);
+    }
+    if area[8..16].iter().any(|&byte| byte != 0) {
+        return refused_at(41, 8);
+    }
+    let count = word(area, 16);
+    let mut list = Vec::new();
+    let mut at = 20;
+    while (list.len() as u64) < count {
+        let property = read_property(area, at)?;
+        list.push(property);
+        at = (property.value_at + property.value_length) as usize;
+    }
+    Ok(Properties { phandle: as_word(word(area, 0)), state: as_word(word(area, 4)), list })
+}
+
+/// "42 not a name with its NUL, 43 descriptor or value past the end." A name has 1 to 31 bytes.
+fn read_property(area: &[u8], at: usize) -> Result<Property, Refused> {
+    let name_length = match area[at..].iter().position(|&byte| byte == 0) {
+        Some(nul @ 1..=LONGEST_NAME) => nul,
+        _ => return refused_at(42, at),
+    };
+    let value_at = at + name_length + 1 + 4;
+    if value_at > 4096 {
+        return refused_at(43, at);
+    }
+    let descriptor = as_word(word(area, value_at - 4));
+    let value_length = described_length(descriptor);
+    if value_at as u64 + value_length > 4096 {
+        return refused_at(43, at);
+    }
+    let [name_at, name_length, value_at] = [at, name_length, value_at].map(|number| as_word(number as u64));
+    Ok(Property { name_at, name_length, descriptor, value_at, value_length: as_word(value_length) })
+}
+
+/// 001: "0x00000000 Name only property .. no value follows", "0x80000000 The property is to be deleted no value
+/// follows", "Other positive values are the length (M)", "Other negative values are the twos complement of the length".
+fn described_length(descriptor: u32) -> u64 {
+    match descriptor {
+        0x8000_0000 => 0,
+        0..=0x7fff_ffff => u64::from(descriptor),
+        negative => (1 << 32) - u64::from(negative),
     }
 }

@@ -6,24 +6,29 @@ use super::words::{as_word, big, put_word, word};
 use super::{refused, Refusal};
 
 /// "the work area is the 4,096 bytes of partition memory that start at the given address"
-const AREA: u64 = 4096;
+pub const AREA: u64 = 4096;
 
 /// "the longest run of operations, from the state on, that fits 1,019 words"
 pub const MOST_WORDS: u64 = 1019;
 
-/// The status of the call, or the rule that refuses it. "Checks in order: address a multiple of 4,096 and the area
-/// inside memory (-3); scope (-3); journal (-1); bytes 4 to 15 of the area zero (-3); state (-3)." M-100: "in scope 3
-/// only bytes 12 to 15 are tested for zero".
-pub fn update_nodes(memory: &mut [u8], journal: &[u8], address: u64, scope: u64) -> Result<u32, Refusal> {
+/// "Checks in order: address a multiple of 4,096 and the area inside memory (-3); scope (-3)". Gives the scope's row.
+pub fn judge_inputs(memory: u64, address: u64, scope: u64) -> Result<scope::Row, Refusal> {
     if !address.is_multiple_of(AREA) {
         return refused(-3, "address no multiple of 4,096");
     }
-    if address + AREA > memory.len() as u64 {
+    if address + AREA > memory {
         return refused(-3, "area not inside memory");
     }
-    let Some(row) = scope::row(scope) else {
-        return refused(-3, "scope");
-    };
+    match scope::row(scope) {
+        Some(row) => Ok(row),
+        None => refused(-3, "scope"),
+    }
+}
+
+/// The status of the call, or the rule that refuses it. Behind the inputs: "journal (-1); bytes 4 to 15 of the area
+/// zero (-3); state (-3)." M-100: "in scope 3 only bytes 12 to 15 are tested for zero".
+pub fn update_nodes(memory: &mut [u8], journal: &[u8], address: u64, scope: u64) -> Result<u32, Refusal> {
+    let row = judge_inputs(memory.len() as u64, address, scope)?;
     let changes = match records::journal(journal) {
         Ok(changes) => changes,
         Err(rule) => return refused(-1, rule),

@@ -3,6 +3,7 @@
 
 mod indices;
 mod nodes;
+mod properties;
 
 use crate::case::{Asked, CallCase, ReadCase, SessionCase};
 use crate::compare::{self, CallPair, CallResult, Sides};
@@ -25,6 +26,9 @@ struct Run<'a> {
 /// Room for every entry that an area can hold.
 const ROOM: usize = 3 * 1024;
 
+/// The words of every property that an area can hold.
+const PROPERTY_ROOM: usize = 5 * 679;
+
 pub fn difference(sides: Sides, case: &SessionCase, coverage: &mut Coverage) -> Option<String> {
     let mut random = Random::new(case.seed);
     let pages = random.between(1, 3);
@@ -34,6 +38,7 @@ pub fn difference(sides: Sides, case: &SessionCase, coverage: &mut Coverage) -> 
     let handed_out = match &case.asked {
         Asked::Nodes(wanted) => nodes::run(&mut run, wanted),
         Asked::Indices { flag, kind } => indices::run(&mut run, *flag, *kind),
+        Asked::Properties(phandles) => properties::run(&mut run, phandles),
     };
     match handed_out {
         Ok(entries) => {
@@ -108,6 +113,18 @@ impl Run<'_> {
         match (compare::read_difference(self.sides, &paper, &tested), paper.reading.refusal) {
             (Some(text), _) => Err(text),
             (None, 0) => Ok(paper.entries()),
+            (None, refusal) => Err(format!("an answered call's area is refused: {refusal}\n")),
+        }
+    }
+
+    /// The state of a property area and its properties, on which both readers have to agree.
+    fn read_properties(&self, area: &[u8]) -> Result<(u32, Vec<[u32; 5]>), String> {
+        let case = ReadCase { area: area.to_vec(), out: PROPERTY_ROOM };
+        let paper = compare::run_read_properties(self.sides.paper, &case);
+        let tested = compare::run_read_properties(self.sides.tested, &case);
+        match (compare::read_difference(self.sides, &paper, &tested), paper.reading.refusal) {
+            (Some(text), _) => Err(text),
+            (None, 0) => Ok((paper.reading.state_or_zero, paper.entries())),
             (None, refusal) => Err(format!("an answered call's area is refused: {refusal}\n")),
         }
     }

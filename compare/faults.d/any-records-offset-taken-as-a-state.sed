@@ -1,0 +1,1 @@
+s/session(changes).into_iter().find(|&due| state_of(changes, due) == state)/session(changes).into_iter().chain((0..changes.len()).map(|change| Due { change, byte: 0 })).find(|\&due| changes[due.change].at == state \&\& due.byte == 0 || state_of(changes, due) == state)/

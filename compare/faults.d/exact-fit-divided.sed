@@ -1,0 +1,1 @@
+s/if before_value + rest.len() <= left {/if before_value + rest.len() < left {/

@@ -1,0 +1,1 @@
+/^fn read_property(/,/refused_at(42, at)/s/1\.\.=LONGEST_NAME/0..=LONGEST_NAME/

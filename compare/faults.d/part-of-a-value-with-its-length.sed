@@ -1,0 +1,1 @@
+s/descriptor: length.wrapping_neg()/descriptor: length/

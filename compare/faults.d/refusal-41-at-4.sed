@@ -1,0 +1,1 @@
+s/return refused_at(41, 8);/return refused_at(41, 4);/
