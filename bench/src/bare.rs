@@ -37,6 +37,20 @@ pub fn stepping_operators(area: &[u8]) -> u64 {
     operators
 }
 
+/// Steps from property to property of a property area, and adds up their places.
+pub fn stepping_properties(area: &[u8]) -> u64 {
+    let mut at = 20;
+    let mut places = 0;
+    for _ in 0..be32(area, 16) {
+        places += at as u64;
+        while area[at] != 0 {
+            at += 1;
+        }
+        at += 5 + (be32(area, at + 1) as i32).unsigned_abs() as usize;
+    }
+    places
+}
+
 /// Steps from set to set of an index area, and adds up their places.
 pub fn stepping_sets(area: &[u8]) -> u64 {
     let mut at = 4;

@@ -102,6 +102,27 @@ pub fn update_nodes(journal: &[u8], wanted: Wanted) {
     session(partition);
 }
 
+/// The calls of a session of update-properties, and a refusal by each rule.
+pub fn update_properties(journal: &[u8]) {
+    let partition = Partition::of_properties(journal);
+    let cut = Partition::of_properties(&journal[..journal.len() - 1]);
+    let mut no_name = journal.to_vec();
+    no_name[8] = 0;
+    refusal(&partition, -3, |own| own.put_word(12, 1));
+    refusal(&partition, -3, |own| own.put_word(12, 3 * AREA_SIZE as u32));
+    refusal(&partition, -3, |own| own.put_word(16, 4));
+    refusal(&cut, -1, |_| ());
+    refusal(&Partition::of_properties(&no_name), -1, |_| ());
+    for at in [0, 3, 8, 15] {
+        refusal(&partition, -3, |own| own.area()[at] ^= 1);
+    }
+    let second = partition.clone().property_states(&SIDES[0])[1];
+    for state in [1, second - 1, second + 1, journal.len() as u32, 0x8000_0000 + second] {
+        refusal(&partition, -3, |own| own.begin(state));
+    }
+    session(partition);
+}
+
 /// The calls of a session of get-indices, and a refusal by each rule.
 pub fn get_indices(inventory: &[u8], asked: Asked) {
     let partition = Partition::of_inventory(inventory, asked);
@@ -173,5 +194,26 @@ fn read_indices_with(side: &Side, area: &[u8], room: usize) -> (u32, Vec<u64>) {
     let mut out = vec![0xa5a5_a5a5; room];
     let reading = (side.read_indices)(area, &mut out);
     out.extend([reading.offset as u64, reading.entries as u64]);
+    (reading.refusal, out)
+}
+
+/// The reading of a property area: it is good, and refused where it is short of a byte, or where the reserved bytes, the
+/// count or the first name is changed.
+pub fn read_properties(area: &[u8], room: usize) {
+    assert_eq!(same("reading", |side| read_properties_with(side, area, room)).0, 0);
+    same("reading", |side| read_properties_with(side, area, room / 2));
+    let refused = |bytes: &[u8]| assert_ne!(same("changed", |side| read_properties_with(side, bytes, room)).0, 0);
+    refused(&area[..area.len() - 1]);
+    for (at, byte) in [(8, 1), (15, 1), (16, 1), (20, 0)] {
+        let mut changed = area.to_vec();
+        changed[at] = byte;
+        refused(&changed);
+    }
+}
+
+fn read_properties_with(side: &Side, area: &[u8], room: usize) -> (u32, Vec<u32>) {
+    let mut out = vec![0xa5a5_a5a5; room];
+    let reading = (side.read_properties)(area, &mut out);
+    out.extend([reading.phandle, reading.state, reading.offset as u32, reading.entries as u32]);
     (reading.refusal, out)
 }

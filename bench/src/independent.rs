@@ -1,10 +1,21 @@
 //! The independent side: document 01 written out plainly (compare/src/paper), which is not meant to be fast.
 
-use crate::interface::{Answer, Asked, IndexReading, Judged, NodeReading, Registration, Side, Wanted, MALFORMED};
+use crate::interface::{
+    Answer, Asked, IndexReading, Judged, NodeReading, PropertyReading, Registration, Side, Wanted, MALFORMED,
+};
 use draugsten_compare::paper::{self, readers, records, scope, Phase};
 
-pub const SIDE: Side =
-    Side { name: "independent", scan_journal, scan_inventory, search, no_registration, call, read_nodes, read_indices };
+pub const SIDE: Side = Side {
+    name: "independent",
+    scan_journal,
+    scan_inventory,
+    search,
+    no_registration,
+    call,
+    read_nodes,
+    read_indices,
+    read_properties,
+};
 
 fn scan_journal(journal: &[u8], wanted: Wanted) -> u64 {
     let Ok(changes) = records::journal(journal) else {
@@ -72,8 +83,8 @@ fn from_paper(registration: &paper::Registration) -> Registration {
 }
 
 /// As many whole entries as there is room for.
-fn put_entries<T: Copy>(out: &mut [T], entries: impl Iterator<Item = [T; 3]>) {
-    for (place, entry) in out.chunks_exact_mut(3).zip(entries) {
+fn put_entries<T: Copy, const ELEMENTS: usize>(out: &mut [T], entries: impl Iterator<Item = [T; ELEMENTS]>) {
+    for (place, entry) in out.chunks_exact_mut(ELEMENTS).zip(entries) {
         place.copy_from_slice(&entry);
     }
 }
@@ -103,6 +114,25 @@ pub fn read_indices(area: &[u8], out: &mut [u64]) -> IndexReading {
         Err(refused) => {
             let offset = refused.offset as usize;
             IndexReading { refusal: refused.number, offset, entries: 0 }
+        }
+    }
+}
+
+pub fn read_properties(area: &[u8], out: &mut [u32]) -> PropertyReading {
+    match readers::read_properties(area) {
+        Ok(read) => {
+            let properties = read.list.iter();
+            put_entries(
+                out,
+                properties
+                    .map(|each| [each.name_at, each.name_length, each.descriptor, each.value_at, each.value_length]),
+            );
+            let entries = read.list.len();
+            PropertyReading { refusal: 0, phandle: read.phandle, state: read.state, offset: 0, entries }
+        }
+        Err(refused) => {
+            let offset = refused.offset as usize;
+            PropertyReading { refusal: refused.number, phandle: 0, state: 0, offset, entries: 0 }
         }
     }
 }

@@ -45,6 +45,17 @@ pub struct IndexReading {
     pub entries: usize,
 }
 
+/// What a property area tells: a refusal with its offset, or the phandle, the state and the number of properties.
+#[repr(C)]
+#[derive(Clone, Copy, PartialEq, Eq, Debug)]
+pub struct PropertyReading {
+    pub refusal: u32,
+    pub phandle: u32,
+    pub state: u32,
+    pub offset: usize,
+    pub entries: usize,
+}
+
 /// What is asked of a journal: the operations of a scope and, in scope 3, of a unit. In all other scopes the unit is 0.
 #[derive(Clone, Copy)]
 pub struct Wanted {
@@ -106,6 +117,8 @@ pub struct Side {
     pub read_nodes: fn(&[u8], u32, &mut [u32]) -> NodeReading,
     /// Three numbers for each entry: index, place of the code in the area, length of the code without its NULs.
     pub read_indices: fn(&[u8], &mut [u64]) -> IndexReading,
+    /// Five words for each property: place and length of its name, its descriptor, place and length of its value.
+    pub read_properties: fn(&[u8], &mut [u32]) -> PropertyReading,
 }
 
 /// The three sides: straightforward Rust, the independent program, and the proved library.

@@ -1,5 +1,6 @@
 //! The journals that are measured.
 
+use crate::interface::LIMIT;
 use crate::random::Xorshift;
 
 /// Two units that differ in the last byte alone.
@@ -21,6 +22,39 @@ fn push_unit(journal: &mut Vec<u8>, random: &mut Xorshift) {
     }
     journal.extend(unit.to_le_bytes());
     journal.extend((random.next() as u32).to_le_bytes());
+}
+
+/// The node whose properties are asked for.
+pub const NODE: u32 = 0x1234_5678;
+
+/// One property of the node, with a value of this length.
+pub fn one_property(length: usize) -> Vec<u8> {
+    properties_in(length + 25, length)
+}
+
+/// As many properties of the node as the limit has room for, with values of this length.
+pub fn properties(length: usize) -> Vec<u8> {
+    properties_in(LIMIT, length)
+}
+
+/// As many properties of the node as so many bytes have room for, with names of 8 to 16 bytes and values of this length,
+/// all of random bytes. A record takes up to 25 bytes beside its value.
+fn properties_in(most: usize, length: usize) -> Vec<u8> {
+    let mut random = Xorshift::new();
+    let mut journal = Vec::new();
+    loop {
+        let name = 8 + usize::from(random.below(9));
+        let size = 8 + name + 1 + length;
+        if journal.len() + size > most {
+            return journal;
+        }
+        journal.extend((size as u16 - 2).to_le_bytes());
+        journal.extend(5u16.to_le_bytes());
+        journal.extend(NODE.to_le_bytes());
+        journal.extend((0..name).map(|_| 1 + random.below(255) as u8));
+        journal.push(0);
+        journal.extend((0..length).map(|_| random.below(256) as u8));
+    }
 }
 
 /// As many deletes of node type 10 as so many bytes have room for.

@@ -4,9 +4,9 @@
 use crate::interface::{Asked, Judged, Side, Wanted};
 
 #[cfg(feature = "stand-in")]
-use crate::independent::{call, no_registration, read_indices, read_nodes};
+use crate::independent::{call, no_registration, read_indices, read_nodes, read_properties};
 #[cfg(not(feature = "stand-in"))]
-use archive::{call, no_registration, read_indices, read_nodes};
+use archive::{call, no_registration, read_indices, read_nodes, read_properties};
 
 /// Whether the library itself is measured.
 pub const REAL: bool = cfg!(not(feature = "stand-in"));
@@ -20,6 +20,7 @@ pub const SIDE: Side = Side {
     call,
     read_nodes,
     read_indices,
+    read_properties,
 };
 
 extern "C" {
@@ -47,7 +48,7 @@ fn search(judged: Judged) -> u32 {
 
 #[cfg(not(feature = "stand-in"))]
 mod archive {
-    use crate::interface::{Answer, IndexReading, NodeReading, Registration};
+    use crate::interface::{Answer, IndexReading, NodeReading, PropertyReading, Registration};
 
     extern "C" {
         fn draugsten_no_registration() -> Registration;
@@ -73,6 +74,13 @@ mod archive {
         ) -> NodeReading;
 
         fn draugsten_read_indices(area: *const u8, area_len: usize, out: *mut u64, out_len: usize) -> IndexReading;
+
+        fn draugsten_read_properties(
+            area: *const u8,
+            area_len: usize,
+            out: *mut u32,
+            out_len: usize,
+        ) -> PropertyReading;
     }
 
     pub fn no_registration() -> Registration {
@@ -111,5 +119,10 @@ mod archive {
     pub fn read_indices(area: &[u8], out: &mut [u64]) -> IndexReading {
         // SAFETY: as above.
         unsafe { draugsten_read_indices(area.as_ptr(), area.len(), out.as_mut_ptr(), out.len()) }
+    }
+
+    pub fn read_properties(area: &[u8], out: &mut [u32]) -> PropertyReading {
+        // SAFETY: as above.
+        unsafe { draugsten_read_properties(area.as_ptr(), area.len(), out.as_mut_ptr(), out.len()) }
     }
 }

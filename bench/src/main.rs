@@ -18,7 +18,8 @@ mod timing;
 
 use inputs::Inputs;
 use report::Measured;
-use rows::{get_indices, growth, readers, scans, slowest, update_nodes, Row};
+use rows::copying::{self, Copying};
+use rows::{get_indices, growth, readers, scans, slowest, update_nodes, update_properties, Row};
 use std::panic;
 use std::path::PathBuf;
 use std::process::ExitCode;
@@ -71,6 +72,11 @@ fn rows(inputs: &Inputs, effort: Effort, mut tell: impl FnMut(Row)) {
             tell(measure(name, journal, *wanted, effort));
         }
     }
+    for measure in [update_properties::one_call, update_properties::session] {
+        for (name, journal) in &inputs.properties {
+            tell(measure(name, journal, effort));
+        }
+    }
     for (name, inventory, asked) in inputs.all_inventories() {
         tell(get_indices::one_call(name, inventory, *asked, effort));
     }
@@ -83,6 +89,9 @@ fn rows(inputs: &Inputs, effort: Effort, mut tell: impl FnMut(Row)) {
     for (name, area) in &inputs.index_areas {
         tell(readers::indices(name, area, effort));
     }
+    for (name, area) in &inputs.property_areas {
+        tell(readers::properties(name, area, effort));
+    }
 }
 
 /// Holds the sides to each other over all that is measured; panics where they differ.
@@ -91,6 +100,9 @@ fn check_sides(inputs: &Inputs) {
     for (_, journal, wanted) in &inputs.journals {
         check::journal_scan(journal);
         check::update_nodes(journal, *wanted);
+    }
+    for (_, journal) in inputs.properties.iter().chain(&inputs.copied) {
+        check::update_properties(journal);
     }
     for (_, inventory, asked) in inputs.all_inventories() {
         check::inventory_scan(inventory, *asked);
@@ -103,9 +115,17 @@ fn check_sides(inputs: &Inputs) {
     for (_, area) in &inputs.index_areas {
         check::read_indices(area, readers::INDICES_ROOM);
     }
+    for (_, area) in &inputs.property_areas {
+        check::read_properties(area, readers::PROPERTIES_ROOM);
+    }
     for size in growth::SIZES {
         check::update_nodes(&journal::mixed(size), inputs::SCOPE_1);
     }
+}
+
+/// The sessions of long values beside memcpy.
+fn copies(inputs: &Inputs, effort: Effort) -> Vec<Copying> {
+    inputs.copied.iter().map(|(name, journal)| copying::copying(name, journal, effort)).collect()
 }
 
 /// One run.
@@ -118,9 +138,11 @@ fn measure(inputs: &Inputs, effort: Effort) -> Measured {
     });
     let growth = growth::growth(effort);
     report::print_growth(&growth);
+    let copying = copies(inputs, effort);
+    report::print_copying(&copying);
     let slowest = slowest::slowest(inputs, effort);
     report::print_slowest(&slowest);
-    Measured { machine: report::machine(), effort, runs: 1, rows: told, growth, slowest }
+    Measured { machine: report::machine(), effort, runs: 1, rows: told, growth, copying, slowest }
 }
 
 /// So many runs: the last one, with the ranges over all.

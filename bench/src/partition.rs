@@ -1,15 +1,17 @@
 //! A partition that makes calls: its argument buffer, memory and registration, and what the platform has for it.
 
 use crate::interface::{Asked, Registration, Side, Wanted};
+use crate::journal::NODE;
 use crate::library;
 
 /// The place and the size of every work area.
 pub const AREA_AT: usize = 4096;
 pub const AREA_SIZE: usize = 4096;
 
-/// The token of update-nodes; the other calls are of get-indices.
+/// The tokens of the calls.
 const UPDATE_NODES: u32 = 1;
 const GET_INDICES: u32 = 2;
+const UPDATE_PROPERTIES: u32 = 4;
 /// Where get-indices has its Starting Number and its outputs.
 const STARTING_NUMBER: usize = 28;
 const NEXT_NUMBER: usize = 36;
@@ -50,6 +52,11 @@ impl<'a> Partition<'a> {
         Partition::new(&args, &[], inventory)
     }
 
+    /// A partition that asks for the changes of a node's properties in a journal.
+    pub fn of_properties(journal: &'a [u8]) -> Partition<'a> {
+        Partition::new(&[UPDATE_PROPERTIES, 2, 1, AREA_AT as u32, 1, 0], journal, &[])
+    }
+
     pub fn word(&self, at: usize) -> u32 {
         u32::from_be_bytes(self.args[at..at + 4].try_into().unwrap())
     }
@@ -64,19 +71,25 @@ impl<'a> Partition<'a> {
 
     /// Makes ready for a call from a state or a Starting Number on.
     pub fn begin(&mut self, from: u32) {
-        if self.word(0) == UPDATE_NODES {
-            let unit = self.unit.to_be_bytes();
-            self.area()[..4].copy_from_slice(&from.to_be_bytes());
-            self.area()[4..12].copy_from_slice(&unit);
-            self.area()[12..16].fill(0);
-        } else {
-            self.put_word(STARTING_NUMBER, from);
+        match self.word(0) {
+            UPDATE_NODES => {
+                let unit = self.unit.to_be_bytes();
+                self.area()[..4].copy_from_slice(&from.to_be_bytes());
+                self.area()[4..12].copy_from_slice(&unit);
+                self.area()[12..16].fill(0);
+            }
+            UPDATE_PROPERTIES => {
+                self.area()[..4].copy_from_slice(&NODE.to_be_bytes());
+                self.area()[4..8].copy_from_slice(&from.to_be_bytes());
+                self.area()[8..16].fill(0);
+            }
+            _ => self.put_word(STARTING_NUMBER, from),
         }
     }
 
     /// Makes ready for the first call of a session.
     pub fn begin_session(&mut self) {
-        self.begin(if self.word(0) == UPDATE_NODES { 0 } else { 1 });
+        self.begin(if self.word(0) == GET_INDICES { 1 } else { 0 });
     }
 
     /// Makes ready for the call after an answered one.
@@ -105,6 +118,21 @@ impl<'a> Partition<'a> {
         let number = self.call(side);
         assert!(number == 0 && self.status() >= 0);
         self.status() as u64
+    }
+
+    /// The state that the area of update-properties carries.
+    pub fn property_state(&mut self) -> u32 {
+        u32::from_be_bytes(self.area()[4..8].try_into().unwrap())
+    }
+
+    /// The states that a session of update-properties carries, from 0 on.
+    pub fn property_states(&mut self, side: &Side) -> Vec<u32> {
+        self.begin_session();
+        let mut states = vec![0];
+        while self.call(side) == 0 && self.status() == 1 {
+            states.push(self.property_state());
+        }
+        states
     }
 
     /// Calls until one says done. Gives their number.

@@ -6,9 +6,11 @@ mod inventory;
 mod journal;
 mod read_indices;
 mod read_nodes;
+mod read_properties;
 #[cfg(test)]
 mod tests;
 mod update_nodes;
+mod update_properties;
 mod words;
 
 use crate::interface::{Answer, Registration, Side};
@@ -23,6 +25,7 @@ pub const SIDE: Side = Side {
     call,
     read_nodes: read_nodes::read_nodes,
     read_indices: read_indices::read_indices,
+    read_properties: read_properties::read_properties,
 };
 
 /// The status of a malformed journal or inventory.
@@ -62,6 +65,7 @@ fn number(args: &mut [u8], memory: &mut [u8], journal: &[u8], inventory: &[u8]) 
     let (inputs, outputs) = args.split_at_mut(outputs_at);
     let status = match (be32(inputs, 0), counts) {
         (1, (2, 1)) => update_nodes::update_nodes(&inputs[12..], memory, journal),
+        (4, (2, 1)) => update_properties::update_properties(&inputs[12..], memory, journal),
         (2, (5, 2)) => get_indices::get_indices(&inputs[12..], &mut outputs[4..8], memory, inventory),
         _ => Err(PARAMETER),
     };

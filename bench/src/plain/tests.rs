@@ -8,6 +8,8 @@ use std::collections::BTreeMap;
 const SIDES: [Side; 2] = [plain::SIDE, independent::SIDE];
 const CASES: usize = 20_000;
 const AREA: usize = 4096;
+/// Nodes that are easily taken for each other.
+const NODES: [u32; 3] = [1, 0x0100_0000, 0x101];
 /// Units that are easily taken for each other.
 const UNITS: [u64; 4] = [0, 1, 1 << 32, 1 << 56];
 
@@ -25,11 +27,15 @@ fn spoil(random: &mut Xorshift, bytes: &mut [u8], within: usize) {
 }
 
 fn journal(random: &mut Xorshift) -> Vec<u8> {
-    let kinds = pick(random, &[&[1][..], &[1, 2], &[1, 2, 3], &[1, 2, 3, 4], &[4]]);
+    let kinds = pick(random, &[&[1][..], &[1, 2], &[1, 2, 3], &[1, 2, 3, 4], &[4], &[1, 2, 3, 4, 5, 6], &[5, 5, 5, 6]]);
     let records = if random.below(2) == 0 { random.below(20) } else { 1000 + random.below(2500) };
     let mut journal = Vec::new();
     for _ in 0..records {
         let kind: u16 = pick(random, kinds);
+        if kind > 4 {
+            push_property(random, &mut journal, kind);
+            continue;
+        }
         let length: u16 = [8, 8, 12, 16][usize::from(kind) - 1];
         let node = if kind == 4 { 15 + random.below(2) } else { 1 + random.below(14) };
         [length, kind, node].iter().for_each(|half| journal.extend(half.to_le_bytes()));
@@ -41,6 +47,22 @@ fn journal(random: &mut Xorshift) -> Vec<u8> {
     }
     spoil(random, &mut journal, AREA);
     journal
+}
+
+/// A property of one of the nodes; once in a while its name or its value is too long.
+fn push_property(random: &mut Xorshift, journal: &mut Vec<u8>, kind: u16) {
+    let name = if random.below(3000) == 0 { random.below(2) * 32 } else { 1 + random.below(31) };
+    let value = match random.below(200) {
+        _ if kind == 6 => 0,
+        0 => 4000 + random.below(100),
+        1 if random.below(20) == 0 => 32_767 + random.below(3),
+        2..=40 => 0,
+        _ => random.below(40),
+    };
+    [2 + 4 + name + 1 + value, kind].iter().for_each(|half| journal.extend(half.to_le_bytes()));
+    journal.extend(pick(random, &NODES).to_le_bytes());
+    journal.extend((0..name).map(|_| 1 + random.below(255) as u8));
+    journal.extend((0..=value).map(|place| if place == 0 { 0 } else { random.below(4) as u8 }));
 }
 
 /// Mostly that of a short code; once in a while one that is too long.
@@ -66,11 +88,12 @@ fn inventory(random: &mut Xorshift) -> Vec<u8> {
     inventory
 }
 
-/// An argument buffer of the first two calls, nearly always with counts of their own.
+/// An argument buffer of the three calls, nearly always with counts of their own.
 fn arguments(random: &mut Xorshift) -> Vec<u8> {
     let at = pick(random, &[0, 4096, 4096, 4096, 8192, 4097]);
-    let words = if random.below(2) == 0 {
-        vec![1, 2, 1, at, pick(random, &[1, 1, 2, 3, 3, 4, u32::MAX]), 7]
+    let token = pick(random, &[1, 2, 4, 4]);
+    let words = if token != 2 {
+        vec![token, 2, 1, at, pick(random, &[1, 1, 2, 3, 3, 4, u32::MAX]), 7]
     } else {
         let size = pick(random, &[4096, 4096, 1036, 1035, 100, 92, 15, 3, u32::MAX]);
         let number = pick(random, &[0, 1, 1, 2, 20, 1000]);
@@ -97,6 +120,20 @@ fn memory(random: &mut Xorshift) -> Vec<u8> {
     memory
 }
 
+/// Memory whose area begins with a node and 0 or a later state of its session, or one that is not.
+fn property_memory(random: &mut Xorshift, journal: &[u8]) -> Vec<u8> {
+    let mut memory = vec![0xa5; 3 * AREA];
+    memory[AREA..AREA + 16].fill(0);
+    memory[AREA..AREA + 4].copy_from_slice(&pick(random, &NODES).to_be_bytes());
+    let none = Registration { phase: 0, length: 0, copy: [0; 512] };
+    for _ in 0..random.below(4) {
+        let mut args: Vec<u8> = [4, 2, 1, AREA as u32, 1, 0].iter().flat_map(|word| word.to_be_bytes()).collect();
+        (plain::SIDE.call)(&mut args, &mut memory, journal, &[], none);
+    }
+    spoil(random, &mut memory[AREA..], 16);
+    memory
+}
+
 /// The readings of an area and what they write, on one side.
 fn readings(side: &Side, area: &[u8]) -> impl PartialEq {
     let mut numbers = vec![7; 300];
@@ -105,7 +142,9 @@ fn readings(side: &Side, area: &[u8]) -> impl PartialEq {
         ((side.read_nodes)(area, scope, &mut words), words)
     });
     let indices = (side.read_indices)(area, &mut numbers);
-    (nodes, indices, numbers)
+    let mut words = vec![7; 1000];
+    let properties = (side.read_properties)(area, &mut words);
+    (nodes, indices, numbers, properties, words)
 }
 
 /// What a call answered: its token, number and status.
@@ -118,7 +157,9 @@ fn told(number: u32, args: &[u8]) -> (u32, u32, i32) {
 /// One case: a call, and the readings of what it left, spoilt or not.
 fn case(random: &mut Xorshift) -> (u32, u32, i32) {
     let (journal, inventory) = (journal(random), inventory(random));
-    let (args, memory) = (arguments(random), memory(random));
+    let args = arguments(random);
+    let of_properties = args.starts_with(&[0, 0, 0, 4]);
+    let memory = if of_properties { property_memory(random, &journal) } else { memory(random) };
     let none = Registration { phase: 0, length: 0, copy: [0; 512] };
     let [left, right] = SIDES.map(|side| {
         let (mut args, mut memory) = (args.clone(), memory.clone());
@@ -140,7 +181,7 @@ fn answers_as_the_independent_program() {
     for _ in 0..CASES {
         *seen.entry(case(&mut random)).or_insert(0) += 1;
     }
-    for token in [1, 2] {
+    for token in [1, 2, 4] {
         for status in [0, 1, -1, -3] {
             let cases = seen.get(&(token, 0, status)).copied().unwrap_or(0);
             assert!(cases >= 50, "token {token}, status {status}: {cases} cases");

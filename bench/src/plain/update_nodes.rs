@@ -91,6 +91,9 @@ fn write_operands(
     while left > 0 {
         let (record, behind) = rest.split_at(2 + usize::from(le16(rest, 0)));
         rest = behind;
+        if le16(record, 2) > 4 {
+            continue;
+        }
         let of_unit = le16(record, 2) == 4;
         let (opcode, operands) = if of_unit { (1, 14) } else { (usize::from(le16(record, 2)) - 1, 6) };
         let part = &mut run[opcode];

@@ -2,6 +2,7 @@
 
 use super::{grouped, micros, range, ratio, ratio_text, warning, Measured};
 use crate::library;
+use crate::rows::copying::Copying;
 use crate::rows::growth::{each, Growth};
 use crate::rows::slowest::{Slowest, ALLOWED};
 use crate::rows::Row;
@@ -26,6 +27,12 @@ pub fn page(measured: &Measured) -> String {
     lines.push(String::from("\n## How a session grows\n"));
     lines.push(String::from("A session of update-nodes over a mixed journal; every call judges the whole journal.\n"));
     lines.extend(growth(&measured.growth));
+    lines.push(String::from("\n## Copying values\n"));
+    lines.push(String::from(
+        "A session of update-properties, beside memcpy of the journal's bytes into one area, an area's worth at a time. \
+        Over many values each call also judges the whole journal and follows the session to its state.\n",
+    ));
+    lines.extend(copying(&measured.copying));
     lines.join("\n") + "\n"
 }
 
@@ -102,6 +109,21 @@ fn growth(sizes: &[Growth]) -> Vec<String> {
     heading(&names, 0).into_iter().chain(lines).collect()
 }
 
+fn copying(sessions: &[Copying]) -> Vec<String> {
+    let names = ["over", "bytes", "memcpy", "Rust", library::SIDE.name, "/ memcpy"];
+    let lines = sessions.iter().map(|session| {
+        line(&[
+            session.over.clone(),
+            grouped(session.bytes as u64),
+            micros(session.memcpy),
+            micros(session.rust),
+            micros(session.proved),
+            ratio(session.proved, session.memcpy),
+        ])
+    });
+    heading(&names, 1).into_iter().chain(lines).collect()
+}
+
 /// How it is measured, in a paragraph.
 fn method(effort: Effort) -> String {
     let Effort { time, least, most } = effort;
@@ -113,13 +135,14 @@ fn method(effort: Effort) -> String {
         after the others of its row: it fills the caches and the branch predictor with its own. Before they are \
         measured, the three sides are held to each other: over every call of every session, every reading, and \
         refusals, they must answer the same and leave the same bytes. *Streaming* adds up the words of the bytes. \
-        *Stepping* goes from record to record by their lengths alone, in a work area from operator to operator or from \
-        entry to entry. Neither judges anything, and beside a session both go over the bytes once for each of its \
+        *Stepping* goes from record to record by their lengths alone, in a work area from operator to operator, from \
+        entry to entry or from property to property. Neither judges anything, and beside a session both go over the bytes once for each of its \
         calls: these are the passes. *Rust* is straightforward safe Rust written for release (`bench/src/plain`), \
         *independent* the rules written out plainly and not for speed (`compare/src/paper`); `cargo build --release` \
         builds both, and `rt staticlib` the proved archives. The scope is 1 where no other is named; in scope 3 one \
         of the two units in the journal is asked for, and of an inventory's types the last. One call of update-nodes \
-        begins at state 0, one of get-indices in the middle of the list; every work area has 4,096 bytes. The scan of \
+        begins at state 0, one of get-indices in the middle of the list, one of update-properties in the middle of the \
+        session; every work area has 4,096 bytes. The scan of \
         an inventory does not hand on the entry due, on any side. The search goes from the first entry of the type to \
         the last, over an inventory that was judged before; the independent program has none, and reads and judges \
         the records once more."

@@ -4,9 +4,10 @@ mod markdown;
 mod plot;
 mod table;
 
-pub use table::{print_growth, print_heading, print_ranges, print_row, print_slowest};
+pub use table::{print_copying, print_growth, print_heading, print_ranges, print_row, print_slowest};
 
 use crate::library;
+use crate::rows::copying::Copying;
 use crate::rows::growth::Growth;
 use crate::rows::slowest::Slowest;
 use crate::rows::{joined, Range, Row};
@@ -22,6 +23,7 @@ pub struct Measured {
     pub runs: usize,
     pub rows: Vec<Row>,
     pub growth: Vec<Growth>,
+    pub copying: Vec<Copying>,
     pub slowest: Vec<Slowest>,
 }
 

@@ -2,6 +2,7 @@
 
 use super::{grouped, micros, range, ratio, ratio_text, warning, Measured};
 use crate::library;
+use crate::rows::copying::Copying;
 use crate::rows::growth::{each, Growth};
 use crate::rows::slowest::{Slowest, ALLOWED};
 use crate::rows::Row;
@@ -12,13 +13,13 @@ pub fn print_heading(effort: Effort) {
         println!("{warning}");
     }
     println!("microseconds, medians of {} to {} turns", effort.least, effort.most);
-    print!("{:<24} {:<24} {:>9} {:>6}", "", "over", "bytes", "passes");
+    print!("{:<30} {:<24} {:>9} {:>6}", "", "over", "bytes", "passes");
     print!(" {:>10} {:>10} {:>10} {:>11} {:>10}", "streaming", "stepping", "Rust", "independent", library::SIDE.name);
     println!(" {:>9} {:>7} {:>7}", "/stepping", "/Rust", "/indep.");
 }
 
 pub fn print_row(row: &Row) {
-    print!("{:<24} {:<24} {:>9} {:>6}", row.what, row.over, grouped(row.bytes as u64), row.passes);
+    print!("{:<30} {:<24} {:>9} {:>6}", row.what, row.over, grouped(row.bytes as u64), row.passes);
     print!(" {:>10} {:>10} {:>10}", micros(row.streaming), micros(row.stepping), micros(row.rust));
     print!(" {:>11} {:>10}", micros(row.independent), micros(row.proved));
     print!(" {:>9} {:>7}", ratio(row.proved, row.stepping), ratio(row.proved, row.rust));
@@ -37,12 +38,24 @@ pub fn print_growth(growth: &[Growth]) {
     }
 }
 
+pub fn print_copying(copying: &[Copying]) {
+    println!(
+        "\nsession of update-properties beside memcpy of the journal's bytes, an area's worth at a time: microseconds"
+    );
+    print!("{:<24} {:>9} {:>10} {:>10} {:>10}", "over", "bytes", "memcpy", "Rust", library::SIDE.name);
+    println!(" {:>8}", "/memcpy");
+    for each in copying {
+        print!("{:<24} {:>9} {:>10}", each.over, grouped(each.bytes as u64), micros(each.memcpy));
+        println!(" {:>10} {:>10} {:>8}", micros(each.rust), micros(each.proved), ratio(each.proved, each.memcpy));
+    }
+}
+
 pub fn print_slowest(slowest: &[Slowest]) {
     println!("\nthe slowest single call of a session, microseconds; source document 002 allows {ALLOWED}");
-    println!("{:<14} {:<24} {:>9} {:>14} {:>8}", "", "over", "bytes", "call", library::SIDE.name);
+    println!("{:<18} {:<24} {:>9} {:>14} {:>8}", "", "over", "bytes", "call", library::SIDE.name);
     for call in slowest {
         let place = format!("{} of {}", call.place, call.calls);
-        print!("{:<14} {:<24} {:>9}", call.what, call.over, grouped(call.bytes as u64));
+        print!("{:<18} {:<24} {:>9}", call.what, call.over, grouped(call.bytes as u64));
         println!(" {place:>14} {:>8}{}", micros(call.time), if call.time > ALLOWED { "  above" } else { "" });
     }
 }
@@ -54,11 +67,11 @@ pub fn print_ranges(measured: &Measured) {
         println!("over {} runs: ratios to Rust, and times of the slowest single call", measured.runs);
         for row in &measured.rows {
             let bytes = grouped(row.bytes as u64);
-            println!("{:<24} {:<24} {bytes:>9} {:>16}", row.what, row.over, range(row.ratios, ratio_text));
+            println!("{:<30} {:<24} {bytes:>9} {:>16}", row.what, row.over, range(row.ratios, ratio_text));
         }
         for call in &measured.slowest {
             let bytes = grouped(call.bytes as u64);
-            println!("{:<24} {:<24} {bytes:>9} {:>16}", call.what, call.over, range(call.times, micros));
+            println!("{:<30} {:<24} {bytes:>9} {:>16}", call.what, call.over, range(call.times, micros));
         }
     }
     println!("{}", measured.summary());

@@ -1,11 +1,13 @@
 //! The rows that are measured, one file for each kind.
 
+pub mod copying;
 pub mod get_indices;
 pub mod growth;
 pub mod readers;
 pub mod scans;
 pub mod slowest;
 pub mod update_nodes;
+pub mod update_properties;
 
 use crate::bare;
 use crate::interface::{Side, SIDES};

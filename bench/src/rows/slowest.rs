@@ -26,7 +26,7 @@ pub struct Slowest {
     pub times: Range,
 }
 
-/// The slowest call over each journal and each inventory.
+/// The slowest call over each journal, each inventory and each journal of properties.
 pub fn slowest(inputs: &Inputs, effort: Effort) -> Vec<Slowest> {
     let journals = inputs.journals.iter().map(|(name, journal, wanted)| {
         let partition = Partition::of_journal(journal, *wanted);
@@ -36,7 +36,11 @@ pub fn slowest(inputs: &Inputs, effort: Effort) -> Vec<Slowest> {
         let partition = Partition::of_inventory(inventory, *asked);
         of_session("get-indices", name, inventory.len(), partition, effort)
     });
-    journals.chain(inventories).collect()
+    let properties = inputs.properties.iter().map(|(name, journal)| {
+        let partition = Partition::of_properties(journal);
+        of_session("update-properties", name, journal.len(), partition, effort)
+    });
+    journals.chain(inventories).chain(properties).collect()
 }
 
 fn of_session(what: &'static str, over: &str, bytes: usize, mut partition: Partition, effort: Effort) -> Slowest {
