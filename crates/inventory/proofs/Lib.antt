@@ -1,3 +1,4 @@
+pub mod Editions
 pub mod Codes
 pub mod RecordLaws
 pub mod Located

@@ -1,3 +1,4 @@
+pub mod Edition
 pub mod Inventory
 pub mod Judging
 pub mod Listing

@@ -35,6 +35,20 @@ impl StartingNumber {
         StartingNumber(1)
     }
 
+    // Whether it is the number of the first entry.
+    pub fn is_first(self) -> bool
+        ensures { λ r. ⌜ r ≡ eqb (self .0) 1 ⌝ }
+    {
+        self.0 == 1
+    }
+
+    // Whether two numbers are the same.
+    pub fn is_same(self, other: StartingNumber) -> bool
+        ensures { λ r. ⌜ r ≡ eqb (self .0) (other .0) ⌝ }
+    {
+        self.0 == other.0
+    }
+
     // Whether the entry due comes next once so many entries were passed.
     pub fn is_next(self, passed: usize) -> bool
         requires { ⌜ passed ≤ sizeLimit ⌝ }
