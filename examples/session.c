@@ -1,7 +1,8 @@
 /*
  * One partition's calls from beginning to end: a session of update-nodes, another one for one unit, a session of
- * update-properties for one node, in which a value is divided, a session of get-indices, and a kernel dump structure that
- * is registered and unregistered. Exits with 1 where something is not as it should be.
+ * update-properties for one node, in which a value is divided, a session of get-indices, during which the inventory is
+ * edited, and a kernel dump structure that is registered and unregistered. Exits with 1 where something is not as it
+ * should be.
  */
 #include "draugsten.h"
 
@@ -35,7 +36,9 @@ struct partition {
     size_t journal_length;
     uint8_t inventory[2048];
     size_t inventory_length;
+    uint32_t edition;       /* of the inventory */
     struct draugsten_registration registration;
+    struct draugsten_reading reading;
 };
 
 static void expect(int holds, const char *what)
@@ -82,6 +85,11 @@ static uint32_t le16(const uint8_t *from)
     return (uint32_t)from[1] << 8 | from[0];
 }
 
+static uint32_t le32(const uint8_t *from)
+{
+    return le16(from + 2) << 16 | le16(from);
+}
+
 /* ---- one call */
 
 /* Makes the argument buffer, calls, and takes the outputs from it. */
@@ -100,9 +108,11 @@ static void call(struct partition *partition, uint32_t token, const uint32_t *in
         put_be32(args + 12 + 4 * i, inputs[i]);
     answer = draugsten_call(args, outputs_at + 4 * output_count, partition->memory, sizeof partition->memory,
                             partition->journal, partition->journal_length, partition->inventory,
-                            partition->inventory_length, partition->registration);
+                            partition->inventory_length, partition->edition, partition->registration,
+                            partition->reading);
     expect(answer.number == DRAUGSTEN_NUMBER_STATUS, "the call has a status");
     partition->registration = answer.registration;
+    partition->reading = answer.reading;
     for (i = 0; i < output_count; i++)
         outputs[i] = be32(args + outputs_at + 4 * i);
 }
@@ -409,6 +419,9 @@ static const struct item items[] = {
 
 enum { ITEMS = sizeof items / sizeof items[0], SHOWN = 24 };
 
+/* The one that is added during the reading. */
+static const struct item added = {INDICATOR, TYPE, 6, "U78D8.ND0.0A1B2C3-P0-C6"};
+
 static size_t put_item(uint8_t *to, const struct item *item)
 {
     size_t code_length = strlen(item->code);
@@ -435,14 +448,37 @@ static void make_inventory(struct partition *partition)
     partition->inventory_length = at;
 }
 
-static size_t count_listed(void)
+/* An edit: the item becomes the first one, so every other has another number. */
+static void edit_inventory(struct partition *partition, const struct item *item)
 {
-    size_t count = 0;
-    size_t i;
+    struct draugsten_edited edited = draugsten_edit(partition->edition);
+    size_t size = 14 + strlen(item->code);
 
-    for (i = 0; i < ITEMS; i++)
-        count += items[i].flag == INDICATOR && items[i].type == TYPE;
-    return count;
+    expect(edited.taken, "the edit is taken");
+    expect(partition->inventory_length + size <= sizeof partition->inventory, "the inventory has room");
+    memmove(partition->inventory + size, partition->inventory, partition->inventory_length);
+    put_item(partition->inventory, item);
+    partition->inventory_length += size;
+    partition->edition = edited.edition;
+    printf("  edited: item %" PRIu32 " is the first one, edition %" PRIu32 "\n", item->index, partition->edition);
+}
+
+/* Whether these are the indices of all indicators of the type in the inventory, in order. */
+static int are_listed(const struct partition *partition, const uint32_t *indices, size_t count)
+{
+    size_t found = 0;
+    size_t at;
+
+    for (at = 0; at < partition->inventory_length; at += 2 + le16(partition->inventory + at)) {
+        const uint8_t *record = partition->inventory + at;
+
+        if (le16(record + 4) != INDICATOR || le32(record + 6) != TYPE)
+            continue;
+        if (found == count || indices[found] != le32(record + 10))
+            return 0;
+        found++;
+    }
+    return found == count;
 }
 
 /* The code, or how it begins and its length. */
@@ -454,8 +490,8 @@ static void print_code(const char *code, uint64_t length)
         printf("%.*s.. of %" PRIu64 " bytes\n", SHOWN, code, length);
 }
 
-/* Reads the area that an answered call left; gives the number of its entries. */
-static size_t read_index_area(const struct partition *partition)
+/* Reads the area that an answered call left. Its indices are put from `count` on; gives their end. */
+static size_t read_index_area(const struct partition *partition, uint32_t *indices, size_t count)
 {
     const uint8_t *area = partition->memory + INDEX_AREA;
     uint64_t numbers[DRAUGSTEN_INDEX_AREA_SUFFICIENT / 4] = {0};
@@ -465,32 +501,58 @@ static size_t read_index_area(const struct partition *partition)
     reading = draugsten_read_indices(area, DRAUGSTEN_INDEX_AREA_SUFFICIENT, numbers,
                                      sizeof numbers / sizeof numbers[0]);
     expect(reading.refusal == DRAUGSTEN_REFUSAL_NONE, "the index area is read");
+    expect(count + reading.entries <= ITEMS + 1, "there are no more entries than items");
     for (i = 0; i < reading.entries; i++) {
         const uint64_t *entry = numbers + DRAUGSTEN_ENTRY_ELEMENTS * i;
 
         printf("    %" PRIu64 " ", entry[0]);
         print_code((const char *)area + entry[1], entry[2]);
+        indices[count + i] = (uint32_t)entry[0];
     }
-    return reading.entries;
+    return count + reading.entries;
 }
 
+/* Gives the status. An answer puts the Next Starting Number in the place of the number asked for. */
+static uint32_t get_indices(struct partition *partition, uint32_t *number)
+{
+    uint32_t inputs[5] = {INDICATOR, TYPE, INDEX_AREA, DRAUGSTEN_INDEX_AREA_SUFFICIENT, *number};
+    uint32_t outputs[2];
+
+    call(partition, DRAUGSTEN_TOKEN_GET_INDICES, inputs, 5, outputs, 2);
+    if (is_answered(outputs[0]))
+        *number = outputs[1];
+    return outputs[0];
+}
+
+/* The inventory is edited after the first call. The second one gets -4: the entries so far are dropped, and the reading
+ * begins again. */
 static void run_index_session(struct partition *partition)
 {
-    uint32_t outputs[2] = {DRAUGSTEN_STATUS_CALL_AGAIN, 1};
+    uint32_t indices[ITEMS + 1];
+    uint32_t status = DRAUGSTEN_STATUS_CALL_AGAIN;
+    uint32_t number = 1;
     size_t entries = 0;
+    int calls;
 
     make_inventory(partition);
-    printf("get-indices, indicators of type %d\n", TYPE);
-    while (outputs[0] == DRAUGSTEN_STATUS_CALL_AGAIN) {
-        uint32_t inputs[5] = {INDICATOR, TYPE, INDEX_AREA, DRAUGSTEN_INDEX_AREA_SUFFICIENT, outputs[1]};
-
-        call(partition, DRAUGSTEN_TOKEN_GET_INDICES, inputs, 5, outputs, 2);
-        expect(is_answered(outputs[0]), "get-indices is answered");
-        printf("  status %" PRIu32 ", next %" PRIu32 "\n", outputs[0], outputs[1]);
-        entries += read_index_area(partition);
+    printf("get-indices, indicators of type %d, edition %" PRIu32 "\n", TYPE, partition->edition);
+    for (calls = 0; status != DRAUGSTEN_STATUS_DONE; calls++) {
+        if (calls == 1)
+            edit_inventory(partition, &added);
+        status = get_indices(partition, &number);
+        if (status == DRAUGSTEN_STATUS_CHANGED) {
+            expect(calls == 1, "-4 comes after the edit alone");
+            printf("  status %" PRId32 ", begin again\n", (int32_t)status);
+            number = 1;
+            entries = 0;
+            continue;
+        }
+        expect(is_answered(status), "get-indices is answered");
+        printf("  status %" PRIu32 ", next %" PRIu32 "\n", status, number);
+        entries = read_index_area(partition, indices, entries);
     }
-    expect(entries == count_listed(), "every indicator of the type is listed");
-    printf("  %zu entries\n", entries);
+    expect(are_listed(partition, indices, entries), "every indicator of the type is listed, in order, once");
+    printf("  %zu entries of edition %" PRIu32 "\n", entries, partition->edition);
 }
 
 /* ---- the kernel dump */
@@ -539,6 +601,7 @@ int main(void)
     static struct partition partition;
 
     partition.registration = draugsten_no_registration();
+    partition.reading = draugsten_no_reading();
     run_node_session(&partition);
     run_unit_session(&partition);
     run_property_session(&partition);

@@ -54,6 +54,8 @@ extern "C" {
  */
 #define DRAUGSTEN_STACK_CALL 6144
 #define DRAUGSTEN_STACK_NO_REGISTRATION 128
+#define DRAUGSTEN_STACK_NO_READING 128
+#define DRAUGSTEN_STACK_EDIT 128
 #define DRAUGSTEN_STACK_READ_NODES 256
 #define DRAUGSTEN_STACK_READ_INDICES 256
 #define DRAUGSTEN_STACK_READ_PROPERTIES 256
@@ -70,7 +72,7 @@ enum draugsten_token {
 
 /*
  * The number of a call. The checks come in this order: 13; under 12 bytes, 10; 12; under the declared size, 10; 11.
- * Any number but 0 leaves every buffer and the registration as they were.
+ * Any number but 0 leaves every buffer, the registration and the reading record as they were.
  */
 enum draugsten_number {
     DRAUGSTEN_NUMBER_STATUS = 0,                /* the status is in the argument buffer */
@@ -85,6 +87,7 @@ enum draugsten_number {
 #define DRAUGSTEN_STATUS_CALL_AGAIN 0x00000001u             /* 1: more remains */
 #define DRAUGSTEN_STATUS_MALFORMED 0xffffffffu              /* -1: the journal or inventory is malformed */
 #define DRAUGSTEN_STATUS_PARAMETER 0xfffffffdu              /* -3: an input, the token, the counts or the area */
+#define DRAUGSTEN_STATUS_CHANGED 0xfffffffcu                /* -4: the inventory's edition is not the reading's */
 #define DRAUGSTEN_STATUS_ALREADY_REGISTERED 0xfffffff7u     /* -9 */
 #define DRAUGSTEN_STATUS_DUMP_ACTIVE 0xfffffff6u            /* -10 */
 
@@ -108,13 +111,45 @@ struct draugsten_registration {
     uint8_t copy[DRAUGSTEN_STRUCTURE_LIMIT];    /* the structure, then zero bytes */
 };
 
+/*
+ * The record of a partition's reading in progress: the list of get-indices that is read, how far, and in which edition of
+ * the inventory. Every value is a record.
+ */
+struct draugsten_reading {
+    uint32_t flag;                              /* 0 indicator or 1 sensor */
+    uint32_t type;
+    uint32_t number;                            /* Starting Number of the first entry not yet handed out */
+    uint32_t edition;                           /* of the inventory when the reading began */
+};
+
+/*
+ * What a call gives. The platform keeps the registration and the reading record, one of each for each partition, and gives
+ * each call those that the partition's call before it handed back. So the calls of one partition come one after the other.
+ */
 struct draugsten_answer {
     uint32_t number;                            /* enum draugsten_number */
     struct draugsten_registration registration; /* the one to give the partition's next call */
+    struct draugsten_reading reading;           /* the one to give the partition's next call */
+};
+
+/* What comes of an edit of the inventory. */
+struct draugsten_edited {
+    uint32_t taken;                             /* 1; 0 where the edit is not to be made */
+    uint32_t edition;                           /* of the inventory afterwards */
 };
 
 /* The registration that a partition starts with: phase 0, length 0, 512 zero bytes. */
 struct draugsten_registration draugsten_no_registration(void);
+
+/* The reading record that a partition starts with: no reading in progress, which is 0, 0, 1, 0. */
+struct draugsten_reading draugsten_no_reading(void);
+
+/*
+ * What an edit makes of the inventory's edition: taken 1, and the edition + 1. At 0xffffffff no edit is taken: taken 0,
+ * and the edition as it was. The platform asks before each edit, makes it only where it is taken, and gives the calls that
+ * follow the new inventory with the new edition.
+ */
+struct draugsten_edited draugsten_edit(uint32_t edition);
 
 /*
  * One RTAS call.
@@ -148,7 +183,11 @@ struct draugsten_registration draugsten_no_registration(void);
  *            kind is refused by both.
  * inventory  What get-indices lists; no other call looks at it. Records, little-endian: length (2), kind 16 (2),
  *            0 indicator or 1 sensor (2), type (4), index (4), location code (1 to 1,023 bytes, none zero).
+ * edition    The edition of this inventory. Only get-indices looks at it.
  * registration  As the partition's last call gave it. Only an answered configure-kernel-dump changes it.
+ * reading    The reading record, as the partition's last call gave it; no other call than get-indices looks at it. With
+ *            status 1 a get-indices makes it name the flag, the type, the Next Starting Number and the edition; with 0 or
+ *            -4 it clears it to no reading in progress. With any other status, and by any other call, it stays.
  *
  * A session of update-nodes begins with sixteen zero bytes at the head of the area. In scope 3 it begins with four zero
  * bytes, the unit address (8 bytes, big-endian) and four zero bytes, and only records of that unit are reported. An
@@ -166,12 +205,18 @@ struct draugsten_registration draugsten_no_registration(void);
  * that no record of kind 5 or 6 carries, bytes 8 to 15 that are not zero, and a state that the node's session, begun at
  * 0, never carries.
  *
- * A session of get-indices begins with Starting Number 1; while the status is 1, the next call has the Next Starting
- * Number.
+ * A session of get-indices begins with Starting Number 1, whatever the record holds; while the status is 1, the next call
+ * has the Next Starting Number. A Starting Number other than 1 is held against the record, after the checks of flag, type,
+ * size and address and before that of the inventory: where flag, type or number differ, the status is -3; then, where the
+ * edition differs, -4. With no reading in progress every number but 1 differs. After -4 the partition drops the entries
+ * that it was handed and begins again with Starting Number 1. So a session that ends with status 0 has handed out the
+ * whole list of one edition, in order, each entry once. A partition has one reading in progress at the most: an answered
+ * call with Starting Number 1 ends the one before it.
  */
 struct draugsten_answer draugsten_call(uint8_t *args, size_t args_length, uint8_t *memory, size_t memory_length,
                                        const uint8_t *journal, size_t journal_length, const uint8_t *inventory,
-                                       size_t inventory_length, struct draugsten_registration registration);
+                                       size_t inventory_length, uint32_t edition,
+                                       struct draugsten_registration registration, struct draugsten_reading reading);
 
 /* ---- readers */
 

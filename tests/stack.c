@@ -12,10 +12,12 @@
 
 enum {
     STACK = 65536,
+    CALLS = 5,
     NODE_AREA = 0x1000,
     INDEX_AREA = 0x2000,
     INDEX_AREA_SIZE = 12 + DRAUGSTEN_INDEX_AREA_SUFFICIENT, /* of the short code and the long one */
     PROPERTY_AREA = 0x3000,
+    EDITION = 8,
     NODE = 9,
     LONG_VALUE = 5000,                                      /* which is divided */
     NODES_SIZE = 34,                                        /* of the journal's records of nodes */
@@ -52,6 +54,8 @@ __attribute__((naked, used)) static void only_return(void)
 
 /* What is called in the place of each function: itself, or the one that only returns. */
 static __typeof__(draugsten_no_registration) *no_registration;
+static __typeof__(draugsten_no_reading) *no_reading;
+static __typeof__(draugsten_edit) *edit;
 static __typeof__(draugsten_call) *call;
 static __typeof__(draugsten_read_nodes) *read_nodes;
 static __typeof__(draugsten_read_indices) *read_indices;
@@ -61,6 +65,8 @@ static void choose(int library)
 {
     void *nothing = (void *)only_return;
     no_registration = library ? draugsten_no_registration : (__typeof__(no_registration))nothing;
+    no_reading = library ? draugsten_no_reading : (__typeof__(no_reading))nothing;
+    edit = library ? draugsten_edit : (__typeof__(edit))nothing;
     call = library ? draugsten_call : (__typeof__(call))nothing;
     read_nodes = library ? draugsten_read_nodes : (__typeof__(read_nodes))nothing;
     read_indices = library ? draugsten_read_indices : (__typeof__(read_indices))nothing;
@@ -74,35 +80,59 @@ static uint8_t journal[LONG_RECORD + 10 + LONG_VALUE] = {
     10, 0, 5, 0, NODE, 0, 0, 0, 'a', 0, 'v', 'w', 9, 0, 6, 0, NODE, 0, 0, 0, 'b', 'c', 0};
 static uint8_t inventory[17 + 14 + DRAUGSTEN_CODE_LIMIT] = {15, 0, 16, 0, 1, 0, 7, 0, 0, 0, 9, 0, 0, 0, 'U', '7', '8'};
 
-/* The words of an argument buffer for a call of each kind that is answered. */
-static const uint32_t calls[4][10] = {
+/* The words of an argument buffer for a call of each kind that is answered; of get-indices one goes on with the reading,
+ * and one begins afresh. */
+static const uint32_t calls[CALLS][10] = {
     {DRAUGSTEN_TOKEN_UPDATE_NODES, 2, 1, NODE_AREA, 1},
+    {DRAUGSTEN_TOKEN_GET_INDICES, 5, 2, 1, 7, INDEX_AREA, INDEX_AREA_SIZE, 2},
     {DRAUGSTEN_TOKEN_GET_INDICES, 5, 2, 1, 7, INDEX_AREA, INDEX_AREA_SIZE, 1},
     {DRAUGSTEN_TOKEN_UPDATE_PROPERTIES, 2, 1, PROPERTY_AREA, 1},
     {DRAUGSTEN_TOKEN_CONFIGURE_KERNEL_DUMP, 3, 1, DRAUGSTEN_COMMAND_REGISTER, 0, 80},
 };
 
+static const struct draugsten_reading in_progress = {1, 7, 2, EDITION};
 static struct draugsten_registration registration;
+static struct draugsten_reading reading;
+static struct draugsten_edited edited;
 static struct draugsten_answer answer;
+static int answered;
 static struct draugsten_node_reading node_reading;
 static struct draugsten_index_reading index_reading;
 static struct draugsten_property_reading property_reading;
 
 /* ---- what is measured */
 
-static void starting(void)
+static void starting_registration(void)
 {
     registration = no_registration();
+}
+
+static void starting_reading(void)
+{
+    reading = no_reading();
+}
+
+static void editing(void)
+{
+    edited = edit(EDITION);
+}
+
+/* Whether the last call is answered, by its number and its status word. */
+static int is_answered(const uint8_t *status)
+{
+    return answer.number == DRAUGSTEN_NUMBER_STATUS && status[0] == 0 && status[3] <= DRAUGSTEN_STATUS_CALL_AGAIN;
 }
 
 static void calling(void)
 {
     memset(memory + PROPERTY_AREA + 4, 0, 12); /* the session's start */
-    for (int i = 0; i < 4; i++) {
+    answered = 0;
+    for (int i = 0; i < CALLS; i++) {
         for (int byte = 0; byte < 40; byte++)
             args[byte] = (uint8_t)(calls[i][byte / 4] >> (24 - 8 * (byte % 4)));
         answer = call(args, sizeof args, memory, sizeof memory, journal, sizeof journal, inventory, sizeof inventory,
-                      registration);
+                      EDITION, registration, in_progress);
+        answered += is_answered(args + 12 + 4 * calls[i][1]);
     }
 }
 
@@ -174,13 +204,15 @@ static void prepare(void)
 int main(void)
 {
     prepare();
-    measure("draugsten_no_registration", starting, DRAUGSTEN_STACK_NO_REGISTRATION);
+    measure("draugsten_no_registration", starting_registration, DRAUGSTEN_STACK_NO_REGISTRATION);
+    measure("draugsten_no_reading", starting_reading, DRAUGSTEN_STACK_NO_READING);
+    measure("draugsten_edit", editing, DRAUGSTEN_STACK_EDIT);
     measure("draugsten_call", calling, DRAUGSTEN_STACK_CALL);
     measure("draugsten_read_nodes", reading_nodes, DRAUGSTEN_STACK_READ_NODES);
     measure("draugsten_read_indices", reading_indices, DRAUGSTEN_STACK_READ_INDICES);
     measure("draugsten_read_properties", reading_properties, DRAUGSTEN_STACK_READ_PROPERTIES);
-    if (answer.registration.length != 80 || node_reading.entries != 3 || index_reading.entries != 2 ||
-        property_reading.entries != 3) {
+    if (reading.number != 1 || edited.edition != EDITION + 1 || answered != CALLS || answer.registration.length != 80 ||
+        node_reading.entries != 3 || index_reading.entries != 2 || property_reading.entries != 3) {
         puts("stack: a call or a reading did not do its work");
         faults++;
     }

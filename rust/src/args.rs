@@ -25,7 +25,8 @@ pub struct IndexRequest {
     pub address: u32,
     /// The work area's bytes. [`SUFFICIENT_SIZE`] hold any entry that is due.
     pub size: u32,
-    /// The first entry asked for, counted from 1.
+    /// The first entry asked for, counted from 1. 1 begins a reading; any other has to be the one that the reading record
+    /// names.
     pub starting_number: u32,
 }
 

@@ -2,6 +2,7 @@
 
 use crate::args::word;
 use crate::ffi;
+use crate::reading_record::{Edition, ReadingRecord};
 use crate::registration::Registration;
 use std::fmt;
 
@@ -29,6 +30,8 @@ pub enum Fault {
     Malformed = -1,
     /// Status -3: an input, the token, the counts or the work area.
     Parameter = -3,
+    /// Status -4: the inventory's edition is not the reading's. The partition begins again with Starting Number 1.
+    Changed = -4,
     /// Status -9: a structure is registered already.
     AlreadyRegistered = -9,
     /// Status -10: a dump is active.
@@ -46,16 +49,21 @@ impl std::error::Error for Fault {}
 
 /// Runs the call that the argument buffer asks for. `args` gets the status, by an answered get-indices also the Next
 /// Starting Number; an answered update-nodes, get-indices or update-properties writes its work area in `memory`; an
-/// answered configure-kernel-dump changes the registration. Nothing else changes.
+/// answered configure-kernel-dump changes the registration. A get-indices with status 1 makes the reading record name its
+/// flag, type and edition and the Next Starting Number; one with status 0 or -4 makes it `ReadingRecord::none()`. Nothing
+/// else changes. `edition` is the inventory's.
 pub fn call(
     args: &mut [u8],
     memory: &mut [u8],
     journal: &[u8],
     inventory: &[u8],
+    edition: Edition,
     registration: &mut Registration,
+    reading: &mut ReadingRecord,
 ) -> Result<Answer, Fault> {
-    let answer = ffi::call(args, memory, journal, inventory, registration.flat());
+    let answer = ffi::call(args, memory, journal, inventory, edition.0, registration.flat(), reading.flat());
     registration.replace(answer.registration);
+    *reading = ReadingRecord::of(answer.reading);
     match answer.number {
         0 => answer_of(status(args)),
         10 => Err(Fault::Short),
@@ -78,6 +86,7 @@ fn answer_of(status: i32) -> Result<Answer, Fault> {
         1 => Ok(Answer::CallAgain),
         -1 => Err(Fault::Malformed),
         -3 => Err(Fault::Parameter),
+        -4 => Err(Fault::Changed),
         -9 => Err(Fault::AlreadyRegistered),
         -10 => Err(Fault::DumpActive),
         _ => unreachable!("the library gives no status {status}"),

@@ -11,10 +11,26 @@ pub struct Registration {
     pub copy: [u8; 512],
 }
 
+/// Every value is a reading record.
+#[repr(C)]
+pub struct Reading {
+    pub flag: u32,
+    pub type_number: u32,
+    pub number: u32,
+    pub edition: u32,
+}
+
 #[repr(C)]
 pub struct Answer {
     pub number: u32,
     pub registration: Registration,
+    pub reading: Reading,
+}
+
+#[repr(C)]
+pub struct Edited {
+    pub taken: u32,
+    pub edition: u32,
 }
 
 #[repr(C)]
@@ -44,6 +60,10 @@ pub struct PropertyReading {
 extern "C" {
     fn draugsten_no_registration() -> Registration;
 
+    fn draugsten_no_reading() -> Reading;
+
+    fn draugsten_edit(edition: u32) -> Edited;
+
     fn draugsten_call(
         args: *mut u8,
         args_length: usize,
@@ -53,7 +73,9 @@ extern "C" {
         journal_length: usize,
         inventory: *const u8,
         inventory_length: usize,
+        edition: u32,
         registration: Registration,
+        reading: Reading,
     ) -> Answer;
 
     fn draugsten_read_nodes(
@@ -79,12 +101,24 @@ pub fn no_registration() -> Registration {
     unsafe { draugsten_no_registration() }
 }
 
+pub fn no_reading() -> Reading {
+    // SAFETY: it takes nothing, and there is no global state.
+    unsafe { draugsten_no_reading() }
+}
+
+pub fn edit(edition: u32) -> Edited {
+    // SAFETY: it takes any number, and there is no global state.
+    unsafe { draugsten_edit(edition) }
+}
+
 pub fn call(
     args: &mut [u8],
     memory: &mut [u8],
     journal: &[u8],
     inventory: &[u8],
+    edition: u32,
     registration: Registration,
+    reading: Reading,
 ) -> Answer {
     // SAFETY: each pointer is a slice's, so it is not null and goes with its length; the two buffers that are written
     // are borrowed by `&mut`, so no other buffer overlaps them.
@@ -98,7 +132,9 @@ pub fn call(
             journal.len(),
             inventory.as_ptr(),
             inventory.len(),
+            edition,
             registration,
+            reading,
         )
     }
 }

@@ -3,15 +3,16 @@
 //! `include/draugsten.h` has what each buffer holds and which bytes are written.
 //!
 //! ```
-//! use draugsten::{args, call, read_nodes, Answer, Operation, Registration};
+//! use draugsten::{args, call, read_nodes, Answer, Edition, Operation, ReadingRecord, Registration};
 //!
 //! // One record: a node of type 11 was deleted. Its phandle is 0x2a.
 //! let journal = [8, 0, 1, 0, 11, 0, 0x2a, 0, 0, 0];
 //! let mut memory = vec![0; 8192];
 //! let mut registration = Registration::none();
+//! let mut reading = ReadingRecord::none();
 //!
 //! let mut args = args::update_nodes(4096, 1);
-//! let answer = call(&mut args, &mut memory, &journal, &[], &mut registration);
+//! let answer = call(&mut args, &mut memory, &journal, &[], Edition(0), &mut registration, &mut reading);
 //!
 //! assert_eq!(answer, Ok(Answer::Done));
 //! assert_eq!(read_nodes(&memory[4096..], 1), Ok(vec![Operation::Delete { phandle: 0x2a }]));
@@ -25,9 +26,11 @@ mod calling;
 mod ffi;
 mod properties;
 mod reading;
+mod reading_record;
 mod registration;
 
 pub use calling::{call, Answer, Fault};
 pub use properties::{read_properties, Descriptor, Property, PropertyArea, NAME_LIMIT, VALUE_LIMIT};
 pub use reading::{read_indices, read_nodes, read_state, Entry, Operation, Reason, Refusal, CODE_LIMIT, FIELD_LIMIT};
+pub use reading_record::{Edition, ReadingRecord};
 pub use registration::{Phase, Registration, STRUCTURE_LIMIT};

@@ -50,15 +50,16 @@ pub enum Descriptor {
 /// The properties of a property area, with its phandle and state.
 ///
 /// ```
-/// use draugsten::{args, call, read_properties, Answer, Descriptor, Registration};
+/// use draugsten::{args, call, read_properties, Answer, Descriptor, Edition, ReadingRecord, Registration};
 ///
 /// // One record: the property "a" of node 7 has the new value "on".
 /// let journal = [10, 0, 5, 0, 7, 0, 0, 0, b'a', 0, b'o', b'n'];
 /// let mut memory = vec![0; 4096];
 /// memory[3] = 7;
+/// let (mut registration, mut reading) = (Registration::none(), ReadingRecord::none());
 ///
 /// let mut args = args::update_properties(0, 1);
-/// let answer = call(&mut args, &mut memory, &journal, &[], &mut Registration::none());
+/// let answer = call(&mut args, &mut memory, &journal, &[], Edition(0), &mut registration, &mut reading);
 /// let area = read_properties(&memory).unwrap();
 ///
 /// assert_eq!((answer, area.phandle, area.state), (Ok(Answer::Done), 7, 0));

@@ -35,12 +35,14 @@ impl Registration {
     /// is. A phase above 2 or a length above 512 is `Fault::NoRegistration`, as the library's number 13.
     ///
     /// ```
-    /// use draugsten::{args, call, Answer, Phase, Registration};
+    /// use draugsten::{args, call, Answer, Edition, Phase, ReadingRecord, Registration};
     ///
     /// let mut active = Registration::restore(Phase::Active as u32, 0, [0; 512]).unwrap();
+    /// let mut reading = ReadingRecord::none();
     /// let mut args = args::configure_kernel_dump(args::Command::Complete, 0, 0);
+    /// let answer = call(&mut args, &mut [], &[], &[], Edition(0), &mut active, &mut reading);
     ///
-    /// assert_eq!(call(&mut args, &mut [], &[], &[], &mut active), Ok(Answer::Done));
+    /// assert_eq!(answer, Ok(Answer::Done));
     /// assert_eq!(active, Registration::none());
     /// ```
     pub fn restore(phase: u32, length: usize, copy: [u8; STRUCTURE_LIMIT]) -> Result<Registration, Fault> {

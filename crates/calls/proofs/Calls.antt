@@ -19,7 +19,7 @@ use Rattle.node_area.specs.Head.{unitIn, isReserved}
 use Rattle.nodes.specs.Run.{remains}
 use Rattle.nodes.specs.Area.{written}
 use Rattle.calls.specs.declared.status.Status.{Status}
-use Rattle.calls.specs.declared.status.Status.the-variants.{Done, Again, Malformed, Parameter, AlreadyRegistered, DumpActive}
+use Rattle.calls.specs.declared.status.Status.the-variants.{Done, Again, Malformed, Parameter, Changed, AlreadyRegistered, DumpActive}
 use Rattle.calls.specs.Status.{isGiven, isAnswer, statusWord}
 use Rattle.calls.specs.UpdateNodes.{areaAt, withArea, placed, goodState, areaStatus, areaAfter, asksFor, nodesStatus, nodesMemory}
 use Rattle.calls.specs.Buffer.{token, input, statusAt, numberFor, isNodes, Outcome, nodesOutcome, outcome, Found, Left, callOf, answered}
@@ -79,6 +79,7 @@ word-fits Done = refl
 word-fits Again = refl
 word-fits Malformed = refl
 word-fits Parameter = refl
+word-fits Changed = refl
 word-fits AlreadyRegistered = refl
 word-fits DumpActive = refl
 

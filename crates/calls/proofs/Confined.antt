@@ -2,7 +2,7 @@
 use mathlib.Core.Path.{_≡_, refl, sym, ap, _∙_}
 use mathlib.Core.Bool.{Bool, true, false, cond, _&&_, false≢true, true≢false}
 use mathlib.Core.List.{List, [], _∷_}
-use mathlib.Core.Logic.{⊎-elim}
+use mathlib.Core.Logic.{inr, ⊎-elim}
 use Prim.Native.Nat.{ℕ, _+_, _*_, _<_, _≤_}
 use native.Mathlib.Omega.{arith}
 use lib.ListN.{length, getD}
@@ -18,24 +18,26 @@ use Rattle.nodes.specs.Run.{remains}
 use Rattle.journal.specs.Scope.{valid, Selection}
 use Rattle.calls.specs.declared.status.Number.the-variants.{Given}
 use Rattle.calls.specs.declared.status.Status.the-variants.{Done, Parameter}
-use Rattle.calls.specs.Status.{numberOf, isGiven, isAnswer, statusWord}
+use Rattle.calls.specs.Status.{isGiven, isAnswer, statusWord}
+use Rattle.calls.specs.ReadingRecord.{recordAfter}
 use Rattle.calls.specs.UpdateNodes.{areaAt, withArea, placed, goodState, areaStatus, areaAfter, asksFor, nodesStatus, nodesMemory}
 use Rattle.properties.specs.Answer.{carries}
 use Rattle.properties.specs.Answer as properties
 use Rattle.calls.specs.UpdateProperties.{propertiesStatus, propertiesMemory}
 use Rattle.calls.specs.Buffer.{outputs, input, statusAt, numberFor, isNodes, isIndices, isDump, isProperties, requestOf}
 use Rattle.calls.specs.Buffer.{Outcome, nodesOutcome, indicesOutcome, dumpOutcome, propertiesOutcome, refusal, outcome, Found, leaves, Left, callOf}
-use Rattle.calls.specs.Terms.{HasStatus, Refused, Asks, Outside}
+use Rattle.calls.specs.Terms.{minus, HasStatus, Refused, Asks, Outside, naming}
 use Rattle.calls.specs.Demands.{Confined, Demand1}
 use Rattle.calls.proofs.Areas.{placed-inside, placed-aligned, state-within, nodes-checked}
 use Rattle.calls.proofs.Ladder.{ladder-passed}
 use Rattle.calls.proofs.Calls.{status-word}
 use Rattle.calls.proofs.PropertiesCalls.{properties-answers}
 use Rattle.calls.proofs.PropertyAnswers as property-answers
-use Rattle.calls.proofs.Heads.{whole-buffer, asked, unchanged, carried-out, outcome-ways}
+use Rattle.calls.proofs.Heads.{whole-buffer, asked, unchanged, carried-out, has-given, has-status, outcome-ways}
+use Rattle.calls.proofs.ReadingRecords.{recorded}
 use Rattle.calls.proofs.Memory.{part-length, part-kept, part-before, part-behind, part-same, written-length}
 use lib.Dec.{leb, eqb}
-use borrow.Author.Tests.{leb-true}
+use borrow.Author.Tests.{leb-true, le-leb}
 use Rattle.dump.specs.declared.registration.Verdict.{Verdict}
 use Rattle.dump.specs.declared.registration.Verdict.the-variants as verdict
 use Rattle.dump.specs.Registration.{isDone, noRegistration, registered, structureAt, verdictOf, registrationAfter}
@@ -141,6 +143,9 @@ record Proper (c : Found) (o : Outcome) : Type 0 where
   refused-more : isAnswer (o .status) ≡ false → o .more ≡ []
   refused-memory : isAnswer (o .status) ≡ false → o .memory ≡ c .memory
   refused-registration : isAnswer (o .status) ≡ false → o .registration ≡ c .registration
+  kept : isAnswer (o .status) ≡ false → (Asks 2 5 2 (c .args) → statusWord (o .status) ≡ minus 4 → ⊥) → o .reading ≡ c .reading
+  cleared : Asks 2 5 2 (c .args) → statusWord (o .status) ≡ minus 4 → o .reading ≡ naming 0 0 1 0
+  other : (Asks 2 5 2 (c .args) → ⊥) → o .reading ≡ c .reading
   beside : (k : ℕ) → (Asks 1 2 1 (c .args) → Outside (be32 (c .args) 12) 4096 k) → (Asks 2 5 2 (c .args) → Outside (be32 (c .args) 20) (be32 (c .args) 24) k)
       → (Asks 4 2 1 (c .args) → Outside (be32 (c .args) 12) 4096 k)
       → getD (o .memory) k 0 ≡ getD (c .memory) k 0
@@ -170,6 +175,9 @@ module _ (c : Found) where
         refused-more = λ _. refl;
         refused-memory = nodes-refused m (input b 0) (input b 1) j;
         refused-registration = λ _. refl;
+        kept = λ _ _. refl;
+        cleared = λ h _. absurd (omega (arith, h, asked 1 2 1 b e));
+        other = λ _. refl;
         beside = λ k f g h. nodes-outside m (input b 0) (input b 1) j k (f (asked 1 2 1 b e));
         size = nodes-length m (input b 0) (input b 1) j;
       }
@@ -182,13 +190,18 @@ module _ (c : Found) where
   unfolding indicesOutcome
   indices-proper e =
       let q = requestOf b in
+      let s = indicesStatus m i (c .edition) (c .reading) q in
+      let told = recorded q (nextNumber i q) (c .edition) (c .reading) s in
       record {
-        outputs-hold = omega (arith, asked 2 5 2 b e, one-more (isAnswer (indicesStatus m i q)) (nextNumber i q));
+        outputs-hold = omega (arith, asked 2 5 2 b e, one-more (isAnswer s) (nextNumber i q));
         refused-more = λ h. rw h;
-        refused-memory = indices-refused m i q;
+        refused-memory = indices-refused m i (c .edition) (c .reading) q;
         refused-registration = λ _. refl;
-        beside = λ k f g h. indices-outside m i q k (g (asked 2 5 2 b e));
-        size = indices-length m i q;
+        kept = λ h g. told .kept (λ l. true≢false (sym (le-leb _ 1 l) ∙ h)) (g (asked 2 5 2 b e));
+        cleared = λ _ h. told .cleared (inr h);
+        other = λ h. absurd (h (asked 2 5 2 b e));
+        beside = λ k f g h. indices-outside m i (c .edition) (c .reading) q k (g (asked 2 5 2 b e));
+        size = indices-length m i (c .edition) (c .reading) q;
       }
 
   -- a command that is refused keeps the registration
@@ -210,6 +223,9 @@ module _ (c : Found) where
         refused-more = λ _. refl;
         refused-memory = λ _. refl;
         refused-registration = dump-kept (input b 0) (input b 1) (input b 2);
+        kept = λ _ _. refl;
+        cleared = λ h _. absurd (omega (arith, h, asked 3 3 1 b e));
+        other = λ _. refl;
         beside = λ _ _ _ _. refl;
         size = refl;
       }
@@ -222,13 +238,26 @@ module _ (c : Found) where
         refused-more = λ _. refl;
         refused-memory = properties-refused m (input b 0) (input b 1) j;
         refused-registration = λ _. refl;
+        kept = λ _ _. refl;
+        cleared = λ h _. absurd (omega (arith, h, asked 4 2 1 b e));
+        other = λ _. refl;
         beside = λ k f g h. properties-outside m (input b 0) (input b 1) j k (h (asked 4 2 1 b e));
         size = properties-length m (input b 0) (input b 1) j;
       }
 
   refusal-proper : 0 < outputs b → Proper c (refusal c)
   refusal-proper h =
-      record { outputs-hold = h; refused-more = λ _. refl; refused-memory = λ _. refl; refused-registration = λ _. refl; beside = λ _ _ _ _. refl; size = refl }
+      record {
+        outputs-hold = h;
+        refused-more = λ _. refl;
+        refused-memory = λ _. refl;
+        refused-registration = λ _. refl;
+        kept = λ _ _. refl;
+        cleared = λ _ g. absurd (omega (arith, g));
+        other = λ _. refl;
+        beside = λ _ _ _ _. refl;
+        size = refl;
+      }
 
   abbrev o : Outcome
   o = outcome c
@@ -242,8 +271,8 @@ module _ (c : Found) where
   stored = wordBytes (statusWord (o .status) ∷ o .more)
 
   -- the ways of a call: nothing changes, or the outputs are stored and the rest is as the call's own work leaves it
-  call-ways : (P : Left → Type 0) → (isGiven (numberFor b) ≡ false → P (leaves (numberFor b) b m r))
-      → (isGiven (numberFor b) ≡ true → Proper c o → P (leaves Given (sets b (statusAt b) stored) (o .memory) (o .registration))) → P (callOf c)
+  call-ways : (P : Left → Type 0) → (isGiven (numberFor b) ≡ false → P (leaves (numberFor b) b m r (c .reading)))
+      → (isGiven (numberFor b) ≡ true → Proper c o → P (leaves Given (sets b (statusAt b) stored) (o .memory) (o .registration) (o .reading))) → P (callOf c)
   call-ways P f g = decide (isGiven (numberFor b))
       (λ e. rw (carried-out c e) (g e (proper (whole-buffer b e .some-output))))
       (λ e. rw (unchanged c e) (f e))
@@ -251,7 +280,7 @@ module _ (c : Found) where
   -- a refused call's own work is refused
   refused-own : Refused b (callOf c) → isGiven (numberFor b) ≡ true → isAnswer (o .status) ≡ false
   refused-own h e = decide (isAnswer (o .status))
-      (λ a. absurd (h (ap (λ (x : Left). numberOf (x .number)) (carried-out c e)) (leb-true _ 1 (ap (λ (n : ℕ). leb n 1) (status-word c e) ∙ a)))) (λ a. a)
+      (λ a. absurd (h (has-status c e) (leb-true _ 1 (ap (λ (n : ℕ). leb n 1) (status-word c e) ∙ a)))) (λ a. a)
 
   -- bytes outside of words that were stored
   words-outside : (ws : List ℕ) (k n : ℕ) → length ws ≤ n → Outside (statusAt b) (4 * n) k → getD (sets b (statusAt b) (wordBytes ws)) k 0 ≡ getD b k 0
@@ -265,6 +294,11 @@ module _ (c : Found) where
             (λ e p. rw (p .refused-more (refused-own h e)) (words-outside (statusWord (o .status) ∷ []) k 1 (omega arith) n));
         refused-memory = λ h. call-ways (λ (x : Left). x .memory ≡ m) (λ _. refl) (λ e p. p .refused-memory (refused-own h e));
         refused-registration = λ h. call-ways (λ (x : Left). x .registration ≡ r) (λ _. refl) (λ e p. p .refused-registration (refused-own h e));
+        refused-reading = λ h n. call-ways (λ (x : Left). x .reading ≡ c .reading) (λ _. refl)
+            (λ e p. p .kept (refused-own h e) (λ a f. n (has-status c e, a, status-word c e ∙ f)));
+        other-reading = λ h. call-ways (λ (x : Left). x .reading ≡ c .reading) (λ _. refl) (λ e p. p .other h);
+        cleared-reading = λ h. call-ways (λ (x : Left). x .reading ≡ naming 0 0 1 0) (λ e. absurd (true≢false (sym (has-given c (h .0)) ∙ e)))
+            (λ e p. p .cleared (h .1) (sym (status-word c e) ∙ h .2));
         outside-outputs = λ k n. call-ways (λ (x : Left). getD (x .args) k 0 ≡ getD b k 0) (λ _. refl)
             (λ e p. words-outside (statusWord (o .status) ∷ o .more) k (outputs b) (omega (arith, p .outputs-hold)) n);
         outside-area = λ k f g h. call-ways (λ (x : Left). getD (x .memory) k 0 ≡ getD m k 0) (λ _. refl) (λ e p. p .beside k f g h);

@@ -23,7 +23,7 @@ use Rattle.calls.specs.ExactIndices.{ExactIndices}
 use Rattle.calls.specs.ExactDump.{ExactDump}
 use Rattle.calls.specs.ExactProperties.{ExactProperties}
 use Rattle.calls.specs.Demands.{Numbered, Unknown, ByToken, Demand2}
-use Rattle.calls.proofs.Heads.{asked, asks-by, given-number, unchanged, carried-out, nodes-outcome, indices-outcome, dump-outcome, properties-outcome}
+use Rattle.calls.proofs.Heads.{asked, asks-by, carried-out, number-is, has-given, nodes-outcome, indices-outcome, dump-outcome, properties-outcome}
 use Rattle.calls.proofs.Calls.{status-word}
 use Rattle.calls.proofs.Requests.{passed-is}
 use Rattle.calls.proofs.IndicesCalls.{number-word}
@@ -50,12 +50,6 @@ numbered b =
       given = λ g f l s. rw (le-ltb n 12 (omega arith), le-ltb 16 i g, le-ltb 16 o f, le-ltb n size l, ne-eqb o 0 (λ e. omega arith));
     }
 
-zero-given : (n : Number) → numberOf n ≡ 0 → isGiven n ≡ true
-zero-given Given e = refl
-zero-given Short e = absurd (omega (arith, e))
-zero-given NoOutputs e = absurd (omega (arith, e))
-zero-given TooMany e = absurd (omega (arith, e))
-
 module _ (c : Found) where
   abbrev b : List ℕ
   b = c .args
@@ -69,19 +63,14 @@ module _ (c : Found) where
   abbrev x : Left
   x = callOf c
 
-  number-is : x .number ≡ numberFor b
-  number-is = decide (isGiven (numberFor b))
-      (λ e. ap (λ (y : Left). y .number) (carried-out c e) ∙ sym (given-number (numberFor b) e))
-      (λ e. ap (λ (y : Left). y .number) (unchanged c e))
-
   numbers : Numbered b (be32 b 4) (be32 b 8) (numberOf (x .number))
-  numbers = rw number-is (numbered b)
+  numbers = rw (number-is c) (numbered b)
 
   -- ---- the status and the rest
 
   module _ (zero-is : HasStatus x) where
     given : isGiven (numberFor b) ≡ true
-    given = zero-given (numberFor b) (ap numberOf (sym number-is) ∙ zero-is)
+    given = has-given c zero-is
 
     -- what is left where a call's own work is known
     module _ (o : Outcome) (e : outcome c ≡ o) where
@@ -93,6 +82,9 @@ module _ (c : Found) where
 
       registration-is : x .registration ≡ o .registration
       registration-is = ap (λ (y : Left). y .registration) (carried-out c given) ∙ ap (λ (y : Outcome). y .registration) e
+
+      reading-is : x .reading ≡ o .reading
+      reading-is = ap (λ (y : Left). y .reading) (carried-out c given) ∙ ap (λ (y : Outcome). y .reading) e
 
     asks-is : (t n k : ℕ) → Asks t n k b → asks t n k b ≡ true
     asks-is t n k h = asks-by t n k b (h .0) (h .1) (h .2)
@@ -113,14 +105,16 @@ module _ (c : Found) where
       own-indices = indices-outcome c (asks-is 2 5 2 h)
 
       -- the second output stands behind five inputs and the status
-      next-is : statusWord (indicesStatus m i (requestOf b)) ≤ 1 → be32 (x .args) 36 ≡ nextNumber i (requestOf b)
+      next-is : statusWord (indicesStatus m i (c .edition) (c .reading) (requestOf b)) ≤ 1 → be32 (x .args) 36 ≡ nextNumber i (requestOf b)
       next-is l =
           let place : 36 ≡ statusAt b + 4 = omega (arith, h .1) in
-          ap (be32 (x .args)) place ∙ number-word c given (asks-is 2 5 2 h) (passed-is m i (requestOf b) (at-most _ 1 .1 l))
+          ap (be32 (x .args)) place ∙ number-word c given (asks-is 2 5 2 h) (passed-is m i (c .edition) (c .reading) (requestOf b) (at-most _ 1 .1 l))
 
-      indices : ExactIndices m i (be32 b 12) (be32 b 16) (be32 b 20) (be32 b 24) (be32 b 28) (statusOf b x) (be32 (x .args) 36) (x .memory) × (x .registration ≡ c .registration)
+      indices : ExactIndices m i (c .edition .0) (c .reading) (be32 b 12) (be32 b 16) (be32 b 20) (be32 b 24) (be32 b 28) (statusOf b x) (be32 (x .args) 36) (x .memory) (x .reading) × (x .registration ≡ c .registration)
       unfolding indicesOutcome
-      indices = (rw (status-is (indicesOutcome c) own-indices, memory-is (indicesOutcome c) own-indices) (exact-indices m i (requestOf b) (be32 (x .args) 36) next-is), registration-is (indicesOutcome c) own-indices)
+      indices =
+          let own = indicesOutcome c in
+          (rw (status-is own own-indices, memory-is own own-indices, reading-is own own-indices) (exact-indices m i (c .edition) (c .reading) (requestOf b) (be32 (x .args) 36) next-is), registration-is own own-indices)
 
     module _ (h : Asks 3 3 1 b) where
       own-dump : outcome c ≡ dumpOutcome c
@@ -150,6 +144,7 @@ module _ (c : Found) where
         args = rw (carried-out c given, own-none, wordBytes-one (statusWord (refusal c .status)));
         memory = memory-is (refusal c) own-none;
         registration = registration-is (refusal c) own-none;
+        reading = reading-is (refusal c) own-none;
       }
 
     by-token : ByToken c x

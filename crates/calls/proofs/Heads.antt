@@ -1,5 +1,5 @@
 -- What the number of a call tells of its argument buffer, and what a call gives by its number.
-use mathlib.Core.Path.{_≡_, refl}
+use mathlib.Core.Path.{_≡_, refl, sym, ap, _∙_}
 use mathlib.Core.Bool.{Bool, true, false, cond, _&&_, _||_, false≢true}
 use mathlib.Core.List.{List, _∷_}
 use Prim.Native.Nat.{ℕ, _+_, _*_, _≤_, _<_}
@@ -8,13 +8,14 @@ use lib.Dec.{ltb, eqb}
 use lib.ListN.{length}
 use lib.Seq.{sets}
 use borrow.Author.Tests.{le-ltb, ltb-false, eq-eqb, eqb-false, eqb-true}
-use Rattle.words.proofs.Choice.{choose, and-left, and-right}
+use Rattle.words.proofs.Choice.{choose, decide, and-left, and-right}
 use Rattle.words.specs.Numbers.{wordBytes}
 use Rattle.calls.specs.declared.status.Number.{Number}
 use Rattle.calls.specs.declared.status.Number.the-variants.{Given, Short, NoOutputs, TooMany}
-use Rattle.calls.specs.Status.{isGiven, statusWord}
+use Rattle.calls.specs.Status.{numberOf, isGiven, statusWord}
 use Rattle.calls.specs.Buffer.{token, inputs, outputs, isNodes, isIndices, isDump, isProperties, statusAt, numberFor, asks}
-use Rattle.calls.specs.Buffer.{Outcome, nodesOutcome, indicesOutcome, dumpOutcome, propertiesOutcome, refusal, Found, leaves, outcome, callOf}
+use Rattle.calls.specs.Buffer.{Outcome, nodesOutcome, indicesOutcome, dumpOutcome, propertiesOutcome, refusal, Found, Left, leaves, outcome, callOf}
+use Rattle.calls.specs.Terms.{HasStatus}
 
 pub record Whole (b : List ℕ) : Type 0 where
   pub few-inputs : inputs b ≤ 16
@@ -53,6 +54,12 @@ given-number Short e = absurd (false≢true e)
 given-number NoOutputs e = absurd (false≢true e)
 given-number TooMany e = absurd (false≢true e)
 
+zero-given : (n : Number) → numberOf n ≡ 0 → isGiven n ≡ true
+zero-given Given e = refl
+zero-given Short e = absurd (omega (arith, e))
+zero-given NoOutputs e = absurd (omega (arith, e))
+zero-given TooMany e = absurd (omega (arith, e))
+
 -- a buffer that asks for a call has its token and counts
 pub asked : (t i o : ℕ) (b : List ℕ) → asks t i o b ≡ true → (token b ≡ t) × (inputs b ≡ i) × (outputs b ≡ o)
 unfolding asks
@@ -73,15 +80,27 @@ asks-else t u i o b e f = rw (e, f)
 
 module _ (c : Found) where
   -- without a status everything stays
-  pub unchanged : isGiven (numberFor (c .args)) ≡ false → callOf c ≡ leaves (numberFor (c .args)) (c .args) (c .memory) (c .registration)
+  pub unchanged : isGiven (numberFor (c .args)) ≡ false → callOf c ≡ leaves (numberFor (c .args)) (c .args) (c .memory) (c .registration) (c .reading)
   unfolding callOf
   unchanged e = rw e
 
   -- with one, the status word is stored, and memory is as the call's own work leaves it
   pub carried-out : isGiven (numberFor (c .args)) ≡ true
-      → callOf c ≡ leaves Given (sets (c .args) (statusAt (c .args)) (wordBytes (statusWord (outcome c .status) ∷ outcome c .more))) (outcome c .memory) (outcome c .registration)
+      → callOf c ≡ leaves Given (sets (c .args) (statusAt (c .args)) (wordBytes (statusWord (outcome c .status) ∷ outcome c .more))) (outcome c .memory) (outcome c .registration) (outcome c .reading)
   unfolding callOf
   carried-out e = rw e
+
+  pub number-is : callOf c .number ≡ numberFor (c .args)
+  number-is = decide (isGiven (numberFor (c .args)))
+      (λ e. ap (λ (x : Left). x .number) (carried-out e) ∙ sym (given-number (numberFor (c .args)) e))
+      (λ e. ap (λ (x : Left). x .number) (unchanged e))
+
+  -- a status is in the buffer exactly where the number of the call gives one
+  pub has-given : HasStatus (callOf c) → isGiven (numberFor (c .args)) ≡ true
+  has-given h = zero-given (numberFor (c .args)) (ap numberOf (sym number-is) ∙ h)
+
+  pub has-status : isGiven (numberFor (c .args)) ≡ true → HasStatus (callOf c)
+  has-status e = ap (λ (x : Left). numberOf (x .number)) (carried-out e)
 
   -- ---- a call's own work, by its token
 

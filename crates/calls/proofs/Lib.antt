@@ -5,6 +5,7 @@ pub mod Areas
 pub mod Heads
 pub mod Registrations
 pub mod Calls
+pub mod ReadingRecords
 pub mod Requests
 pub mod IndicesCalls
 pub mod PropertiesCalls
@@ -17,10 +18,13 @@ pub mod Exact
 pub mod Session
 pub mod Fewest
 pub mod NodeSessions
+pub mod Unchanged
 pub mod IndexSessions
+pub mod OneEdition
 pub mod PropertySessions
 pub mod Confined
 pub mod Readings
 pub mod PropertyReadings
+pub mod RecordReadings
 pub mod Witnesses
 pub mod Claims

@@ -19,7 +19,8 @@ use Rattle.indices.specs.Area.{codeField, entryBytes, entriesBytes, fitting}
 use Rattle.indices.specs.Area as index-area
 use Rattle.indices.specs.Reading.{lengthAt, fieldAt, goodLength, goodField, faultAt, readFrom}
 use Rattle.indices.specs.Reading as index-reading
-use Rattle.calls.specs.GetIndices.{askable, lendable, goodNumber, dueFits, moreEntries, listStatus, indicesStatus, indicesMemory, nextNumber}
+use Rattle.calls.specs.ReadingRecord.{begins, isNamed, isCurrent, recordAfter}
+use Rattle.calls.specs.GetIndices.{askable, lendable, goodNumber, dueFits, moreEntries, listStatus, readingStatus, indicesStatus, indicesMemory, nextNumber}
 use Rattle.words.specs.Nul.{untilNul, isEnded}
 use Rattle.dump.specs.Structure.{goodHeader, eachSection, goodType, goodSection, requested, withoutDisk, goodPath, goodStructure}
 use Rattle.dump.specs.Registration.{acceptable, verdictOf, registrationAfter, padded}
@@ -28,5 +29,5 @@ use Rattle.calls.specs.Buffer.{numberFor, asks, nodesOutcome, indicesOut
 use Rattle.calls.specs.Readings.{Readings}
 
 pub readings : Readings
-unfolding be le beBytes wordBytes words zeros lengthOf kindOf recordsFrom records whole allGood wellFormedBy goodFrame nodeType goodNode goodRecord wellFormed operationOf unitOf entries negative valid rowOf unitsOf reports chosenBy reportable operandWords present cost longest run remains nextState operandsOf body answer written faultOf lastAfter verdict operationsAt reading partAt withPart placed goodState areaStatus areaAfter nodesStatus nodesMemory flagOf typeOf indexOf codeOf nonZero goodCode inventory.goodRecord inventory.wellFormed listing.matches listing.listed codeField entryBytes entriesBytes fitting index-area.run index-area.answer index-area.written lengthAt fieldAt goodLength goodField faultAt readFrom index-reading.reading askable lendable goodNumber dueFits moreEntries listStatus indicesStatus indicesMemory nextNumber untilNul isEnded nameOf valueOf propertyFrame goodProperty goodHeader eachSection goodType goodSection requested withoutDisk goodPath goodStructure acceptable verdictOf registrationAfter padded dumpStatus numberFor asks nodesOutcome indicesOutcome dumpOutcome outcome callOf codeLimit goodHead isReserved
+unfolding be le beBytes wordBytes words zeros lengthOf kindOf recordsFrom records whole allGood wellFormedBy goodFrame nodeType goodNode goodRecord wellFormed operationOf unitOf entries negative valid rowOf unitsOf reports chosenBy reportable operandWords present cost longest run remains nextState operandsOf body answer written faultOf lastAfter verdict operationsAt reading partAt withPart placed goodState areaStatus areaAfter nodesStatus nodesMemory flagOf typeOf indexOf codeOf nonZero goodCode inventory.goodRecord inventory.wellFormed listing.matches listing.listed codeField entryBytes entriesBytes fitting index-area.run index-area.answer index-area.written lengthAt fieldAt goodLength goodField faultAt readFrom index-reading.reading askable lendable goodNumber dueFits moreEntries listStatus readingStatus isNamed isCurrent begins recordAfter indicesStatus indicesMemory nextNumber untilNul isEnded nameOf valueOf propertyFrame goodProperty goodHeader eachSection goodType goodSection requested withoutDisk goodPath goodStructure acceptable verdictOf registrationAfter padded dumpStatus numberFor asks nodesOutcome indicesOutcome dumpOutcome outcome callOf codeLimit goodHead isReserved
 readings = tt

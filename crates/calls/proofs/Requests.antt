@@ -24,9 +24,12 @@ use Rattle.calls.specs.declared.status.Status.{Status}
 use Rattle.calls.specs.declared.status.Status.the-variants.{Done, Again}
 use Rattle.calls.specs.Status.{isAnswer}
 use Rattle.calls.specs.Lent.{partAt, withPart}
-use Rattle.calls.specs.GetIndices.{askable, lendable, entriesFor, numberIn, runFor, goodNumber, dueFits, moreEntries, listStatus, indicesStatus, indicesMemory, nextNumber, numberGiven}
+use Rattle.inventory.specs.declared.edition.Edition.{Edition}
+use Rattle.calls.specs.declared.reading_record.ReadingRecord.{ReadingRecord}
+use Rattle.calls.specs.ReadingRecord.{isNamed, isCurrent}
+use Rattle.calls.specs.GetIndices.{askable, lendable, entriesFor, numberIn, runFor, goodNumber, dueFits, moreEntries, listStatus, readingStatus, indicesStatus, indicesMemory, nextNumber, numberGiven}
 use Rattle.calls.specs.Terms.{Outside}
-use Rattle.calls.proofs.Ladder.{ladder-passed}
+use Rattle.calls.proofs.Ladder.{steps-passed}
 use Rattle.calls.proofs.Memory.{part-length, part-stored, part-kept, part-before, part-behind}
 
 -- a part that may be lent
@@ -58,28 +61,30 @@ due-some size es e = leb-true 1 _ (sym (due-run size es) ∙ e)
 pub some-due : (size : ℕ) (es : List Entry) → 1 ≤ length (fitting (size - 4) es) → dueFits size es ≡ true
 some-due size es h = due-run size es ∙ le-leb 1 _ h
 
-module _ (m i : List ℕ) (q : Request) where
+module _ (m i : List ℕ) (ed : Edition) (r : ReadingRecord) (q : Request) where
   -- all checks are passed
   pub record Passed : Type 0 where
     pub askable-is : askable (q .flag) (q .«item_type») ≡ true
     pub lent : lendable m (q .address) (q .size) ≡ true
+    pub named : isNamed r q ≡ true
+    pub current : isCurrent r ed q ≡ true
     pub formed : wellFormed i ≡ true
     pub numbered : goodNumber (numberIn q) (entriesFor i q) ≡ true
     pub due : dueFits (q .size) (drop (numberIn q - 1) (entriesFor i q)) ≡ true
 
   -- a status of 0 or 1 tells so
-  pub passed-is : isAnswer (indicesStatus m i q) ≡ true → Passed
-  unfolding indicesStatus listStatus
+  pub passed-is : isAnswer (indicesStatus m i ed r q) ≡ true → Passed
+  unfolding indicesStatus readingStatus listStatus
   passed-is h =
       let due = dueFits (q .size) (drop (numberIn q - 1) (entriesFor i q)) in
-      let t = ladder-passed (askable (q .flag) (q .«item_type»)) (lendable m (q .address) (q .size)) (wellFormed i) (goodNumber (numberIn q) (entriesFor i q)) due (moreEntries i q) h in
-      record { askable-is = t .0; lent = t .1; formed = t .2; numbered = t .3; due = t .4 }
+      let t = steps-passed (wellFormed i) (goodNumber (numberIn q) (entriesFor i q)) due (moreEntries i q) (askable (q .flag) (q .«item_type»)) (lendable m (q .address) (q .size)) (isNamed r q) (isCurrent r ed q) h in
+      record { askable-is = t .0 .0; lent = t .0 .1; named = t .0 .2; current = t .0 .3; formed = t .1 .0; numbered = t .1 .1; due = t .1 .2 }
 
-  pub indices-status : Passed → indicesStatus m i q ≡ cond (moreEntries i q) Again Done
-  unfolding indicesStatus listStatus
-  indices-status p = rw (p .askable-is, p .lent, p .formed, p .numbered, p .due)
+  pub indices-status : Passed → indicesStatus m i ed r q ≡ cond (moreEntries i q) Again Done
+  unfolding indicesStatus readingStatus listStatus
+  indices-status p = rw (p .askable-is, p .lent, p .named, p .current, p .formed, p .numbered, p .due)
 
-  pub indices-answers : Passed → isAnswer (indicesStatus m i q) ≡ true
+  pub indices-answers : Passed → isAnswer (indicesStatus m i ed r q) ≡ true
   indices-answers p = ap isAnswer (indices-status p) ∙ choose (moreEntries i q) (λ (x : Status). isAnswer x ≡ true) (λ e. refl) (λ e. refl)
 
   -- "never zero entries"
@@ -95,11 +100,11 @@ module _ (m i : List ℕ) (q : Request) where
   abbrev pub areaAfter : List ℕ
   areaAfter = written areaBefore (runFor i q)
 
-  pub indices-memory : Passed → indicesMemory m i q ≡ withPart m (q .address) (q .size) areaAfter
+  pub indices-memory : Passed → indicesMemory m i ed r q ≡ withPart m (q .address) (q .size) areaAfter
   unfolding indicesMemory
   indices-memory p = rw (indices-answers p)
 
-  pub indices-refused : isAnswer (indicesStatus m i q) ≡ false → indicesMemory m i q ≡ m
+  pub indices-refused : isAnswer (indicesStatus m i ed r q) ≡ false → indicesMemory m i ed r q ≡ m
   unfolding indicesMemory
   indices-refused e = rw e
 
@@ -114,19 +119,19 @@ module _ (m i : List ℕ) (q : Request) where
         written-length areaBefore (runFor i q) (omega (arith, room, size)) ∙ size
 
     -- the area afterwards, and what it reads as
-    pub left-is : partAt (indicesMemory m i q) (q .address) (q .size) ≡ areaAfter
+    pub left-is : partAt (indicesMemory m i ed r q) (q .address) (q .size) ≡ areaAfter
     left-is = ap (λ (l : List ℕ). partAt l (q .address) (q .size)) (indices-memory p) ∙ part-stored m (q .address) (q .size) inside areaAfter after-length
 
-    pub reads-back : Bytes i → reading (partAt (indicesMemory m i q) (q .address) (q .size)) ≡ read (runFor i q)
+    pub reads-back : Bytes i → reading (partAt (indicesMemory m i ed r q) (q .address) (q .size)) ≡ read (runFor i q)
     reads-back bytes = ap reading left-is ∙ indices-written.reads-back areaBefore i (q .flag) (q .«item_type») (q .size) (numberIn q) bytes (p .formed)
 
-  ways : (P : List ℕ → Type 0) → (Passed → P (withPart m (q .address) (q .size) areaAfter)) → P m → P (indicesMemory m i q)
-  ways P f g = decide (isAnswer (indicesStatus m i q)) (λ e. let p = passed-is e in rw (indices-memory p) (f p)) (λ e. rw (indices-refused e) g)
+  ways : (P : List ℕ → Type 0) → (Passed → P (withPart m (q .address) (q .size) areaAfter)) → P m → P (indicesMemory m i ed r q)
+  ways P f g = decide (isAnswer (indicesStatus m i ed r q)) (λ e. let p = passed-is e in rw (indices-memory p) (f p)) (λ e. rw (indices-refused e) g)
 
-  pub indices-length : length (indicesMemory m i q) ≡ length m
+  pub indices-length : length (indicesMemory m i ed r q) ≡ length m
   indices-length = ways (λ (l : List ℕ). length l ≡ length m) (λ p. part-kept m (q .address) (q .size) (inside p) areaAfter (after-length p)) refl
 
-  pub indices-outside : (k : ℕ) → Outside (q .address) (q .size) k → getD (indicesMemory m i q) k 0 ≡ getD m k 0
+  pub indices-outside : (k : ℕ) → Outside (q .address) (q .size) k → getD (indicesMemory m i ed r q) k 0 ≡ getD m k 0
   indices-outside k e = ways (λ (l : List ℕ). getD l k 0 ≡ getD m k 0)
       (λ p. ⊎-elim (part-before m (q .address) (q .size) (inside p) areaAfter (after-length p) k) (part-behind m (q .address) (q .size) (inside p) areaAfter (after-length p) k) e) refl
 

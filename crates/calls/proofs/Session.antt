@@ -19,7 +19,7 @@ use Rattle.calls.specs.Session.{isAnswered, statusThen, Standing, afterC
 
 module _ {S C : Type 0} (after : S → C → S) (Rule : S → C → Type 0) (Stands : S → Type 0) (keeps : (s : S) (c : C) → Stands s → Rule s c → Stands (after s c)) where
   -- what every call keeps, the list keeps
-  kept : (s : S) (cs : List C) → Stands s → Each after Rule s cs → Stands (over after s cs)
+  pub kept : (s : S) (cs : List C) → Stands s → Each after Rule s cs → Stands (over after s cs)
   kept s [] i h = i
   kept s (c ∷ cs) i h = kept (after s c) cs (keeps s c i (h .0)) (h .1)
 
@@ -32,7 +32,7 @@ module _ {S C : Type 0} (after : S → C → S) (Rule : S → C → Type 0) (Sta
     stays-done s [] h d = d
     stays-done s (c ∷ cs) h d = stays-done (after s c) cs (h .1) (stays s c (h .0) d)
 
-    done-or-answered : (s : S) (cs : List C) (n : ℕ) → Stands s → Each after Rule s cs → Among after Kind s cs n → (done (over after s cs) ≡ true) ⊎ (answers s + n ≤ answers (over after s cs))
+    pub done-or-answered : (s : S) (cs : List C) (n : ℕ) → Stands s → Each after Rule s cs → Among after Kind s cs n → (done (over after s cs) ≡ true) ⊎ (answers s + n ≤ answers (over after s cs))
     done-or-answered s [] n i h none = inr (omega arith)
     done-or-answered s (c ∷ cs) n i h (passed a) = ⊎-elim inl (λ l. inr (omega (arith, grows s c))) (done-or-answered (after s c) cs n (keeps s c i (h .0)) (h .1) a)
     done-or-answered s (c ∷ cs) n i h (counted k a) = decide (done s)
@@ -115,7 +115,7 @@ module _ {K E R : Type 0} (carriedBy : Found → K) (areaOf : Found → List ℕ
     abbrev Rule : Standing K → Found → Type 0
     Rule st c = isAnswered c ≡ true → Continues st c
 
-    stands-after : (st : Standing K) (c : Found) → Stands st → Rule st c → Stands (after st c)
+    pub stands-after : (st : Standing K) (c : Found) → Stands st → Rule st c → Stands (after st c)
     unfolding afterCall
     stands-after st c s h = choose (isAnswered c) Stands
         {x = record { carried = carriedBy c; done = eqb (statusThen c) 0; areas = st .areas ++ (areaOf c ∷ []) }} {y = st}
@@ -127,18 +127,18 @@ module _ {K E R : Type 0} (carriedBy : Found → K) (areaOf : Found → List ℕ
 
     -- ---- a session ends
 
-    after-refused : (st : Standing K) (c : Found) → isAnswered c ≡ false → after st c ≡ st
+    pub after-refused : (st : Standing K) (c : Found) → isAnswered c ≡ false → after st c ≡ st
     unfolding afterCall
     after-refused st c e = rw e
 
-    after-answered : (st : Standing K) (c : Found) → isAnswered c ≡ true → length (after st c .areas) ≡ length (st .areas) + 1
+    pub after-answered : (st : Standing K) (c : Found) → isAnswered c ≡ true → length (after st c .areas) ≡ length (st .areas) + 1
     unfolding afterCall
     after-answered st c e = rw e (length-append (st .areas) (areaOf c ∷ []))
 
-    stays : (st : Standing K) (c : Found) → Rule st c → st .done ≡ true → after st c .done ≡ true
+    pub stays : (st : Standing K) (c : Found) → Rule st c → st .done ≡ true → after st c .done ≡ true
     stays st c h d = decide (isAnswered c) (λ e. absurd (true≢false (sym d ∙ unfinished st c (h e)))) (λ e. ap (λ (x : Standing K). x .done) (after-refused st c e) ∙ d)
 
-    grows : (st : Standing K) (c : Found) → length (st .areas) ≤ length (after st c .areas)
+    pub grows : (st : Standing K) (c : Found) → length (st .areas) ≤ length (after st c .areas)
     grows st c = decide (isAnswered c) (λ e. omega (arith, after-answered st c e)) (λ e. omega (arith, ap (λ (x : Standing K). length (x .areas)) (after-refused st c e)))
 
     -- where every well-made call that finds the session open is answered, n of them come to the end if no session is open after n answers

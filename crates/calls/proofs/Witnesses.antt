@@ -31,13 +31,18 @@ use Rattle.inventory.specs.Inventory as inventory
 use Rattle.inventory.specs.Listing as listing
 use Rattle.indices.specs.Area.{codeField, entryBytes, entriesBytes, fitting}
 use Rattle.indices.specs.Area as index-area
+use Rattle.calls.specs.Terms.{naming}
 use Rattle.calls.specs.Lent.{partAt, withPart}
 use Rattle.calls.specs.UpdateNodes.{placed, goodState, areaStatus, areaAfter, nodesStatus, nodesMemory}
-use Rattle.calls.specs.GetIndices.{askable, lendable, goodNumber, dueFits, moreEntries, listStatus, indicesStatus, indicesMemory, nextNumber}
+use Rattle.calls.specs.ReadingRecord as reading-record
+use Rattle.calls.specs.ReadingRecord.{isNamed, isCurrent, recordAfter}
+use Rattle.inventory.specs.Edition.{editOf}
+use Rattle.calls.specs.Events.{begunAfter}
+use Rattle.calls.specs.GetIndices.{askable, lendable, goodNumber, dueFits, moreEntries, listStatus, readingStatus, indicesStatus, indicesMemory, nextNumber}
 use Rattle.calls.specs.UpdateProperties.{propertiesStatus, propertiesMemory}
 use Rattle.calls.specs.Buffer.{numberFor, asks, nodesOutcome, indicesOutcome, propertiesOutcome, outcome, callOf, answered}
 use Rattle.calls.specs.Session.{afterCall, none, counted, passed}
-use Rattle.calls.specs.Witnesses.{additions, nodesCall, functions, unitCall, NodesWitness, sensors, indicesCall, IndicesWitness, changed, propertiesCall, PropertiesWitness}
+use Rattle.calls.specs.Witnesses.{additions, nodesCall, functions, unitCall, NodesWitness, sensors, indicesCall, IndicesWitness, few, added, EditionWitness, changed, propertiesCall, PropertiesWitness}
 
 -- a list of bytes, tested element by element
 abbrev allBelow : List ℕ → Bool
@@ -100,7 +105,7 @@ nodes-witness =
     }
 
 pub indices-witness : IndicesWitness
-unfolding be le beBytes wordBytes zeros records recordsFrom whole allGood wellFormedBy lengthOf kindOf flagOf typeOf indexOf codeOf nonZero goodCode inventory.goodRecord inventory.wellFormed listing.matches listing.listed codeField entryBytes entriesBytes fitting index-area.run index-area.answer index-area.written partAt withPart askable lendable goodNumber dueFits moreEntries listStatus indicesStatus indicesMemory nextNumber numberFor asks indicesOutcome outcome callOf answered afterCall chosenBy codeLimit goodHead
+unfolding be le beBytes wordBytes zeros records recordsFrom whole allGood wellFormedBy lengthOf kindOf flagOf typeOf indexOf codeOf nonZero goodCode inventory.goodRecord inventory.wellFormed listing.matches listing.listed codeField entryBytes entriesBytes fitting index-area.run index-area.answer index-area.written partAt withPart askable lendable goodNumber dueFits moreEntries listStatus readingStatus isNamed isCurrent reading-record.begins recordAfter indicesStatus indicesMemory nextNumber numberFor asks indicesOutcome outcome callOf answered afterCall chosenBy codeLimit goodHead
 indices-witness =
     record {
       bytes = bytes-by sensors refl;
@@ -108,20 +113,35 @@ indices-witness =
       may = refl;
       some = leb-true 1 2 refl;
       session = (
-        (λ e. record { unfinished = refl; unchanged = refl; indices = refl; of-flag = refl; of-type = refl; numbered = refl }),
+        (record { inventory-is = refl; edition-is = refl; reading-is = refl }, (λ e. record { unfinished = refl; indices = refl; of-flag = refl; of-type = refl; numbered = refl })),
         (
-          (λ e. absurd (false≢true e)),
-          ((λ e. record { unfinished = refl; unchanged = refl; indices = refl; of-flag = refl; of-type = refl; numbered = refl }), tt),
+          (record { inventory-is = refl; edition-is = refl; reading-is = refl }, λ e. absurd (false≢true e)),
+          ((record { inventory-is = refl; edition-is = refl; reading-is = refl }, (λ e. record { unfinished = refl; indices = refl; of-flag = refl; of-type = refl; numbered = refl })), tt),
         ),
       );
       refused = refl;
       well-made =
-          counted {c = indicesCall 0 1} (record { unchanged = refl; indices = refl; five-inputs = refl; two-outputs = refl; whole = omega arith; of-flag = refl; of-type = refl; numbered = refl; large = omega arith; below = omega arith; inside = omega arith })
+          counted {c = indicesCall 0 1 (naming 0 0 1 0)} (record { finds = record { inventory-is = refl; edition-is = refl; reading-is = refl }; made = record { indices = refl; five-inputs = refl; two-outputs = refl; whole = omega arith; of-flag = refl; of-type = refl; numbered = refl; large = omega arith; below = omega arith; inside = omega arith } })
           (passed
-          (counted {c = indicesCall 8 2} (record { unchanged = refl; indices = refl; five-inputs = refl; two-outputs = refl; whole = omega arith; of-flag = refl; of-type = refl; numbered = refl; large = omega arith; below = omega arith; inside = omega arith })
+          (counted {c = indicesCall 8 2 (naming 1 9 2 5)} (record { finds = record { inventory-is = refl; edition-is = refl; reading-is = refl }; made = record { indices = refl; five-inputs = refl; two-outputs = refl; whole = omega arith; of-flag = refl; of-type = refl; numbered = refl; large = omega arith; below = omega arith; inside = omega arith } })
           none));
       enough = leb-true 2 2 refl;
       ended = refl;
+    }
+
+pub edition-witness : EditionWitness
+unfolding be le beBytes wordBytes zeros records recordsFrom whole allGood wellFormedBy lengthOf kindOf flagOf typeOf indexOf codeOf nonZero goodCode inventory.goodRecord inventory.wellFormed listing.matches listing.listed codeField entryBytes entriesBytes fitting index-area.run index-area.answer index-area.written partAt withPart askable lendable goodNumber dueFits moreEntries listStatus readingStatus isNamed isCurrent reading-record.begins recordAfter indicesStatus indicesMemory nextNumber numberFor asks indicesOutcome outcome callOf answered afterCall chosenBy codeLimit goodHead editOf begunAfter
+edition-witness =
+    record {
+      bytes = (bytes-by few refl, (tt, (bytes-by added refl, (tt, (tt, (tt, tt))))));
+      begun = (refl, (refl, refl, refl), refl);
+      named = refl;
+      edited = refl;
+      changed = (refl, (refl, refl, refl), refl);
+      cleared = refl;
+      afresh = (refl, (refl, refl, refl), refl);
+      ended = (refl, (refl, refl, refl), refl);
+      whole = refl;
     }
 
 pub properties-witness : PropertiesWitness

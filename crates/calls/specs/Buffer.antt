@@ -6,17 +6,20 @@ use lib.Dec.{leb, ltb, eqb}
 use lib.ListN.{length}
 use lib.Seq.{sets}
 use Rattle.words.specs.Numbers.{be32, wordBytes}
+use Rattle.inventory.specs.declared.edition.Edition.{Edition}
 use Rattle.dump.specs.declared.registration.Registration.{Registration}
 use Rattle.calls.specs.declared.status.Number.{Number}
 use Rattle.calls.specs.declared.status.Number.the-variants.{Given, Short, NoOutputs, TooMany}
 use Rattle.calls.specs.declared.status.Status.{Status}
 use Rattle.calls.specs.declared.status.Status.the-variants.{Parameter}
 use Rattle.calls.specs.declared.request.Request.{Request}
+use Rattle.calls.specs.declared.reading_record.ReadingRecord.{ReadingRecord}
 use Rattle.calls.specs.Status.{isGiven, isAnswer, statusWord}
 use Rattle.calls.specs.UpdateNodes.{nodesStatus, nodesMemory}
 use Rattle.dump.specs.Registration.{registrationAfter}
 use Rattle.calls.specs.ConfigureDump.{dumpStatus}
 use Rattle.calls.specs.UpdateProperties.{propertiesStatus, propertiesMemory}
+use Rattle.calls.specs.ReadingRecord.{recordAfter}
 use Rattle.calls.specs.GetIndices.{indicesStatus, indicesMemory, nextNumber}
 
 -- 01: "Token, number of inputs, number of outputs, the inputs, the outputs; the first output is the status."
@@ -50,17 +53,21 @@ pub record Found : Type 0 where
   pub memory : List ℕ
   pub journal : List ℕ
   pub inventory : List ℕ
+  pub edition : Edition
   pub registration : Registration
+  pub reading : ReadingRecord
 
-abbrev pub found : List ℕ → List ℕ → List ℕ → List ℕ → Registration → Found
-found args memory journal inventory registration = record { args = args; memory = memory; journal = journal; inventory = inventory; registration = registration }
+abbrev pub found : List ℕ → List ℕ → List ℕ → List ℕ → Edition → Registration → ReadingRecord → Found
+found args memory journal inventory edition registration reading =
+    record { args = args; memory = memory; journal = journal; inventory = inventory; edition = edition; registration = registration; reading = reading }
 
--- What a call's own work gives: its status, the output words after the status, memory and the registration afterwards.
+-- What a call's own work gives: its status, the output words after the status, memory, the registration and the reading record afterwards.
 pub record Outcome : Type 0 where
   pub status : Status
   pub more : List ℕ
   pub memory : List ℕ
   pub registration : Registration
+  pub reading : ReadingRecord
 
 -- a buffer with a call's token and counts
 unfoldable pub asks : ℕ → ℕ → ℕ → List ℕ → Bool
@@ -88,6 +95,7 @@ nodesOutcome f =
       more = [];
       memory = nodesMemory (f .memory) address scope (f .journal);
       registration = f .registration;
+      reading = f .reading;
     }
 
 -- 01, get-indices: "Inputs: indicator (0) or sensor (1), type, address, size, Starting Number. Outputs: status, Next Starting Number."
@@ -97,8 +105,14 @@ requestOf b = record { flag = input b 0; «item_type» = input b 1; address = in
 unfoldable pub indicesOutcome : Found → Outcome
 indicesOutcome f =
     let q = requestOf (f .args) in
-    let s = indicesStatus (f .memory) (f .inventory) q in
-    record { status = s; more = cond (isAnswer s) (nextNumber (f .inventory) q ∷ []) []; memory = indicesMemory (f .memory) (f .inventory) q; registration = f .registration }
+    let s = indicesStatus (f .memory) (f .inventory) (f .edition) (f .reading) q in
+    record {
+      status = s;
+      more = cond (isAnswer s) (nextNumber (f .inventory) q ∷ []) [];
+      memory = indicesMemory (f .memory) (f .inventory) (f .edition) (f .reading) q;
+      registration = f .registration;
+      reading = recordAfter s q (nextNumber (f .inventory) q) (f .edition) (f .reading);
+    }
 
 -- 01, configure-kernel-dump: "Inputs: command, address, length."
 unfoldable pub dumpOutcome : Found → Outcome
@@ -111,6 +125,7 @@ dumpOutcome f =
       more = [];
       memory = f .memory;
       registration = registrationAfter (f .memory) command address len (f .registration);
+      reading = f .reading;
     }
 
 -- 02, M-103, update-properties: inputs address and scope, one output
@@ -123,11 +138,12 @@ propertiesOutcome f =
       more = [];
       memory = propertiesMemory (f .memory) address scope (f .journal);
       registration = f .registration;
+      reading = f .reading;
     }
 
 -- a call that is refused for its token, counts or parameters
 abbrev pub refusal : Found → Outcome
-refusal f = record { status = Parameter; more = []; memory = f .memory; registration = f .registration }
+refusal f = record { status = Parameter; more = []; memory = f .memory; registration = f .registration; reading = f .reading }
 
 -- 01: "Tokens here: 1 update-nodes, 2 get-indices, 3 configure-kernel-dump.", "an unknown token or counts unlike the call's own give status -3".
 -- 02, M-103: "Add ibm,update-properties, .. token 4". Further tokens are added here.
@@ -139,22 +155,23 @@ outcome f =
     (cond (isProperties (f .args)) (propertiesOutcome f)
     (refusal f))))
 
--- All that a call leaves; the journal and the inventory are only read.
+-- All that a call leaves; the journal, the inventory and its edition are only read.
 pub record Left : Type 0 where
   pub number : Number
   pub args : List ℕ
   pub memory : List ℕ
   pub registration : Registration
+  pub reading : ReadingRecord
 
-abbrev pub leaves : Number → List ℕ → List ℕ → Registration → Left
-leaves number args memory registration = record { number = number; args = args; memory = memory; registration = registration }
+abbrev pub leaves : Number → List ℕ → List ℕ → Registration → ReadingRecord → Left
+leaves number args memory registration reading = record { number = number; args = args; memory = memory; registration = registration; reading = reading }
 
 -- 01: "Each status below 0 writes the status word only."
 unfoldable pub callOf : Found → Left
 callOf f =
     let o = outcome f in
-    let given = leaves Given (sets (f .args) (statusAt (f .args)) (wordBytes (statusWord (o .status) ∷ o .more))) (o .memory) (o .registration) in
-    cond (isGiven (numberFor (f .args))) given (leaves (numberFor (f .args)) (f .args) (f .memory) (f .registration))
+    let given = leaves Given (sets (f .args) (statusAt (f .args)) (wordBytes (statusWord (o .status) ∷ o .more))) (o .memory) (o .registration) (o .reading) in
+    cond (isGiven (numberFor (f .args))) given (leaves (numberFor (f .args)) (f .args) (f .memory) (f .registration) (f .reading))
 
 -- 01: "A call is answered when its number is 0 and its status 0 or 1; otherwise it is refused."
 unfoldable pub answered : List ℕ → Left → Bool

@@ -15,7 +15,7 @@ use Rattle.node_area.specs.Reading.{reading}
 use Rattle.journal.specs.declared.operation.Operation.{Operation}
 use Rattle.calls.specs.Status.{numberOf}
 use Rattle.calls.specs.Buffer.{Found, Left, callOf}
-use Rattle.calls.specs.Terms.{minus, HasStatus, Refused, Asks, statusOf, Outside}
+use Rattle.calls.specs.Terms.{minus, HasStatus, Refused, Asks, statusOf, Outside, naming}
 use Rattle.calls.specs.ExactNodes.{ExactNodes}
 use Rattle.calls.specs.ExactIndices.{ExactIndices}
 use Rattle.calls.specs.ExactDump.{ExactDump}
@@ -23,16 +23,24 @@ use Rattle.calls.specs.ExactProperties.{ExactProperties}
 use Rattle.calls.specs.Session.{isAnswered, Standing, Among}
 use Rattle.calls.specs.NodeSession.{start, after, standing, Session, WellMade, reported}
 
--- A call finds f: an argument buffer, memory, a journal, an inventory and a registration. It leaves x.
+-- A call finds f: an argument buffer, memory, a journal, an inventory with its edition, a registration and a reading record. It leaves x.
 
 -- ---- demand 1: "A refused call gives the status or refusal number .. a status is written in its word, and nothing else changes.
--- No byte outside the output words and the named work area is written."
+-- No byte outside the output words and the named work area is written." 02, M-105: "demand 1 reads the record beside the work area, and that
+-- clearing as its one exception".
+
+-- a get-indices call that gives -4
+abbrev pub Cleared : List ℕ → Left → Type 0
+Cleared b x = HasStatus x × Asks 2 5 2 b × (statusOf b x ≡ minus 4)
 
 pub record Confined (f : Found) (x : Left) : Type 0 where
   pub no-status : (HasStatus x → ⊥) → x .args ≡ f .args
   pub refused-args : Refused (f .args) x → (k : ℕ) → Outside (12 + 4 * be32 (f .args) 4) 4 k → getD (x .args) k 0 ≡ getD (f .args) k 0
   pub refused-memory : Refused (f .args) x → x .memory ≡ f .memory
   pub refused-registration : Refused (f .args) x → x .registration ≡ f .registration
+  pub refused-reading : Refused (f .args) x → (Cleared (f .args) x → ⊥) → x .reading ≡ f .reading
+  pub other-reading : (Asks 2 5 2 (f .args) → ⊥) → x .reading ≡ f .reading
+  pub cleared-reading : Cleared (f .args) x → x .reading ≡ naming 0 0 1 0
   pub outside-outputs : (k : ℕ) → Outside (12 + 4 * be32 (f .args) 4) (4 * be32 (f .args) 8) k → getD (x .args) k 0 ≡ getD (f .args) k 0
   pub outside-area : (k : ℕ) → (Asks 1 2 1 (f .args) → Outside (be32 (f .args) 12) 4096 k) → (Asks 2 5 2 (f .args) → Outside (be32 (f .args) 20) (be32 (f .args) 24) k)
       → (Asks 4 2 1 (f .args) → Outside (be32 (f .args) 12) 4096 k)
@@ -58,6 +66,7 @@ pub record Unknown (f : Found) (x : Left) : Type 0 where
   pub args : x .args ≡ sets (f .args) (12 + 4 * be32 (f .args) 4) (beBytes 4 (minus 3))
   pub memory : x .memory ≡ f .memory
   pub registration : x .registration ≡ f .registration
+  pub reading : x .reading ≡ f .reading
 
 -- What a call leaves where a status is in the buffer: token and counts choose the call, whose own rules decide.
 pub record ByToken (f : Found) (x : Left) : Type 0 where
@@ -68,7 +77,7 @@ pub record ByToken (f : Found) (x : Left) : Type 0 where
   -- "Inputs: indicator (0) or sensor (1), type, address, size, Starting Number. Outputs: status, Next Starting Number."
   pub indices : Asks 2 5 2 (f .args) →
       let b = f .args in
-      ExactIndices (f .memory) (f .inventory) (be32 b 12) (be32 b 16) (be32 b 20) (be32 b 24) (be32 b 28) (statusOf b x) (be32 (x .args) 36) (x .memory)
+      ExactIndices (f .memory) (f .inventory) (f .edition .0) (f .reading) (be32 b 12) (be32 b 16) (be32 b 20) (be32 b 24) (be32 b 28) (statusOf b x) (be32 (x .args) 36) (x .memory) (x .reading)
       × (x .registration ≡ f .registration)
   -- "Inputs: command, address, length."
   pub dump : Asks 3 3 1 (f .args) →

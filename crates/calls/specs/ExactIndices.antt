@@ -1,8 +1,10 @@
--- Demand 2 of get-indices: each status exactly when, and what an answer leaves (document 01, "get-indices").
+-- Demand 2 of get-indices: each status exactly when, and what a call leaves in its area and of the reading record (document 01, "get-indices";
+-- document 02, M-105).
 use Prim.Native.Nat.{ℕ, _+_, _-_, _≤_}
 use mathlib.Core.Path.{_≡_}
 use mathlib.Core.Bool.{true, false, cond}
 use mathlib.Core.List.{List}
+use mathlib.Core.Logic.{_⊎_}
 use lib.Dec.{ltb}
 use lib.ListN.{length, take, drop, getD}
 use Rattle.words.specs.Numbers.{Bytes, be32}
@@ -12,8 +14,9 @@ use Rattle.indices.specs.Area.{run, written}
 use Rattle.indices.specs.Longest.{taken, LongestOf}
 use Rattle.words.specs.Reading.{read}
 use Rattle.indices.specs.Reading.{reading}
+use Rattle.calls.specs.declared.reading_record.ReadingRecord.{ReadingRecord}
 use Rattle.calls.specs.Lent.{partAt, withPart}
-use Rattle.calls.specs.Terms.{minus, Exactly}
+use Rattle.calls.specs.Terms.{minus, Exactly, naming}
 
 -- 01: "Order: flag; type not 9001, 9002, 9003 for indicators nor 9003 for sensors; size at least 4 and address + size at most 2^32 and inside
 -- memory; all -3."
@@ -24,6 +27,14 @@ pub record Asked (m : List ℕ) (flag type address size : ℕ) : Type 0 where
   pub large : 4 ≤ size
   pub below : address + size ≤ 4294967296
   pub inside : address + size ≤ length m
+
+-- 02, M-105: "-3 when flag, type or number differ from the record"; "Starting Number 1 always begins afresh."
+abbrev pub Named : ReadingRecord → ℕ → ℕ → ℕ → Type 0
+Named r flag type number = (number ≡ 1 → ⊥) → (flag ≡ r .flag) × ((type ≡ r .«item_type») × (number ≡ r .number .0))
+
+-- "-4 when the edition differs"
+abbrev pub Current : ReadingRecord → ℕ → ℕ → Type 0
+Current r edition number = (number ≡ 1 → ⊥) → edition ≡ r .edition .0
 
 -- "Then inventory (-1). Then: some entry of this flag and type exists; Starting Number from 1 to the number of entries, unsigned; the entry due
 -- fits; all -3."
@@ -49,12 +60,23 @@ pub record Answer (area left : List ℕ) (es handed : List Entry) (size number s
   -- "Reading what was written gives back the same entries."
   pub reads-back : reading left ≡ read handed
 
--- The call at its inputs: its status and number, and memory before and after it.
-pub record ExactIndices (m i : List ℕ) (flag type address size number status next : ℕ) (after : List ℕ) : Type 0 where
-  pub answered : Exactly (status ≤ 1) (Asked m flag type address size × Passed i (listed flag type i) size number)
-  pub malformed : Exactly (status ≡ minus 1) (Asked m flag type address size × (wellFormed i ≡ false))
-  pub otherwise : (status ≤ 1 → ⊥) → (status ≡ minus 1 → ⊥) → status ≡ minus 3
+-- What a call makes of the record.
+pub record Recorded (r : ReadingRecord) (flag type edition status next : ℕ) (after : ReadingRecord) : Type 0 where
+  -- "an unfinished reading names the first entry not yet handed out"
+  pub names : status ≡ 1 → after ≡ naming flag type next edition
+  -- "-4 clears it, as does status 0"
+  pub cleared : (status ≡ 0) ⊎ (status ≡ minus 4) → after ≡ naming 0 0 1 0
+  -- "A refused call keeps the record"
+  pub kept : (status ≤ 1 → ⊥) → (status ≡ minus 4 → ⊥) → after ≡ r
+
+-- The call at its inputs, over an edition and a record: its status and number, and memory and the record afterwards.
+pub record ExactIndices (m i : List ℕ) (edition : ℕ) (r : ReadingRecord) (flag type address size number status next : ℕ) (after : List ℕ) (then : ReadingRecord) : Type 0 where
+  pub answered : Exactly (status ≤ 1) (Asked m flag type address size × (Named r flag type number × (Current r edition number × Passed i (listed flag type i) size number)))
+  pub changed : Exactly (status ≡ minus 4) (Asked m flag type address size × (Named r flag type number × (Current r edition number → ⊥)))
+  pub malformed : Exactly (status ≡ minus 1) (Asked m flag type address size × (Named r flag type number × (Current r edition number × (wellFormed i ≡ false))))
+  pub otherwise : (status ≤ 1 → ⊥) → (status ≡ minus 4 → ⊥) → (status ≡ minus 1 → ⊥) → status ≡ minus 3
   pub answers : Bytes i → status ≤ 1 →
       let es = listed flag type i in
       Answer (partAt m address size) (partAt after address size) es (run size number es) size number status next
   pub memory : status ≤ 1 → after ≡ withPart m address size (written (partAt m address size) (run size number (listed flag type i)))
+  pub recorded : Recorded r flag type edition status next then

@@ -4,13 +4,16 @@ use mathlib.Core.Bool.{Bool, false, cond, _&&_, _||_, not}
 use mathlib.Core.List.{List, [], _∷_}
 use lib.Dec.{leb, ltb, eqb}
 use lib.ListN.{length, drop}
+use Rattle.inventory.specs.declared.edition.Edition.{Edition}
 use Rattle.inventory.specs.Inventory.{wellFormed}
 use Rattle.inventory.specs.Listing.{Entry, listed}
 use Rattle.indices.specs.Area.{entrySize, run, written}
 use Rattle.calls.specs.declared.request.Request.{Request}
+use Rattle.calls.specs.declared.reading_record.ReadingRecord.{ReadingRecord}
 use Rattle.calls.specs.declared.status.Status.{Status}
-use Rattle.calls.specs.declared.status.Status.the-variants.{Done, Again, Malformed, Parameter}
+use Rattle.calls.specs.declared.status.Status.the-variants.{Done, Again, Malformed, Parameter, Changed}
 use Rattle.calls.specs.Status.{isAnswer}
+use Rattle.calls.specs.ReadingRecord.{isNamed, isCurrent}
 use Rattle.calls.specs.Lent.{partAt, withPart}
 
 -- 01: "flag; type not 9001, 9002, 9003 for indicators nor 9003 for sensors"
@@ -55,19 +58,28 @@ listStatus i q =
     Parameter)
     Malformed
 
--- 01: "Order: flag; type ..; size .. and address + size ..; all -3. Then inventory (-1). Then: ..; all -3."
-unfoldable pub indicesStatus : List ℕ → List ℕ → Request → Status
-indicesStatus m i q =
+-- 02, M-105: "-4 when the edition differs; -3 when flag, type or number differ from the record; both before the inventory check, -3 first."
+unfoldable pub readingStatus : List ℕ → Edition → ReadingRecord → Request → Status
+readingStatus i e r q =
+    cond (isNamed r q)
+    (cond (isCurrent r e q)
+    (listStatus i q)
+    Changed)
+    Parameter
+
+-- 01: "Order: flag; type ..; size .. and address + size ..; all -3. Then inventory (-1). Then: ..; all -3."; 02, M-105: the record's checks stand between.
+unfoldable pub indicesStatus : List ℕ → List ℕ → Edition → ReadingRecord → Request → Status
+indicesStatus m i e r q =
     cond (askable (q .flag) (q .«item_type»))
     (cond (lendable m (q .address) (q .size))
-    (listStatus i q)
+    (readingStatus i e r q)
     Parameter)
     Parameter
 
 -- 01: "The longest fitting run is returned"; "later bytes stay unchanged"
-unfoldable pub indicesMemory : List ℕ → List ℕ → Request → List ℕ
-indicesMemory m i q =
-    cond (isAnswer (indicesStatus m i q)) (withPart m (q .address) (q .size) (written (partAt m (q .address) (q .size)) (runFor i q))) m
+unfoldable pub indicesMemory : List ℕ → List ℕ → Edition → ReadingRecord → Request → List ℕ
+indicesMemory m i e r q =
+    cond (isAnswer (indicesStatus m i e r q)) (withPart m (q .address) (q .size) (written (partAt m (q .address) (q .size)) (runFor i q))) m
 
 -- 01: "Status 1 with the next number, or 0 with 1."
 unfoldable pub nextNumber : List ℕ → Request → ℕ

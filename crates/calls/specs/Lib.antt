@@ -2,6 +2,7 @@ pub mod Status
 pub mod Lent
 pub mod UpdateNodes
 pub mod UpdateProperties
+pub mod ReadingRecord
 pub mod GetIndices
 pub mod ConfigureDump
 pub mod Buffer
@@ -17,7 +18,11 @@ pub mod PropertySession
 pub mod Demands
 pub mod Fewest
 pub mod WholeList
+pub mod Events
+pub mod OneEdition
 pub mod WholeNode
 pub mod Readings
 pub mod PropertyReadings
+pub mod RecordReadings
 pub mod Witnesses
+pub mod CallClaims

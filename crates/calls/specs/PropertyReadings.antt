@@ -8,9 +8,9 @@ use Rattle.words.specs.Numbers.{be32, wordBytes}
 use Rattle.journal.specs.Claims.{short, property}
 use Rattle.property_area.specs.Reading.{reading}
 use Rattle.dump.specs.declared.registration.Phase.the-variants.{Unregistered}
-use Rattle.calls.specs.Buffer.{Left, found, callOf}
+use Rattle.calls.specs.Buffer.{Left, callOf}
 use Rattle.calls.specs.Terms.{minus}
-use Rattle.calls.specs.Readings.{called, reads, nodes, same, none, all}
+use Rattle.calls.specs.Readings.{atRest, called, reads, nodes, same, none, all}
 
 -- a call of a scope over an area with these first four words and sevens behind them
 abbrev pub updateProperties : List ℕ → ℕ → List ℕ → Left
@@ -56,7 +56,7 @@ journalBytes =
 
 abbrev pub wholeBytes : Left
 wholeBytes =
-    callOf (found (0 ∷ 0 ∷ 0 ∷ 4 ∷ 0 ∷ 0 ∷ 0 ∷ 2 ∷ 0 ∷ 0 ∷ 0 ∷ 1 ∷ 0 ∷ 0 ∷ 0 ∷ 0 ∷ 255 ∷ 255 ∷ 255 ∷ 255 ∷ 9 ∷ 9 ∷ 9 ∷ 9 ∷ [])
+    callOf (atRest (0 ∷ 0 ∷ 0 ∷ 4 ∷ 0 ∷ 0 ∷ 0 ∷ 2 ∷ 0 ∷ 0 ∷ 0 ∷ 1 ∷ 0 ∷ 0 ∷ 0 ∷ 0 ∷ 255 ∷ 255 ∷ 255 ∷ 255 ∷ 9 ∷ 9 ∷ 9 ∷ 9 ∷ [])
     ((1 ∷ 2 ∷ 3 ∷ 4 ∷ replicate 12 0) ++ replicate 4080 7) journalBytes [] none)
 
 abbrev pub wholeArea : List ℕ

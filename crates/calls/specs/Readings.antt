@@ -18,12 +18,19 @@ use Rattle.dump.specs.declared.registration.Phase.the-variants.{Unregistered, R
 use Rattle.dump.specs.Claims.{from, bare, asked, times}
 use Rattle.calls.specs.Status.{numberOf}
 use Rattle.calls.specs.Lent.{partAt}
-use Rattle.calls.specs.Buffer.{Left, found, callOf}
-use Rattle.calls.specs.Terms.{minus}
+use Rattle.calls.specs.Buffer.{Found, Left, found, callOf}
+use Rattle.calls.specs.Terms.{minus, naming}
+
+-- what a call finds over the edition 0, with no reading in progress
+abbrev pub atRest : List ℕ → List ℕ → List ℕ → List ℕ → Registration → Found
+atRest args m j i registration = found args m j i (record { 0 = 0 }) registration (naming 0 0 1 0)
+
+abbrev pub none : Registration
+none = record { phase = Unregistered; len = 0; copy = [] }
 
 -- what a call leaves, by the words of its argument buffer, memory, journal, inventory and the phase of its registration
 abbrev pub called : List ℕ → List ℕ → List ℕ → List ℕ → Phase → Left
-called args m j i p = callOf (found (wordBytes args) m j i (record { phase = p; len = 0; copy = [] }))
+called args m j i p = callOf (atRest (wordBytes args) m j i (record { phase = p; len = 0; copy = [] }))
 
 -- ---- update-nodes
 
@@ -76,9 +83,10 @@ abbrev pub inventoryOf : List ℕ → List ℕ
 inventoryOf [] = []
 inventoryOf (c ∷ cs) = entry (12 + c) 16 1 (bytes c) ++ inventoryOf cs
 
--- a call over so many sevens
+-- a call over so many sevens, with a record that names what it asks for
 abbrev pub getIndices : ℕ → List ℕ → ℕ → ℕ → ℕ → ℕ → ℕ → Left
-getIndices memory codes flag type address size number = called (2 ∷ 5 ∷ 2 ∷ flag ∷ type ∷ address ∷ size ∷ number ∷ 9 ∷ 9 ∷ []) (replicate memory 7) [] (inventoryOf codes) Unregistered
+getIndices memory codes flag type address size number =
+    callOf (found (wordBytes (2 ∷ 5 ∷ 2 ∷ flag ∷ type ∷ address ∷ size ∷ number ∷ 9 ∷ 9 ∷ [])) (replicate memory 7) [] (inventoryOf codes) (record { 0 = 0 }) none (naming flag type number 0))
 
 -- sensors are listed in an area of a size at an address, from a Starting Number on: the status, the entries that it reads as, the next number
 abbrev pub sensorsOver : ℕ → List ℕ → ℕ → ℕ → ℕ → ℕ → ℕ → ℕ → Bool
@@ -120,7 +128,7 @@ commanded p command status = dump p structure command 0 80 status
 
 -- a buffer of a size with these counts: the number
 abbrev pub numbered : ℕ → ℕ → ℕ → ℕ → Bool
-numbered inputs outputs size number = eqb (numberOf (callOf (found (take size (wordBytes (1 ∷ inputs ∷ outputs ∷ []) ++ replicate 200 0)) [] [] [] (record { phase = Unregistered; len = 0; copy = [] })) .number)) number
+numbered inputs outputs size number = eqb (numberOf (callOf (atRest (take size (wordBytes (1 ∷ inputs ∷ outputs ∷ []) ++ replicate 200 0)) [] [] [] none) .number)) number
 
 -- a token with counts that no call has, in memory of 4,096 zero bytes: the status in the first output
 abbrev pub unknown : ℕ → ℕ → ℕ → Bool
@@ -148,25 +156,22 @@ reports scope ws = same (take (length ws) (drop 4 (words (updateNodes (everyType
 
 -- ---- bytes, so that no definition stands between a case and the paper
 
-abbrev pub none : Registration
-none = record { phase = Unregistered; len = 0; copy = [] }
-
 -- update-nodes of scope 1: a delete, an addition, and a delete with a lower phandle
 abbrev pub nodesBytes : Left
 nodesBytes =
-    callOf (found (0 ∷ 0 ∷ 0 ∷ 1 ∷ 0 ∷ 0 ∷ 0 ∷ 2 ∷ 0 ∷ 0 ∷ 0 ∷ 1 ∷ 0 ∷ 0 ∷ 0 ∷ 0 ∷ 0 ∷ 0 ∷ 0 ∷ 1 ∷ 9 ∷ 9 ∷ 9 ∷ 9 ∷ []) (replicate 16 0 ++ replicate 4080 7)
+    callOf (atRest (0 ∷ 0 ∷ 0 ∷ 1 ∷ 0 ∷ 0 ∷ 0 ∷ 2 ∷ 0 ∷ 0 ∷ 0 ∷ 1 ∷ 0 ∷ 0 ∷ 0 ∷ 0 ∷ 0 ∷ 0 ∷ 0 ∷ 1 ∷ 9 ∷ 9 ∷ 9 ∷ 9 ∷ []) (replicate 16 0 ++ replicate 4080 7)
     ((8 ∷ 0 ∷ 1 ∷ 0 ∷ 11 ∷ 0 ∷ 8 ∷ 7 ∷ 6 ∷ 5 ∷ []) ++ ((12 ∷ 0 ∷ 3 ∷ 0 ∷ 10 ∷ 0 ∷ 4 ∷ 3 ∷ 2 ∷ 1 ∷ 12 ∷ 11 ∷ 10 ∷ 9 ∷ []) ++ (8 ∷ 0 ∷ 1 ∷ 0 ∷ 10 ∷ 0 ∷ 2 ∷ 0 ∷ 0 ∷ 0 ∷ []))) [] none)
 
 -- update-nodes of scope 3: an update of a unit, one of a unit that differs in one byte, and one of the first unit with a lower phandle
 abbrev pub unitBytes : Left
 unitBytes =
-    callOf (found (0 ∷ 0 ∷ 0 ∷ 1 ∷ 0 ∷ 0 ∷ 0 ∷ 2 ∷ 0 ∷ 0 ∷ 0 ∷ 1 ∷ 0 ∷ 0 ∷ 0 ∷ 0 ∷ 0 ∷ 0 ∷ 0 ∷ 3 ∷ 9 ∷ 9 ∷ 9 ∷ 9 ∷ []) ((0 ∷ 0 ∷ 0 ∷ 0 ∷ 8 ∷ 7 ∷ 6 ∷ 5 ∷ 4 ∷ 3 ∷ 2 ∷ 1 ∷ 0 ∷ 0 ∷ 0 ∷ 0 ∷ []) ++ replicate 4080 7)
+    callOf (atRest (0 ∷ 0 ∷ 0 ∷ 1 ∷ 0 ∷ 0 ∷ 0 ∷ 2 ∷ 0 ∷ 0 ∷ 0 ∷ 1 ∷ 0 ∷ 0 ∷ 0 ∷ 0 ∷ 0 ∷ 0 ∷ 0 ∷ 3 ∷ 9 ∷ 9 ∷ 9 ∷ 9 ∷ []) ((0 ∷ 0 ∷ 0 ∷ 0 ∷ 8 ∷ 7 ∷ 6 ∷ 5 ∷ 4 ∷ 3 ∷ 2 ∷ 1 ∷ 0 ∷ 0 ∷ 0 ∷ 0 ∷ []) ++ replicate 4080 7)
     ((16 ∷ 0 ∷ 4 ∷ 0 ∷ 15 ∷ 0 ∷ 1 ∷ 2 ∷ 3 ∷ 4 ∷ 5 ∷ 6 ∷ 7 ∷ 8 ∷ 12 ∷ 11 ∷ 10 ∷ 9 ∷ []) ++ ((16 ∷ 0 ∷ 4 ∷ 0 ∷ 16 ∷ 0 ∷ 1 ∷ 2 ∷ 3 ∷ 5 ∷ 5 ∷ 6 ∷ 7 ∷ 8 ∷ 1 ∷ 0 ∷ 0 ∷ 0 ∷ []) ++ (16 ∷ 0 ∷ 4 ∷ 0 ∷ 16 ∷ 0 ∷ 1 ∷ 2 ∷ 3 ∷ 4 ∷ 5 ∷ 6 ∷ 7 ∷ 8 ∷ 2 ∷ 0 ∷ 0 ∷ 0 ∷ []))) [] none)
 
 -- get-indices of sensors of type 0x01020304 among others, in an area at address 8
 abbrev pub indicesBytes : Left
 indicesBytes =
-    callOf (found (0 ∷ 0 ∷ 0 ∷ 2 ∷ 0 ∷ 0 ∷ 0 ∷ 5 ∷ 0 ∷ 0 ∷ 0 ∷ 2 ∷ 0 ∷ 0 ∷ 0 ∷ 1 ∷ 1 ∷ 2 ∷ 3 ∷ 4 ∷ 0 ∷ 0 ∷ 0 ∷ 8 ∷ 0 ∷ 0 ∷ 0 ∷ 100 ∷ 0 ∷ 0 ∷ 0 ∷ 1 ∷ replicate 8 9) (replicate 200 7) []
+    callOf (atRest (0 ∷ 0 ∷ 0 ∷ 2 ∷ 0 ∷ 0 ∷ 0 ∷ 5 ∷ 0 ∷ 0 ∷ 0 ∷ 2 ∷ 0 ∷ 0 ∷ 0 ∷ 1 ∷ 1 ∷ 2 ∷ 3 ∷ 4 ∷ 0 ∷ 0 ∷ 0 ∷ 8 ∷ 0 ∷ 0 ∷ 0 ∷ 100 ∷ 0 ∷ 0 ∷ 0 ∷ 1 ∷ replicate 8 9) (replicate 200 7) []
     ((15 ∷ 0 ∷ 16 ∷ 0 ∷ 1 ∷ 0 ∷ 4 ∷ 3 ∷ 2 ∷ 1 ∷ 8 ∷ 7 ∷ 6 ∷ 5 ∷ 85 ∷ 55 ∷ 56 ∷ []) ++ ((13 ∷ 0 ∷ 16 ∷ 0 ∷ 0 ∷ 0 ∷ 4 ∷ 3 ∷ 2 ∷ 1 ∷ 1 ∷ 0 ∷ 0 ∷ 0 ∷ 65 ∷ []) ++ ((13 ∷ 0 ∷ 16 ∷ 0 ∷ 1 ∷ 0 ∷ 4 ∷ 3 ∷ 2 ∷ 0 ∷ 1 ∷ 0 ∷ 0 ∷ 0 ∷ 65 ∷ []) ++ (16 ∷ 0 ∷ 16 ∷ 0 ∷ 1 ∷ 0 ∷ 4 ∷ 3 ∷ 2 ∷ 1 ∷ 3 ∷ 0 ∷ 0 ∷ 0 ∷ 65 ∷ 66 ∷ 67 ∷ 68 ∷ [])))) none)
 
 -- configure-kernel-dump: command 1 for a structure of one section without a disk, all of whose free fields are zero
@@ -174,7 +179,7 @@ abbrev pub zeroStructure : List ℕ
 zeroStructure = (0 ∷ 0 ∷ 0 ∷ 1 ∷ 0 ∷ 1 ∷ 0 ∷ 0 ∷ 0 ∷ 0 ∷ 0 ∷ 40 ∷ replicate 28 0) ++ (0 ∷ 0 ∷ 0 ∷ 1 ∷ 0 ∷ 1 ∷ replicate 34 0)
 
 abbrev pub dumpBytes : Left
-dumpBytes = callOf (found (0 ∷ 0 ∷ 0 ∷ 3 ∷ 0 ∷ 0 ∷ 0 ∷ 3 ∷ 0 ∷ 0 ∷ 0 ∷ 1 ∷ 0 ∷ 0 ∷ 0 ∷ 1 ∷ 0 ∷ 0 ∷ 0 ∷ 2 ∷ 0 ∷ 0 ∷ 0 ∷ 80 ∷ 9 ∷ 9 ∷ 9 ∷ 9 ∷ []) (7 ∷ 7 ∷ zeroStructure) [] [] none)
+dumpBytes = callOf (atRest (0 ∷ 0 ∷ 0 ∷ 3 ∷ 0 ∷ 0 ∷ 0 ∷ 3 ∷ 0 ∷ 0 ∷ 0 ∷ 1 ∷ 0 ∷ 0 ∷ 0 ∷ 1 ∷ 0 ∷ 0 ∷ 0 ∷ 2 ∷ 0 ∷ 0 ∷ 0 ∷ 80 ∷ 9 ∷ 9 ∷ 9 ∷ 9 ∷ []) (7 ∷ 7 ∷ zeroStructure) [] [] none)
 
 -- ---- the table
 

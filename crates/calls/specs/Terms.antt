@@ -4,12 +4,17 @@ use mathlib.Core.Path.{_≡_}
 use mathlib.Core.List.{List}
 use mathlib.Core.Logic.{_⊎_}
 use Rattle.words.specs.Numbers.{be32}
+use Rattle.calls.specs.declared.reading_record.ReadingRecord.{ReadingRecord}
 use Rattle.calls.specs.Status.{numberOf}
 use Rattle.calls.specs.Buffer.{Left}
 
 -- a status below 0, as a 32-bit word
 abbrev pub minus : ℕ → ℕ
 minus n = 4294967296 - n
+
+-- 02, M-105: a record by its four numbers, "flag, type, next Starting Number and the inventory's 32-bit edition number"
+abbrev pub naming : ℕ → ℕ → ℕ → ℕ → ReadingRecord
+naming flag type number edition = record { flag = flag; «item_type» = type; number = record { 0 = number }; edition = record { 0 = edition } }
 
 -- 01: number 0: "none of these: a status is in the buffer"
 abbrev pub HasStatus : Left → Type 0

@@ -15,6 +15,7 @@ pub enum Status {
     Again,
     Malformed,
     Parameter,
+    Changed,
     AlreadyRegistered,
     DumpActive,
 }
@@ -28,6 +29,7 @@ pub fn status_word(status: Status) -> u32
         Status::Again => 1,
         Status::Malformed => 4294967295,
         Status::Parameter => 4294967293,
+        Status::Changed => 4294967292,
         Status::AlreadyRegistered => 4294967287,
         Status::DumpActive => 4294967286,
     }

@@ -12,11 +12,10 @@ use Rattle.dump.specs.declared.registration.Registration.{Registration}
 use Rattle.dump.specs.Registration.{copySize, noRegistration}
 use Rattle.calls.specs.declared.status.Number.{Number}
 use Rattle.calls.specs.declared.status.Number.the-variants.{Given, Short, NoOutputs, TooMany}
-use Rattle.calls.specs.Buffer.{found}
 use Rattle.calls.specs.Status.{numberOf}
 use Rattle.calls.proofs.Registrations.{handed-short}
 use Rattle.draugsten.specs.declared.calling.FlatRegistration.{FlatRegistration}
-use Rattle.draugsten.specs.Registration.{phaseNumber, phaseOf, flatOf, registrationOf, isRegistration, Faithful, FlatFound, called, flatCallOf, HandedOn, StartTaken}
+use Rattle.draugsten.specs.Registration.{phaseNumber, phaseOf, flatOf, registrationOf, isRegistration, Faithful, FlatFound, foundOver, called, flatCallOf, HandedOn, StartTaken}
 
 -- the phase and the length of a registration
 bounds : (f : FlatRegistration) → isRegistration f ≡ true → (f .phase ≤ 2) × (f .length ≤ copySize)
@@ -64,7 +63,7 @@ module _ (f : FlatFound) where
 
   then-is : isRegistration (f .registration) ≡ true → isRegistration (flatCallOf f .registration) ≡ true
   unfolding flatCallOf
-  then-is is = rw is (flat-is (called f .registration) (handed-short (found (f .args) (f .memory) (f .journal) (f .inventory) (registrationOf (f .registration))) (bounds (f .registration) is .1)))
+  then-is is = rw is (flat-is (called f .registration) (handed-short (foundOver f) (bounds (f .registration) is .1)))
 
 -- a claim that `draugsten_call` cites
 pub handed-on : HandedOn

@@ -1,2 +1,4 @@
+pub mod Record
 pub mod Registration
+pub mod Crossing
 pub mod Readings

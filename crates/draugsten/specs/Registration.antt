@@ -9,8 +9,10 @@ use Rattle.dump.specs.declared.registration.Phase.the-variants.{Unregistered, R
 use Rattle.dump.specs.declared.registration.Registration.{Registration}
 use Rattle.dump.specs.Registration.{copySize, noRegistration}
 use Rattle.calls.specs.Status.{numberOf}
-use Rattle.calls.specs.Buffer.{found, Left, callOf}
+use Rattle.calls.specs.Buffer.{Found, found, Left, callOf}
 use Rattle.draugsten.specs.declared.calling.FlatRegistration.{FlatRegistration}
+use Rattle.draugsten.specs.declared.reading_record.FlatReading.{FlatReading}
+use Rattle.draugsten.specs.Record.{flatReadingOf, readingOf}
 
 -- 01: "The registration is none, registered (with a copy of the structure) or active": the phases by their numbers
 abbrev pub phaseNumber : Phase → ℕ
@@ -35,36 +37,43 @@ isRegistration f = leb (f .phase) 2 && leb (f .length) copySize
 abbrev pub Faithful : Type 0
 Faithful = (f : FlatRegistration) → isRegistration f ≡ true → flatOf (registrationOf f) ≡ f
 
--- All that a call finds and all that it leaves, with the registration as it crosses.
+-- All that a call finds and all that it leaves, with the registration and the reading record as they cross.
 pub record FlatFound : Type 0 where
   pub args : List ℕ
   pub memory : List ℕ
   pub journal : List ℕ
   pub inventory : List ℕ
+  pub edition : ℕ
   pub registration : FlatRegistration
+  pub reading : FlatReading
 
-abbrev pub flatFound : List ℕ → List ℕ → List ℕ → List ℕ → FlatRegistration → FlatFound
-flatFound args memory journal inventory registration = record { args = args; memory = memory; journal = journal; inventory = inventory; registration = registration }
+abbrev pub flatFound : List ℕ → List ℕ → List ℕ → List ℕ → ℕ → FlatRegistration → FlatReading → FlatFound
+flatFound args memory journal inventory edition registration reading =
+    record { args = args; memory = memory; journal = journal; inventory = inventory; edition = edition; registration = registration; reading = reading }
 
 pub record FlatLeft : Type 0 where
   pub number : ℕ
   pub args : List ℕ
   pub memory : List ℕ
   pub registration : FlatRegistration
+  pub reading : FlatReading
 
-abbrev pub flatLeaves : ℕ → List ℕ → List ℕ → FlatRegistration → FlatLeft
-flatLeaves number args memory registration = record { number = number; args = args; memory = memory; registration = registration }
+abbrev pub flatLeaves : ℕ → List ℕ → List ℕ → FlatRegistration → FlatReading → FlatLeft
+flatLeaves number args memory registration reading = record { number = number; args = args; memory = memory; registration = registration; reading = reading }
 
--- The call where a registration is given.
+-- The call where a registration is given, and what it finds.
+abbrev pub foundOver : FlatFound → Found
+foundOver f = found (f .args) (f .memory) (f .journal) (f .inventory) (record { 0 = f .edition }) (registrationOf (f .registration)) (readingOf (f .reading))
+
 abbrev pub called : FlatFound → Left
-called f = callOf (found (f .args) (f .memory) (f .journal) (f .inventory) (registrationOf (f .registration)))
+called f = callOf (foundOver f)
 
 -- 13 where none is given, and then nothing changes
 unfoldable pub flatCallOf : FlatFound → FlatLeft
 flatCallOf f =
     let x = called f in
-    let given = flatLeaves (numberOf (x .number)) (x .args) (x .memory) (flatOf (x .registration)) in
-    cond (isRegistration (f .registration)) given (flatLeaves 13 (f .args) (f .memory) (f .registration))
+    let given = flatLeaves (numberOf (x .number)) (x .args) (x .memory) (flatOf (x .registration)) (flatReadingOf (x .reading)) in
+    cond (isRegistration (f .registration)) given (flatLeaves 13 (f .args) (f .memory) (f .registration) (f .reading))
 
 -- A call that does not itself give 13 gives a registration that no later call refuses with 13.
 abbrev pub HandedOn : Type 0

@@ -3,10 +3,15 @@ ghost use mathlib.Core.Path.{_≡_};
 ghost use Rattle.dump.specs.Registration.{noRegistration};
 ghost use Rattle.calls.specs.Status.{numberOf};
 ghost use Rattle.draugsten.specs.Registration.{phaseNumber, phaseOf, flatOf, registrationOf, isRegistration, Faithful, HandedOn, StartTaken, flatFound, flatLeaves, flatCallOf};
+ghost use Rattle.draugsten.specs.Crossing.{RecordCrosses};
+use crate::reading_record::FlatReading;
+use crate::reading_record::flat_reading_of;
+use crate::reading_record::reading_of;
 use calls::Number;
 use dump::COPY_SIZE;
 use dump::Phase;
 use dump::Registration;
+use inventory::Edition;
 
 // A registration: its phase (0 none, 1 registered, 2 active), and the copied structure, which is the first `length` bytes of `copy`.
 #[repr(C)]
@@ -16,11 +21,12 @@ pub struct FlatRegistration {
     pub copy: [u8; COPY_SIZE],
 }
 
-// What a call answers: its number, and the registration afterwards.
+// What a call answers: its number, and the registration and the reading record afterwards.
 #[repr(C)]
 pub struct FlatAnswer {
     pub number: u32,
     pub registration: FlatRegistration,
+    pub reading: FlatReading,
 }
 
 fn phase_of(number: u32) -> Phase
@@ -101,29 +107,37 @@ pub extern "C" fn draugsten_call(
     memory: &mut [u8],
     journal: &[u8],
     inventory: &[u8],
+    edition: u32,
     registration: FlatRegistration,
+    reading: FlatReading,
 ) -> FlatAnswer
-    ensures { λ r. ⌜ flatLeaves (r .number) (now (args .exit)) (now (memory .exit)) (r .registration) ≡ flatCallOf (flatFound (now (args .entry)) (now (memory .entry)) (now (journal .entry)) (now (inventory .entry)) registration) ⌝ }
+    ensures { λ r. ⌜ flatLeaves (r .number) (now (args .exit)) (now (memory .exit)) (r .registration) (r .reading) ≡ flatCallOf (flatFound (now (args .entry)) (now (memory .entry)) (now (journal .entry)) (now (inventory .entry)) edition registration reading) ⌝ }
     ensures faithful { λ _. ⌜ Faithful ⌝ }
-    ensures handed { λ _. ⌜ HandedOn ⌝ }
+    ensures handed { λ _. ⌜ HandedOn × RecordCrosses ⌝ }
 {
     if !is_registration(registration) {
         return FlatAnswer {
             number: 13,
             registration,
+            reading,
         };
     }
-    let answer = rtas::call(
+    let stepped = rtas::call_step(
         args,
         memory,
         journal,
         inventory,
+        Edition(edition),
         registration_of(registration),
+        reading_of(reading),
     );
+    let answer = stepped.answer;
     let number = answer.number;
     let next = answer.registration;
+    let then = stepped.reading;
     FlatAnswer {
         number: number_of(number),
         registration: flat_of(next),
+        reading: flat_reading_of(then),
     }
 }

@@ -2,3 +2,4 @@
 mod calling;
 mod reading;
 mod reading_properties;
+mod reading_record;

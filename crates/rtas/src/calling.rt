@@ -1,39 +1,40 @@
 // A call through the argument buffer.
 ghost use mathlib.Core.Path.{_≡_};
-ghost use mathlib.Core.Bool.{cond};
-ghost use mathlib.Core.List.{[], _∷_};
 ghost use Prim.Native.Nat.{_+_, _≤_};
 ghost use lib.ListN.{length};
-ghost use lib.Seq.{sets};
-ghost use Rattle.words.specs.Numbers.{wordBytes};
-ghost use Rattle.calls.specs.Status.{isGiven, isAnswer};
-ghost use Rattle.calls.specs.GetIndices.{indicesStatus, indicesMemory, nextNumber};
 ghost use Rattle.calls.specs.Buffer.{numberFor, asks, requestOf, found, leaves, callOf};
-ghost use Rattle.rtas.specs.Working.{Worked};
-ghost use Rattle.calls.specs.Demands.{Demand1, Demand2, Demand3};
-ghost use Rattle.calls.specs.Fewest.{FewestAreas, FewestWitness};
-ghost use Rattle.calls.specs.WholeList.{WholeList};
-ghost use Rattle.calls.specs.WholeNode.{WholeNode};
-ghost use Rattle.calls.specs.Witnesses.{NodesWitness, IndicesWitness, PropertiesWitness};
-ghost use Rattle.calls.specs.Readings.{Readings};
-ghost use Rattle.calls.specs.PropertyReadings.{PropertyReadings};
+ghost use Rattle.rtas.specs.Working.{Indexes, Worked};
+ghost use Rattle.calls.specs.CallClaims.{CallClaims};
 use crate::dump_call::configure_kernel_dump;
-use crate::indices_call::get_indices;
 use crate::nodes_call::update_nodes;
 use crate::properties_call::update_properties;
 use crate::work::Work;
 use calls::Number;
+use calls::ReadingRecord;
 use calls::Request;
 use calls::Status;
 use calls::is_given;
 use calls::status_word;
 use dump::Registration;
+use inventory::Edition;
 use inventory::StartingNumber;
 
 // What a call answers: its number, and the registration afterwards.
 pub struct Answer {
     pub number: Number,
     pub registration: Registration,
+}
+
+// What a step gives: the call's answer, and the reading record afterwards.
+pub struct Stepped {
+    pub answer: Answer,
+    pub reading: ReadingRecord,
+}
+
+// What get-indices gives: its status, and the reading record afterwards.
+struct Indexed {
+    status: Status,
+    reading: ReadingRecord,
 }
 
 // The number of a call, by the head of its argument buffer.
@@ -86,19 +87,25 @@ fn request_of(args: &[u8]) -> Request
 }
 
 // get-indices by its argument buffer: an answer stores the Next Starting Number, its second output.
-fn list_indices(args: &mut [u8], memory: &mut [u8], inventory: &[u8]) -> Status
+fn list_indices(
+    args: &mut [u8],
+    memory: &mut [u8],
+    inventory: &[u8],
+    edition: Edition,
+    reading: ReadingRecord,
+) -> Indexed
     requires { ⌜ 40 ≤ length (now args) ⌝ }
-    ensures { λ r. ⌜ r ≡ indicesStatus (now (memory .entry)) (now (inventory .entry)) (requestOf (now (args .entry))) ⌝ }
-    ensures { λ _. ⌜ now (args .exit) ≡ sets (now (args .entry)) 36 (wordBytes (cond (isAnswer (indicesStatus (now (memory .entry)) (now (inventory .entry)) (requestOf (now (args .entry))))) (nextNumber (now (inventory .entry)) (requestOf (now (args .entry))) ∷ []) [])) ⌝ }
-    ensures { λ _. ⌜ now (memory .exit) ≡ indicesMemory (now (memory .entry)) (now (inventory .entry)) (requestOf (now (args .entry))) ⌝ }
+    ensures { λ r. ⌜ Indexes (now (memory .entry)) (now (inventory .entry)) edition reading (now (args .entry)) (r .status) (r .reading) (now (args .exit)) (now (memory .exit)) ⌝ }
 {
-    let listed = get_indices(memory, inventory, request_of(&*args));
+    let request = request_of(&*args);
+    let listed = index_calls::get_indices(memory, inventory, edition, reading, request);
     let status = listed.status;
     let next = listed.next;
+    let reading = index_calls::record_after(status, request, next, edition, reading);
     if status_word(status) <= 1 {
         next.store(args, 36);
     }
-    status
+    Indexed { status, reading }
 }
 
 // The work of a call whose number is 0, and its outputs after the status. Every token is found here.
@@ -107,10 +114,12 @@ fn dispatch(
     memory: &mut [u8],
     journal: &[u8],
     inventory: &[u8],
+    edition: Edition,
     registration: Registration,
+    reading: ReadingRecord,
 ) -> Work
     requires { ⌜ numberFor (now args) ≡ Number.Given ⌝ }
-    ensures { λ r. ⌜ Worked (found (now (args .entry)) (now (memory .entry)) (now (journal .entry)) (now (inventory .entry)) registration) (r .status) (r .registration) (now (args .exit)) (now (memory .exit)) ⌝ }
+    ensures { λ r. ⌜ Worked (found (now (args .entry)) (now (memory .entry)) (now (journal .entry)) (now (inventory .entry)) edition registration reading) (r .status) (r .registration) (r .reading) (now (args .exit)) (now (memory .exit)) ⌝ }
 {
     if asks_for(&*args, 1, 2, 1) {
         let address = words::read_be32(args, 12);
@@ -119,20 +128,31 @@ fn dispatch(
         return Work {
             status,
             registration,
+            reading,
         };
     }
     if asks_for(&*args, 2, 5, 2) {
-        let status = list_indices(args, memory, inventory);
+        let indexed = list_indices(args, memory, inventory, edition, reading);
+        let status = indexed.status;
+        let reading = indexed.reading;
         return Work {
             status,
             registration,
+            reading,
         };
     }
     if asks_for(&*args, 3, 3, 1) {
         let command = words::read_be32(args, 12);
         let address = words::read_be32(args, 16);
         let len = words::read_be32(args, 20);
-        return configure_kernel_dump(&*memory, registration, command, address, len);
+        let configured = configure_kernel_dump(&*memory, registration, command, address, len);
+        let status = configured.status;
+        let registration = configured.registration;
+        return Work {
+            status,
+            registration,
+            reading,
+        };
     }
     if asks_for(&*args, 4, 2, 1) {
         let address = words::read_be32(args, 12);
@@ -141,39 +161,80 @@ fn dispatch(
         return Work {
             status,
             registration,
+            reading,
         };
     }
     Work {
         status: Status::Parameter,
         registration,
+        reading,
     }
 }
 
-// One call: any argument buffer, memory, journal, inventory and registration.
+// One call by value: any argument buffer, memory, journal, inventory and edition, registration and reading record.
+pub fn call_step(
+    args: &mut [u8],
+    memory: &mut [u8],
+    journal: &[u8],
+    inventory: &[u8],
+    edition: Edition,
+    registration: Registration,
+    reading: ReadingRecord,
+) -> Stepped
+    ensures { λ r. ⌜ leaves (r .answer .number) (now (args .exit)) (now (memory .exit)) (r .answer .registration) (r .reading) ≡ callOf (found (now (args .entry)) (now (memory .entry)) (now (journal .entry)) (now (inventory .entry)) edition registration reading) ⌝ }
+    ensures claims { λ _. ⌜ CallClaims ⌝ }
+{
+    let number = number_for(&*args);
+    if !is_given(number) {
+        let answer = Answer {
+            number,
+            registration,
+        };
+        return Stepped { answer, reading };
+    }
+    let inputs = words::read_be32(args, 4) as usize;
+    let work = dispatch(
+        args,
+        memory,
+        journal,
+        inventory,
+        edition,
+        registration,
+        reading,
+    );
+    let status = work.status;
+    let registration = work.registration;
+    let reading = work.reading;
+    words::store_be32(args, 12 + 4 * inputs, status_word(status));
+    let answer = Answer {
+        number,
+        registration,
+    };
+    Stepped { answer, reading }
+}
+
+// One call with the reading record changed in place: any argument buffer, memory, journal, inventory and edition, registration and record.
 pub fn call(
     args: &mut [u8],
     memory: &mut [u8],
     journal: &[u8],
     inventory: &[u8],
+    edition: Edition,
     registration: Registration,
+    reading: &mut ReadingRecord,
 ) -> Answer
-    ensures { λ r. ⌜ leaves (r .number) (now (args .exit)) (now (memory .exit)) (r .registration) ≡ callOf (found (now (args .entry)) (now (memory .entry)) (now (journal .entry)) (now (inventory .entry)) registration) ⌝ }
-    ensures demands { λ _. ⌜ Demand1 × Demand2 × Demand3 × FewestAreas × WholeList × WholeNode × NodesWitness × FewestWitness × IndicesWitness × PropertiesWitness × Readings × PropertyReadings ⌝ }
+    ensures { λ r. ⌜ leaves (r .number) (now (args .exit)) (now (memory .exit)) (r .registration) (now (reading .exit)) ≡ callOf (found (now (args .entry)) (now (memory .entry)) (now (journal .entry)) (now (inventory .entry)) edition registration (now (reading .entry))) ⌝ }
+    ensures claims { λ _. ⌜ CallClaims ⌝ }
 {
-    let number = number_for(&*args);
-    if !is_given(number) {
-        return Answer {
-            number,
-            registration,
-        };
-    }
-    let inputs = words::read_be32(args, 4) as usize;
-    let work = dispatch(args, memory, journal, inventory, registration);
-    let status = work.status;
-    let registration = work.registration;
-    words::store_be32(args, 12 + 4 * inputs, status_word(status));
-    Answer {
-        number,
+    let stepped = call_step(
+        args,
+        memory,
+        journal,
+        inventory,
+        edition,
         registration,
-    }
+        *reading,
+    );
+    *reading = stepped.reading;
+    stepped.answer
 }

@@ -2,10 +2,15 @@
 ghost use mathlib.Core.Path.{_≡_};
 ghost use Rattle.dump.specs.Registration.{registrationAfter};
 ghost use Rattle.calls.specs.ConfigureDump.{verdictStatus, dumpStatus};
-use crate::work::Work;
 use calls::Status;
 use dump::Registration;
 use dump::Verdict;
+
+// What a command gives: its status, and the registration afterwards.
+pub struct Configured {
+    pub status: Status,
+    pub registration: Registration,
+}
 
 fn verdict_status(verdict: Verdict) -> Status
     ensures { λ r. ⌜ r ≡ verdictStatus verdict ⌝ }
@@ -25,13 +30,13 @@ pub fn configure_kernel_dump(
     command: u32,
     address: u32,
     len: u32,
-) -> Work
+) -> Configured
     ensures { λ r. ⌜ (r .status ≡ dumpStatus (now (memory .entry)) command address len registration) × (r .registration ≡ registrationAfter (now (memory .entry)) command address len registration) ⌝ }
 {
     let configured = registration.configure(memory, command, address, len);
     let verdict = configured.verdict;
     let next = configured.next;
-    Work {
+    Configured {
         status: verdict_status(verdict),
         registration: next,
     }

@@ -38,6 +38,7 @@ fn statuses() {
         ("CALL_AGAIN", Answer::CallAgain as i32),
         ("MALFORMED", Fault::Malformed as i32),
         ("PARAMETER", Fault::Parameter as i32),
+        ("CHANGED", Fault::Changed as i32),
         ("ALREADY_REGISTERED", Fault::AlreadyRegistered as i32),
         ("DUMP_ACTIVE", Fault::DumpActive as i32),
     ];

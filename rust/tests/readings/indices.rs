@@ -2,23 +2,23 @@
 
 use crate::partition::Partition;
 use draugsten::args::{self, Flag, IndexRequest, SUFFICIENT_SIZE};
-use draugsten::{read_indices, Answer, Entry, Fault, Reason, Refusal, CODE_LIMIT};
+use draugsten::{read_indices, Answer, Entry, Fault, ReadingRecord, Reason, Refusal, CODE_LIMIT};
 
 /// The entry due of indicators of type 9006, from the start of memory, in the least area that always holds it.
-const REQUEST: IndexRequest =
+pub const REQUEST: IndexRequest =
     IndexRequest { flag: Flag::Indicator, type_number: 9006, address: 0, size: SUFFICIENT_SIZE, starting_number: 1 };
 
 /// A code of the most bytes.
 const LONGEST: &[u8] = &[b'x'; CODE_LIMIT];
 
-fn record(flag: Flag, type_number: u32, index: u32, code: &[u8]) -> Vec<u8> {
+pub fn record(flag: Flag, type_number: u32, index: u32, code: &[u8]) -> Vec<u8> {
     let head = [12 + code.len() as u16, 16, flag as u16].into_iter().flat_map(u16::to_le_bytes);
     let numbers = [type_number, index].into_iter().flat_map(u32::to_le_bytes);
     head.chain(numbers).chain(code.iter().copied()).collect()
 }
 
 /// A partition with an indicator of type 9006 for each code, numbered from 0.
-fn partition_of(codes: &[&[u8]]) -> Partition {
+pub fn partition_of(codes: &[&[u8]]) -> Partition {
     let mut partition = Partition::new();
     partition.inventory = record(Flag::Sensor, 9006, 77, b"a sensor");
     for (index, code) in codes.iter().enumerate() {
@@ -27,7 +27,8 @@ fn partition_of(codes: &[&[u8]]) -> Partition {
     partition
 }
 
-fn get_indices(partition: &mut Partition, request: &IndexRequest) -> (Result<Answer, Fault>, u32) {
+/// The answer, and the Next Starting Number, which is 0 where the call did not give it.
+pub fn get_indices(partition: &mut Partition, request: &IndexRequest) -> (Result<Answer, Fault>, u32) {
     let mut args = args::get_indices(request);
     let answer = partition.call(&mut args);
     (answer, args::next_starting_number(&args))
@@ -90,6 +91,9 @@ fn starting_numbers() {
     for starting_number in [0, 2, 0x80000000] {
         let mut partition = partition_of(&[b"abc"]);
         let request = IndexRequest { starting_number, ..REQUEST };
+        assert_eq!(get_indices(&mut partition, &request), (Err(Fault::Parameter), 0));
+        // The same where the record names this number.
+        partition.reading = ReadingRecord { type_number: 9006, starting_number, ..ReadingRecord::none() };
         assert_eq!(get_indices(&mut partition, &request), (Err(Fault::Parameter), 0));
     }
 }

@@ -1,4 +1,4 @@
-//! The readings of document 01, through the safe interface.
+//! The readings of documents 01 and 02, through the safe interface.
 
 mod arguments;
 mod dump;
@@ -7,3 +7,4 @@ mod indices;
 mod nodes;
 mod partition;
 mod properties;
+mod reading_record;

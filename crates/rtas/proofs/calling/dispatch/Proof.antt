@@ -15,7 +15,7 @@ use Rattle.rtas.proofs.calling.dispatch.Tie as tie
 
 -- what the call finds
 abbrev entry : tie.Start → Found
-entry c = found (now (c .args .args)) (now (c .args .memory)) (now (c .args .journal)) (now (c .args .inventory)) (c .args .registration)
+entry c = found (now (c .args .args)) (now (c .args .memory)) (now (c .args .journal)) (now (c .args .inventory)) (c .args .edition) (c .args .registration) (c .args .reading)
 
 whole : (c : tie.Start) → Whole (now (c .args .args))
 whole c = whole-buffer (now (c .args .args)) (ap isGiven (c .pre))
@@ -46,9 +46,7 @@ list-indices-requires : tie.Need-list-indices-requires
 list-indices-requires c κs = omega (arith, whole (c .before .before .before .before .before .before .before .before .before .before .before .before) .size, asked 2 5 2 (now (c .before .before .before .before .before .before .before .before .before .before .before .before .args .args)) (indices-yes c))
 
 returns-2 : tie.Need-returns-2
-returns-2 c =
-    let told = c .before .before .before .before .list-indices .ensures in
-    worked-indices (entry (c .before .before .before .before .before .before .before .before .before .before .before .before .before .before .before .before .before)) _ _ _ (indices-yes (c .before .before .before .before .before)) (told .0) (told .1 .0) (told .1 .1)
+returns-2 c = worked-indices (entry (c .before .before .before .before .before .before .before .before .before .before .before .before .before .before .before .before .before .before)) _ _ _ _ (indices-yes (c .before .before .before .before .before .before)) (c .before .before .before .before .before .list-indices .ensures)
 
 -- ---- configure-kernel-dump
 
@@ -64,8 +62,8 @@ three-inside c = omega (arith, whole (c .before .before .before .before .before 
 
 returns-3 : tie.Need-returns-3
 returns-3 c =
-    let told = rw (c .before .before .before .before .before .before .read-be323 .ensures, c .before .before .before .before .read-be324 .ensures, c .before .before .read-be325 .ensures) at (c .configure-kernel-dump .ensures) in
-    worked-dump (entry (c .before .before .before .before .before .before .before .before .before .before .before .before .before .before .before .before .before .before .before .before .before)) _ _ (dump-yes (c .before .before .before .before .before .before .before)) (told .0) (told .1)
+    let told = rw (c .before .before .before .before .before .before .before .read-be323 .ensures, c .before .before .before .before .before .read-be324 .ensures, c .before .before .before .read-be325 .ensures) at (c .before .configure-kernel-dump .ensures) in
+    worked-dump (entry (c .before .before .before .before .before .before .before .before .before .before .before .before .before .before .before .before .before .before .before .before .before .before)) _ _ (dump-yes (c .before .before .before .before .before .before .before .before)) (told .0) (told .1)
 
 -- ---- update-properties
 

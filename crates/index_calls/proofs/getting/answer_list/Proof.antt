@@ -1,9 +1,9 @@
--- `indices_call::answer_list` meets its contract.
+-- `getting::answer_list` meets its contract.
 use borrow.Author.Needs.{needs}
 use denote.Ref.{now}
-use Rattle.rtas.proofs.Lists.{left-malformed}
-use Rattle.rtas.proofs.indices_call.answer_list.Statement.{statement}
-use Rattle.rtas.proofs.indices_call.answer_list.Tie as tie
+use Rattle.index_calls.proofs.Lists.{left-malformed}
+use Rattle.index_calls.proofs.getting.answer_list.Statement.{statement}
+use Rattle.index_calls.proofs.getting.answer_list.Tie as tie
 
 answer-counted-requires : tie.Need-answer-counted-requires
 answer-counted-requires c κs = let told = rw (c .before .before .judgement .given .1) at (c .before .before .before .before .scan .ensures .0) in

@@ -6,12 +6,16 @@ ghost use lib.ListN.{length};
 ghost use Rattle.inventory.specs.Inventory.{wellFormed};
 ghost use Rattle.inventory.specs.Scanning.{ResumesAt};
 ghost use Rattle.calls.specs.GetIndices.{askable, lendable, entriesFor, numberIn, listStatus, listArea, indicesStatus, indicesMemory, numberGiven};
+use crate::reading_record::is_current;
+use crate::reading_record::is_named;
+use calls::ReadingRecord;
 use calls::Request;
 use calls::Status;
+use inventory::Edition;
 use inventory::Judgement;
 use inventory::StartingNumber;
 
-// What a call answers: its status, and the Next Starting Number, which a refused call leaves as it was asked for.
+// What a call answers: its status, and the Next Starting Number; for a refused call the number that was asked for.
 pub struct Listed {
     pub status: Status,
     pub next: StartingNumber,
@@ -111,9 +115,15 @@ fn answer_list(area: &mut [u8], inventory: &[u8], request: Request) -> Listed
 }
 
 // The call: only the given size from the given address is handed down to be written.
-pub fn get_indices(memory: &mut [u8], inventory: &[u8], request: Request) -> Listed
-    ensures { λ r. ⌜ (r .status ≡ indicesStatus (now (memory .entry)) (now (inventory .entry)) request) × (r .next .0 ≡ numberGiven (indicesStatus (now (memory .entry)) (now (inventory .entry)) request) (now (inventory .entry)) request) ⌝ }
-    ensures { λ _. ⌜ now (memory .exit) ≡ indicesMemory (now (memory .entry)) (now (inventory .entry)) request ⌝ }
+pub fn get_indices(
+    memory: &mut [u8],
+    inventory: &[u8],
+    edition: Edition,
+    reading: ReadingRecord,
+    request: Request,
+) -> Listed
+    ensures { λ r. ⌜ (r .status ≡ indicesStatus (now (memory .entry)) (now (inventory .entry)) edition reading request) × (r .next .0 ≡ numberGiven (indicesStatus (now (memory .entry)) (now (inventory .entry)) edition reading request) (now (inventory .entry)) request) ⌝ }
+    ensures { λ _. ⌜ now (memory .exit) ≡ indicesMemory (now (memory .entry)) (now (inventory .entry)) edition reading request ⌝ }
 {
     if !is_askable(request.flag, request.item_type) {
         return refused(request, Status::Parameter);
@@ -122,6 +132,14 @@ pub fn get_indices(memory: &mut [u8], inventory: &[u8], request: Request) -> Lis
     let size = request.size as usize;
     if !is_lendable(memory, at, size) {
         return refused(request, Status::Parameter);
+    }
+    let named = is_named(reading, request);
+    let current = is_current(reading, edition, request);
+    if !named {
+        return refused(request, Status::Parameter);
+    }
+    if !current {
+        return refused(request, Status::Changed);
     }
     answer_list(&mut memory[at..at + size], inventory, request)
 }

@@ -1,9 +1,9 @@
--- `indices_call::is_lendable` meets its contract.
+-- `getting::is_lendable` meets its contract.
 use borrow.Author.Needs.{needs}
 use borrow.Author.Tests.{le-leb, lt-leb}
 use Rattle.calls.specs.GetIndices.{lendable}
-use Rattle.rtas.proofs.indices_call.is_lendable.Statement.{statement}
-use Rattle.rtas.proofs.indices_call.is_lendable.Tie as tie
+use Rattle.index_calls.proofs.getting.is_lendable.Statement.{statement}
+use Rattle.index_calls.proofs.getting.is_lendable.Tie as tie
 
 returns : tie.Need-returns
 unfolding lendable

@@ -18,13 +18,16 @@ use Rattle.indices.specs.Writing.{DueEntries}
 use Rattle.inventory.proofs.Listed.{listed-few}
 use Rattle.inventory.proofs.Search.{all-good-for}
 use Rattle.indices.proofs.Written.{fitting-few}
-use Rattle.rtas.specs.declared.indices_call.Listed.{Listed}
+use Rattle.index_calls.specs.declared.getting.Listed.{Listed}
+use Rattle.inventory.specs.declared.edition.Edition.{Edition}
+use Rattle.calls.specs.declared.reading_record.ReadingRecord.{ReadingRecord}
 use Rattle.calls.specs.declared.request.Request.{Request}
 use Rattle.calls.specs.declared.status.Status.{Status}
 use Rattle.calls.specs.declared.status.Status.the-variants.{Done, Again, Malformed, Parameter}
 use Rattle.calls.specs.Status.{isAnswer}
+use Rattle.calls.specs.ReadingRecord.{isNamed, isCurrent}
 use Rattle.calls.specs.Lent.{partAt, withPart}
-use Rattle.calls.specs.GetIndices.{askable, lendable, entriesFor, numberIn, runFor, goodNumber, dueFits, moreEntries, listStatus, listArea, indicesStatus, indicesMemory, nextNumber, numberGiven}
+use Rattle.calls.specs.GetIndices.{askable, lendable, entriesFor, numberIn, runFor, goodNumber, dueFits, moreEntries, listStatus, listArea, readingStatus, indicesStatus, indicesMemory, nextNumber, numberGiven}
 use Rattle.calls.proofs.Memory.{part-length, part-lent, part-back, part-same}
 use Rattle.calls.proofs.Requests.{lent-size, due-run}
 
@@ -142,26 +145,26 @@ lent-area m address size e =
     let l = lent-size m address size e in
     rw (part-lent m address size (l .2), part-length m address size (l .2)) (l .0, refl)
 
-module _ (m i : List ℕ) (q : Request) where
+module _ (m i : List ℕ) (e : Edition) (r : ReadingRecord) (q : Request) where
   -- what a status, a number and memory afterwards are to be
   abbrev LeftAll : Status → ℕ → List ℕ → Type 0
-  LeftAll s next after = ((s ≡ indicesStatus m i q) × (next ≡ numberGiven (indicesStatus m i q) i q)) × (after ≡ indicesMemory m i q)
+  LeftAll s next after = ((s ≡ indicesStatus m i e r q) × (next ≡ numberGiven (indicesStatus m i e r q) i q)) × (after ≡ indicesMemory m i e r q)
 
   -- a request that is refused before the list is looked at
-  pub all-refused : (r : Listed) → indicesStatus m i q ≡ Parameter → Refused q r Parameter → LeftAll (r .status) (r .next .0) m
+  pub all-refused : (s : Status) (l : Listed) → indicesStatus m i e r q ≡ s → isAnswer s ≡ false → Refused q l s → LeftAll (l .status) (l .next .0) m
   unfolding numberGiven indicesMemory
-  all-refused r e h = rw (e, h .0, h .1) ((refl, refl), refl)
+  all-refused s l f n h = rw (f, n, h .0, h .1) ((refl, refl), refl)
 
-  module _ (asked : askable (q .flag) (q .«item_type») ≡ true) (lent : lendable m (q .address) (q .size) ≡ true) where
+  module _ (asked : askable (q .flag) (q .«item_type») ≡ true) (lent : lendable m (q .address) (q .size) ≡ true) (named : isNamed r q ≡ true) (current : isCurrent r e q ≡ true) where
     -- past the checks of the request the list decides
-    indices-checked : indicesStatus m i q ≡ listStatus i q
-    unfolding indicesStatus
-    indices-checked = rw (asked, lent)
+    indices-checked : indicesStatus m i e r q ≡ listStatus i q
+    unfolding indicesStatus readingStatus
+    indices-checked = rw (asked, lent, named, current)
 
     -- the area back in memory
-    area-back : withPart m (q .address) (q .size) (listArea i q (partAt m (q .address) (q .size))) ≡ indicesMemory m i q
+    area-back : withPart m (q .address) (q .size) (listArea i q (partAt m (q .address) (q .size))) ≡ indicesMemory m i e r q
     unfolding listArea indicesMemory
-    area-back = rw indices-checked (decide (isAnswer (listStatus i q)) (λ e. rw e) (λ e. rw e (part-same m (q .address) (q .size))))
+    area-back = rw indices-checked (decide (isAnswer (listStatus i q)) (λ f. rw f) (λ f. rw f (part-same m (q .address) (q .size))))
 
     -- the area is answered, and comes back as v into memory
     pub left-list : (s : Status) (next : ℕ) (v : List ℕ) → length v ≡ length (take (q .address + q .size - q .address) (drop (q .address) m))

@@ -1,8 +1,8 @@
--- `indices_call::is_askable` meets its contract.
+-- `getting::is_askable` meets its contract.
 use borrow.Author.Tests.{le-leb, lt-leb, eq-eqb, ne-eqb}
 use Rattle.calls.specs.GetIndices.{askable}
-use Rattle.rtas.proofs.indices_call.is_askable.Statement.{statement}
-use Rattle.rtas.proofs.indices_call.is_askable.Tie as tie
+use Rattle.index_calls.proofs.getting.is_askable.Statement.{statement}
+use Rattle.index_calls.proofs.getting.is_askable.Tie as tie
 
 returns : tie.Need-returns
 unfolding askable

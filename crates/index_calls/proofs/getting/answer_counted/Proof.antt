@@ -1,4 +1,4 @@
--- `indices_call::answer_counted` meets its contract.
+-- `getting::answer_counted` meets its contract.
 use mathlib.Core.Path.{sym, _∙_}
 use Prim.Native.Nat.{_≤_}
 use native.Mathlib.Omega.{arith}
@@ -6,9 +6,9 @@ use borrow.Author.Needs.{needs}
 use borrow.Author.Tests.{not-true, not-false}
 use denote.Ref.{now}
 use Rattle.calls.specs.GetIndices.{numberIn}
-use Rattle.rtas.proofs.Lists.{due-is, among-is, left-misnumbered, Ran, ran-few, left-unfit, left-again, left-done}
-use Rattle.rtas.proofs.indices_call.answer_counted.Statement.{statement}
-use Rattle.rtas.proofs.indices_call.answer_counted.Tie as tie
+use Rattle.index_calls.proofs.Lists.{due-is, among-is, left-misnumbered, Ran, ran-few, left-unfit, left-again, left-done}
+use Rattle.index_calls.proofs.getting.answer_counted.Statement.{statement}
+use Rattle.index_calls.proofs.getting.answer_counted.Tie as tie
 
 returns : tie.Need-returns
 returns c = left-misnumbered (now (c .before .before .before .before .before .before .args .inventory)) (c .before .before .before .before .before .before .args .request) (now (c .before .before .before .before .before .before .args .area)) (c .refused .result) (c .before .before .before .before .before .before .pre .2) (rw (c .before .before .before .before .before .before .pre .3) at (sym (c .before .before .is-among .ensures) ∙ not-true _ (c .before .if1 .taken))) (c .refused .ensures)
