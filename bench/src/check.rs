@@ -1,6 +1,6 @@
 //! Holds the three sides to each other before they are measured: every answer and every byte.
 
-use crate::interface::{Asked, Judged, Side, Wanted, MALFORMED, SIDES};
+use crate::interface::{Asked, Judged, ReadingRecord, Side, Wanted, MALFORMED, SIDES};
 use crate::journal::UNITS;
 use crate::partition::{Partition, AREA_SIZE};
 use std::fmt::Debug;
@@ -14,9 +14,17 @@ fn same<T: PartialEq + Debug>(what: &str, answer: impl Fn(&Side) -> T) -> T {
     third
 }
 
-/// The registration that a partition starts with.
-pub fn no_registration() {
+/// The registration and the reading record that a partition starts with.
+pub fn start() {
     same("no registration", |side| (side.no_registration)());
+    same("no reading", |side| (side.no_reading)());
+}
+
+/// Edits, up to the top.
+pub fn edits() {
+    for edition in [0, 0xffff, 0x7fff_ffff, u32::MAX - 1, u32::MAX] {
+        same("edit", |side| (side.edit)(edition));
+    }
 }
 
 /// The scan of a journal, whole and with its last byte cut off.
@@ -63,7 +71,7 @@ fn call(partition: &mut Partition) -> i32 {
         let number = own.call(side);
         (number, own)
     });
-    assert!(first == third && second == third, "a call's answer, its bytes or its registration differ");
+    assert!(first == third && second == third, "a call's answer, its bytes, its registration or its record differ");
     assert_eq!(third.0, 0);
     *partition = third.1;
     partition.status()
@@ -135,12 +143,32 @@ pub fn get_indices(inventory: &[u8], asked: Asked) {
         refusal(&partition, -3, |own| own.put_word(24, size));
     }
     for bytes in malformed(inventory) {
-        refusal(&Partition::of_inventory(&bytes, asked), -1, |_| ());
+        let partition = Partition::of_inventory(&bytes, asked);
+        refusal(&partition, -1, |_| ());
+        reading_record(&partition);
     }
     for number in [0, count + 1, 0x8000_0000] {
         refusal(&partition, -3, |own| own.begin(number));
     }
+    reading_record(&partition);
     session(partition);
+}
+
+/// A refusal by each field of the reading record, before the inventory is judged.
+fn reading_record(partition: &Partition) {
+    let changed = |status: i32, change: fn(&mut ReadingRecord)| {
+        refusal(partition, status, |own| {
+            own.begin(2);
+            change(&mut own.reading);
+        });
+    };
+    changed(-3, |record| record.flag ^= 1);
+    changed(-3, |record| record.kind ^= 1);
+    changed(-3, |record| record.number ^= 1);
+    changed(-4, |record| record.edition ^= 1);
+    changed(-3, |record| (record.number, record.edition) = (1, 0));
+    // No reading is in progress.
+    refusal(partition, -3, |own| own.put_word(28, 2));
 }
 
 /// The reading of a node area that names no unit: it is good, and refused where it is short of a byte, or where the

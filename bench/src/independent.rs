@@ -1,7 +1,8 @@
 //! The independent side: document 01 written out plainly (compare/src/paper), which is not meant to be fast.
 
 use crate::interface::{
-    Answer, Asked, IndexReading, Judged, NodeReading, PropertyReading, Registration, Side, Wanted, MALFORMED,
+    Answer, Asked, Edit, IndexReading, Judged, NodeReading, PropertyReading, ReadingRecord, Registration, Side, Wanted,
+    MALFORMED,
 };
 use draugsten_compare::paper::{self, readers, records, scope, Phase};
 
@@ -11,6 +12,8 @@ pub const SIDE: Side = Side {
     scan_inventory,
     search,
     no_registration,
+    no_reading,
+    edit,
     call,
     read_nodes,
     read_indices,
@@ -48,18 +51,51 @@ pub fn no_registration() -> Registration {
     Registration { phase: 0, length: 0, copy: [0; 512] }
 }
 
+/// The reading record that a partition starts with.
+pub fn no_reading() -> ReadingRecord {
+    record_from_paper(&paper::NO_READING)
+}
+
+pub fn edit(edition: u32) -> Edit {
+    match paper::reading_record::edit(u64::from(edition)) {
+        Some(next) => Edit { taken: 1, edition: next as u32 },
+        None => Edit { taken: 0, edition },
+    }
+}
+
 pub fn call(
     args: &mut [u8],
     memory: &mut [u8],
     journal: &[u8],
     inventory: &[u8],
+    edition: u32,
     registration: Registration,
+    reading: ReadingRecord,
 ) -> Answer {
     let Some(given) = for_paper(&registration) else {
-        return Answer { number: 13, registration };
+        return Answer { number: 13, registration, reading };
     };
-    let told = paper::call(args, memory, journal, inventory, given);
-    Answer { number: told.number, registration: from_paper(&told.registration) }
+    let platform = paper::Platform {
+        journal,
+        inventory,
+        edition: u64::from(edition),
+        registration: given,
+        reading: record_for_paper(&reading),
+    };
+    let told = paper::call(args, memory, &platform);
+    let (registration, reading) = (from_paper(&told.registration), record_from_paper(&told.reading));
+    Answer { number: told.number, registration, reading }
+}
+
+fn record_for_paper(flat: &ReadingRecord) -> paper::ReadingRecord {
+    let [flag, kind, number, edition] = [flat.flag, flat.kind, flat.number, flat.edition].map(u64::from);
+    paper::ReadingRecord { flag, kind, number, edition }
+}
+
+fn record_from_paper(record: &paper::ReadingRecord) -> ReadingRecord {
+    let fields = [record.flag, record.kind, record.number, record.edition];
+    let [flag, kind, number, edition] = fields.map(|field| field as u32);
+    ReadingRecord { flag, kind, number, edition }
 }
 
 fn for_paper(flat: &Registration) -> Option<paper::Registration> {

@@ -18,12 +18,31 @@ pub struct Registration {
     pub copy: [u8; 512],
 }
 
-/// The number of a call, and the registration afterwards.
+/// The record of a partition's reading of a list: flag, type, the number of the entry due, and the edition.
+#[repr(C)]
+#[derive(Clone, Copy, PartialEq, Eq, Debug)]
+pub struct ReadingRecord {
+    pub flag: u32,
+    pub kind: u32,
+    pub number: u32,
+    pub edition: u32,
+}
+
+/// What comes of an edit of an inventory: whether it is taken (1 or 0), and the edition afterwards.
+#[repr(C)]
+#[derive(Clone, Copy, PartialEq, Eq, Debug)]
+pub struct Edit {
+    pub taken: u32,
+    pub edition: u32,
+}
+
+/// The number of a call, and the registration and the reading record afterwards.
 #[repr(C)]
 #[derive(Clone, Copy, PartialEq, Eq, Debug)]
 pub struct Answer {
     pub number: u32,
     pub registration: Registration,
+    pub reading: ReadingRecord,
 }
 
 /// What a node area tells: a refusal with its offset, or the state and the number of operations.
@@ -100,8 +119,8 @@ impl<'a> Judged<'a> {
     }
 }
 
-/// A call with its argument buffer, memory, journal, inventory and registration.
-pub type Call = fn(&mut [u8], &mut [u8], &[u8], &[u8], Registration) -> Answer;
+/// A call with its argument buffer, memory, journal, inventory with its edition, registration and reading record.
+pub type Call = fn(&mut [u8], &mut [u8], &[u8], &[u8], u32, Registration, ReadingRecord) -> Answer;
 
 /// One implementation of the rules. A scan answers how many operations or entries there are.
 pub struct Side {
@@ -112,6 +131,10 @@ pub struct Side {
     pub search: fn(Judged) -> u32,
     /// The registration that a partition starts with.
     pub no_registration: fn() -> Registration,
+    /// The reading record that a partition starts with.
+    pub no_reading: fn() -> ReadingRecord,
+    /// An edit of an inventory of this edition.
+    pub edit: fn(u32) -> Edit,
     pub call: Call,
     /// Three words for each operation: opcode, first operand, second operand or 0. The number is the scope.
     pub read_nodes: fn(&[u8], u32, &mut [u32]) -> NodeReading,

@@ -4,9 +4,9 @@
 use crate::interface::{Asked, Judged, Side, Wanted};
 
 #[cfg(feature = "stand-in")]
-use crate::independent::{call, no_registration, read_indices, read_nodes, read_properties};
+use crate::independent::{call, edit, no_reading, no_registration, read_indices, read_nodes, read_properties};
 #[cfg(not(feature = "stand-in"))]
-use archive::{call, no_registration, read_indices, read_nodes, read_properties};
+use archive::{call, edit, no_reading, no_registration, read_indices, read_nodes, read_properties};
 
 /// Whether the library itself is measured.
 pub const REAL: bool = cfg!(not(feature = "stand-in"));
@@ -17,6 +17,8 @@ pub const SIDE: Side = Side {
     scan_inventory,
     search,
     no_registration,
+    no_reading,
+    edit,
     call,
     read_nodes,
     read_indices,
@@ -48,10 +50,14 @@ fn search(judged: Judged) -> u32 {
 
 #[cfg(not(feature = "stand-in"))]
 mod archive {
-    use crate::interface::{Answer, IndexReading, NodeReading, PropertyReading, Registration};
+    use crate::interface::{Answer, Edit, IndexReading, NodeReading, PropertyReading, ReadingRecord, Registration};
 
     extern "C" {
         fn draugsten_no_registration() -> Registration;
+
+        fn draugsten_no_reading() -> ReadingRecord;
+
+        fn draugsten_edit(edition: u32) -> Edit;
 
         fn draugsten_call(
             args: *mut u8,
@@ -62,7 +68,9 @@ mod archive {
             journal_len: usize,
             inventory: *const u8,
             inventory_len: usize,
+            edition: u32,
             registration: Registration,
+            reading: ReadingRecord,
         ) -> Answer;
 
         fn draugsten_read_nodes(
@@ -88,12 +96,24 @@ mod archive {
         unsafe { draugsten_no_registration() }
     }
 
+    pub fn no_reading() -> ReadingRecord {
+        // SAFETY: as above.
+        unsafe { draugsten_no_reading() }
+    }
+
+    pub fn edit(edition: u32) -> Edit {
+        // SAFETY: the function takes a number alone.
+        unsafe { draugsten_edit(edition) }
+    }
+
     pub fn call(
         args: &mut [u8],
         memory: &mut [u8],
         journal: &[u8],
         inventory: &[u8],
+        edition: u32,
         registration: Registration,
+        reading: ReadingRecord,
     ) -> Answer {
         // SAFETY: each pointer comes with the length of the slice that it was taken from, and none is kept.
         unsafe {
@@ -106,7 +126,9 @@ mod archive {
                 journal.len(),
                 inventory.as_ptr(),
                 inventory.len(),
+                edition,
                 registration,
+                reading,
             )
         }
     }

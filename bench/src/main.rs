@@ -96,7 +96,8 @@ fn rows(inputs: &Inputs, effort: Effort, mut tell: impl FnMut(Row)) {
 
 /// Holds the sides to each other over all that is measured; panics where they differ.
 fn check_sides(inputs: &Inputs) {
-    check::no_registration();
+    check::start();
+    check::edits();
     for (_, journal, wanted) in &inputs.journals {
         check::journal_scan(journal);
         check::update_nodes(journal, *wanted);

@@ -1,6 +1,7 @@
-//! A partition that makes calls: its argument buffer, memory and registration, and what the platform has for it.
+//! A partition that makes calls: its argument buffer, memory, registration and reading record, and what the platform
+//! has for it.
 
-use crate::interface::{Asked, Registration, Side, Wanted};
+use crate::interface::{Asked, ReadingRecord, Registration, Side, Wanted};
 use crate::journal::NODE;
 use crate::library;
 
@@ -12,9 +13,14 @@ pub const AREA_SIZE: usize = 4096;
 const UPDATE_NODES: u32 = 1;
 const GET_INDICES: u32 = 2;
 const UPDATE_PROPERTIES: u32 = 4;
-/// Where get-indices has its Starting Number and its outputs.
+/// Where get-indices has its flag, its type, its Starting Number and its outputs.
+const FLAG: usize = 12;
+const KIND: usize = 16;
 const STARTING_NUMBER: usize = 28;
 const NEXT_NUMBER: usize = 36;
+
+/// The edition of every inventory.
+const EDITION: u32 = 7;
 
 #[derive(Clone, PartialEq)]
 pub struct Partition<'a> {
@@ -22,7 +28,9 @@ pub struct Partition<'a> {
     pub memory: Vec<u8>,
     pub journal: &'a [u8],
     pub inventory: &'a [u8],
+    pub edition: u32,
     pub registration: Registration,
+    pub reading: ReadingRecord,
     /// The unit that the first sixteen bytes of a node area name.
     unit: u64,
 }
@@ -34,7 +42,9 @@ impl<'a> Partition<'a> {
             memory: vec![0xa5; AREA_AT + 2 * AREA_SIZE],
             journal,
             inventory,
+            edition: EDITION,
             registration: (library::SIDE.no_registration)(),
+            reading: (library::SIDE.no_reading)(),
             unit: 0,
         }
     }
@@ -69,7 +79,7 @@ impl<'a> Partition<'a> {
         &mut self.memory[AREA_AT..AREA_AT + AREA_SIZE]
     }
 
-    /// Makes ready for a call from a state or a Starting Number on.
+    /// Makes ready for a call from a state on, or from a Starting Number on, which the reading record then names.
     pub fn begin(&mut self, from: u32) {
         match self.word(0) {
             UPDATE_NODES => {
@@ -83,13 +93,18 @@ impl<'a> Partition<'a> {
                 self.area()[4..8].copy_from_slice(&from.to_be_bytes());
                 self.area()[8..16].fill(0);
             }
-            _ => self.put_word(STARTING_NUMBER, from),
+            _ => {
+                self.put_word(STARTING_NUMBER, from);
+                let (flag, kind) = (self.word(FLAG), self.word(KIND));
+                self.reading = ReadingRecord { flag, kind, number: from, edition: self.edition };
+            }
         }
     }
 
     /// Makes ready for the first call of a session.
     pub fn begin_session(&mut self) {
         self.begin(if self.word(0) == GET_INDICES { 1 } else { 0 });
+        self.reading = (library::SIDE.no_reading)();
     }
 
     /// Makes ready for the call after an answered one.
@@ -101,9 +116,11 @@ impl<'a> Partition<'a> {
 
     /// One call, which gives its number.
     pub fn call(&mut self, side: &Side) -> u32 {
-        let (journal, inventory) = (self.journal, self.inventory);
-        let answer = (side.call)(&mut self.args, &mut self.memory, journal, inventory, self.registration);
+        let (journal, inventory, edition, reading) = (self.journal, self.inventory, self.edition, self.reading);
+        let answer =
+            (side.call)(&mut self.args, &mut self.memory, journal, inventory, edition, self.registration, reading);
         self.registration = answer.registration;
+        self.reading = answer.reading;
         answer.number
     }
 

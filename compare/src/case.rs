@@ -1,6 +1,7 @@
 //! The cases that are compared.
 
-use crate::library::Registration;
+use crate::library::{ReadingRecord, Registration};
+use crate::subject::Platform;
 use crate::text;
 
 /// One call through the argument buffer, with everything that it is given.
@@ -10,7 +11,11 @@ pub struct CallCase {
     pub memory: Vec<u8>,
     pub journal: Vec<u8>,
     pub inventory: Vec<u8>,
+    /// The inventory's edition.
+    pub edition: u32,
     pub registration: Registration,
+    /// The record of the reading in progress.
+    pub reading: ReadingRecord,
 }
 
 /// One reading of an area, with room for `out` numbers.
@@ -48,11 +53,12 @@ impl Wanted {
     }
 }
 
-/// Lists of calls over one journal or one inventory, each up to status 0. The calls follow from `seed`.
+/// Lists of calls over one journal or one inventory, each up to status 0. The calls follow from `seed`, and so do the
+/// edits of the inventory.
 #[derive(Clone)]
 pub struct SessionCase {
     pub seed: u64,
-    /// The journal of update-nodes or update-properties, or the inventory of get-indices.
+    /// The journal of update-nodes or update-properties, or the inventory of get-indices before it is edited.
     pub records: Vec<u8>,
     pub asked: Asked,
     /// No refused calls between.
@@ -63,25 +69,55 @@ pub struct SessionCase {
 pub enum Asked {
     /// A session for each, all at the same time over one journal.
     Nodes(Vec<Wanted>),
-    Indices {
-        flag: u32,
-        kind: u32,
-    },
+    Indices(Listing),
     /// A session for each of these phandles, all at the same time over one journal.
     Properties(Vec<u32>),
+}
+
+/// A list that a partition reads. The inventory has this edition at first, and the reading is disturbed up to so many
+/// times: by an edit, or by a reading of another list.
+#[derive(Clone, Copy)]
+pub struct Listing {
+    pub flag: u32,
+    pub kind: u32,
+    pub edition: u32,
+    pub disturbances: usize,
+}
+
+impl Listing {
+    fn text(&self) -> String {
+        let Listing { flag, kind, edition, disturbances } = self;
+        let disturbed = format!("disturbed up to {disturbances} times");
+        format!("get-indices session, flag {flag}, type {kind}, edition {edition:#x}, {disturbed}")
+    }
 }
 
 #[derive(Clone)]
 #[allow(clippy::large_enum_variant)]
 pub enum Case {
     Call(CallCase),
-    ReadNodes { scope: u32, read: ReadCase },
+    /// An edit of an inventory of this edition.
+    Edit(u32),
+    ReadNodes {
+        scope: u32,
+        read: ReadCase,
+    },
     ReadIndices(ReadCase),
     ReadProperties(ReadCase),
     Session(SessionCase),
 }
 
 impl CallCase {
+    pub fn platform(&self) -> Platform<'_> {
+        Platform {
+            journal: &self.journal,
+            inventory: &self.inventory,
+            edition: self.edition,
+            registration: self.registration,
+            reading: self.reading,
+        }
+    }
+
     pub fn text(&self) -> String {
         let Registration { phase, length, copy } = &self.registration;
         let mut text = String::from("call\n");
@@ -89,6 +125,7 @@ impl CallCase {
         text += &text::buffer("memory", &self.memory);
         text += &text::records("journal", &self.journal);
         text += &text::records("inventory", &self.inventory);
+        text += &format!("  edition {:#x}\n  reading record: {}\n", self.edition, self.reading.text());
         text += &format!("  registration: phase {phase}, length {length}\n");
         text + &text::buffer("copy", copy)
     }
@@ -98,6 +135,7 @@ impl Case {
     pub fn text(&self) -> String {
         match self {
             Case::Call(call) => call.text(),
+            Case::Edit(edition) => format!("an edit of edition {edition:#x}\n"),
             Case::ReadNodes { scope, read } => {
                 format!("node area, scope {scope:#010x}, out {}\n", read.out) + &text::buffer("area", &read.area)
             }
@@ -118,7 +156,7 @@ impl SessionCase {
                 let wanted: Vec<String> = wanted.iter().map(Wanted::text).collect();
                 format!("update-nodes sessions: {}", wanted.join("; "))
             }
-            Asked::Indices { flag, kind } => format!("get-indices session, flag {flag}, type {kind}"),
+            Asked::Indices(listing) => listing.text(),
             Asked::Properties(phandles) => format!("update-properties sessions of {phandles:#010x?}"),
         };
         format!("{asked}, {between}\n") + &text::records("records", &self.records)

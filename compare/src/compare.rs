@@ -3,9 +3,9 @@
 use crate::buffers::{word_at, Lent};
 use crate::case::{CallCase, Case, ReadCase};
 use crate::coverage::Coverage;
-use crate::library::{Reading, Registration};
+use crate::library::{Reading, ReadingRecord, Registration};
 use crate::session;
-use crate::subject::Subject;
+use crate::subject::{Answered, Subject};
 use crate::text::hex;
 
 /// The two sides.
@@ -19,6 +19,7 @@ pub struct Sides<'a> {
 pub struct CallResult {
     pub number: u32,
     pub registration: Registration,
+    pub reading: ReadingRecord,
     pub rule: &'static str,
     pub args: Lent,
     pub memory: Lent,
@@ -48,9 +49,9 @@ impl CallResult {
 pub fn run_call(subject: &dyn Subject, case: &CallCase) -> CallResult {
     let mut args = Lent::new(&case.args);
     let mut memory = Lent::new(&case.memory);
-    let answered =
-        subject.call(args.content_mut(), memory.content_mut(), &case.journal, &case.inventory, case.registration);
-    CallResult { number: answered.number, registration: answered.registration, rule: answered.rule, args, memory }
+    let Answered { number, registration, reading, rule } =
+        subject.call(args.content_mut(), memory.content_mut(), &case.platform());
+    CallResult { number, registration, reading, rule, args, memory }
 }
 
 /// The results of the paper and of the side under test.
@@ -81,11 +82,18 @@ fn registration_difference(sides: Sides, paper: &Registration, tested: &Registra
     Some(text + &copies.unwrap_or_default())
 }
 
+fn reading_difference(sides: Sides, paper: &ReadingRecord, tested: &ReadingRecord) -> Option<String> {
+    let side = |subject: &dyn Subject, record: &ReadingRecord| format!("  {}: {}\n", subject.name(), record.text());
+    (paper != tested)
+        .then(|| String::from("the reading record differs\n") + &side(sides.paper, paper) + &side(sides.tested, tested))
+}
+
 /// The first difference between two results of a call.
 pub fn call_difference(sides: Sides, pair: &CallPair) -> Option<String> {
     let CallPair { paper, tested } = pair;
     let same = paper.number == tested.number
         && paper.registration == tested.registration
+        && paper.reading == tested.reading
         && paper.args == tested.args
         && paper.memory == tested.memory;
     if same {
@@ -95,7 +103,14 @@ pub fn call_difference(sides: Sides, pair: &CallPair) -> Option<String> {
     let args = buffer_difference(sides, "the argument buffer", &paper.args, &tested.args);
     let memory = buffer_difference(sides, "memory", &paper.memory, &tested.memory);
     let registration = registration_difference(sides, &paper.registration, &tested.registration);
-    Some([Some(answers), args, memory, registration].into_iter().flatten().collect())
+    let reading = reading_difference(sides, &paper.reading, &tested.reading);
+    Some([Some(answers), args, memory, registration, reading].into_iter().flatten().collect())
+}
+
+/// The difference between what comes of an edit on both sides.
+pub fn edit_difference(sides: Sides, edition: u32) -> Option<String> {
+    let (paper, tested) = (sides.paper.edit(edition), sides.tested.edit(edition));
+    (paper != tested).then(|| format!("{}: {paper:x?}; {}: {tested:x?}\n", sides.paper.name(), sides.tested.name()))
 }
 
 /// What a reading leaves: its result, and `out` with the guard numbers behind it.
@@ -160,6 +175,10 @@ pub fn difference(sides: Sides, case: &Case, coverage: &mut Coverage) -> Option<
             let pair = run_call_on_both(sides, call);
             coverage.call(call, &pair.paper);
             call_difference(sides, &pair)
+        }
+        Case::Edit(edition) => {
+            coverage.edit(*edition);
+            edit_difference(sides, *edition)
         }
         Case::ReadNodes { scope, read } => {
             let paper = run_read_nodes(sides.paper, *scope, read);

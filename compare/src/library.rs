@@ -1,7 +1,7 @@
 //! The C interface of the library under test. All that the comparison knows of the interface stands in this file.
 
 #[cfg(not(feature = "without-library"))]
-use crate::subject::{Answered, Subject};
+use crate::subject::{Answered, Platform, Subject};
 
 /// The registration as it is compared: phase 0 none, 1 registered, 2 active. A phase above 2 or a length above 512
 /// is no registration.
@@ -10,6 +10,32 @@ pub struct Registration {
     pub phase: u32,
     pub length: u32,
     pub copy: [u8; 512],
+}
+
+/// The record of the reading in progress as it is compared: flag, type, next Starting Number and edition.
+#[derive(Clone, Copy, PartialEq, Eq, Debug)]
+pub struct ReadingRecord {
+    pub flag: u32,
+    pub kind: u32,
+    pub number: u32,
+    pub edition: u32,
+}
+
+impl ReadingRecord {
+    /// No reading in progress.
+    pub const NONE: ReadingRecord = ReadingRecord { flag: 0, kind: 0, number: 1, edition: 0 };
+
+    pub fn text(&self) -> String {
+        let ReadingRecord { flag, kind, number, edition } = self;
+        format!("flag {flag:#x}, type {kind:#x}, number {number:#x}, edition {edition:#x}")
+    }
+}
+
+/// What comes of an edit: whether it is taken (1 or 0), and the edition afterwards.
+#[derive(Clone, Copy, PartialEq, Eq, Debug)]
+pub struct Edit {
+    pub taken: u32,
+    pub edition: u32,
 }
 
 /// What a reading tells: the refusal (0, 20 to 27, 30 to 33 or 40 to 43) with its offset, or the number of all entries
@@ -38,9 +64,24 @@ mod c {
     }
 
     #[repr(C)]
+    pub struct Reading {
+        pub flag: u32,
+        pub item_type: u32,
+        pub number: u32,
+        pub edition: u32,
+    }
+
+    #[repr(C)]
+    pub struct Edit {
+        pub taken: u32,
+        pub edition: u32,
+    }
+
+    #[repr(C)]
     pub struct Answer {
         pub number: u32,
         pub registration: Registration,
+        pub reading: Reading,
     }
 
     #[repr(C)]
@@ -77,8 +118,14 @@ mod c {
             journal_len: usize,
             inventory: *const u8,
             inventory_len: usize,
+            edition: u32,
             registration: Registration,
+            reading: Reading,
         ) -> Answer;
+
+        pub fn draugsten_no_reading() -> Reading;
+
+        pub fn draugsten_edit(edition: u32) -> Edit;
 
         /// Three words of `out` for each entry: opcode, first operand, second operand or 0. `out_len` counts words.
         pub fn draugsten_read_nodes(
@@ -104,6 +151,35 @@ mod c {
     }
 }
 
+#[cfg(not(feature = "without-library"))]
+impl From<Registration> for c::Registration {
+    fn from(Registration { phase, length, copy }: Registration) -> c::Registration {
+        c::Registration { phase, length: length as usize, copy }
+    }
+}
+
+#[cfg(not(feature = "without-library"))]
+impl From<c::Registration> for Registration {
+    fn from(c::Registration { phase, length, copy }: c::Registration) -> Registration {
+        let length = u32::try_from(length).expect("a registration's length is at most that of its copy");
+        Registration { phase, length, copy }
+    }
+}
+
+#[cfg(not(feature = "without-library"))]
+impl From<ReadingRecord> for c::Reading {
+    fn from(ReadingRecord { flag, kind, number, edition }: ReadingRecord) -> c::Reading {
+        c::Reading { flag, item_type: kind, number, edition }
+    }
+}
+
+#[cfg(not(feature = "without-library"))]
+impl From<c::Reading> for ReadingRecord {
+    fn from(c::Reading { flag, item_type, number, edition }: c::Reading) -> ReadingRecord {
+        ReadingRecord { flag, kind: item_type, number, edition }
+    }
+}
+
 /// The library under test.
 #[cfg(not(feature = "without-library"))]
 pub struct Library;
@@ -114,19 +190,8 @@ impl Subject for Library {
         "library"
     }
 
-    fn call(
-        &self,
-        args: &mut [u8],
-        memory: &mut [u8],
-        journal: &[u8],
-        inventory: &[u8],
-        registration: Registration,
-    ) -> Answered {
-        let given = c::Registration {
-            phase: registration.phase,
-            length: registration.length as usize,
-            copy: registration.copy,
-        };
+    fn call(&self, args: &mut [u8], memory: &mut [u8], platform: &Platform) -> Answered {
+        let Platform { journal, inventory, edition, registration, reading } = *platform;
         // SAFETY: each pointer comes with the length of the slice that it was taken from.
         let answer = unsafe {
             c::draugsten_call(
@@ -138,12 +203,24 @@ impl Subject for Library {
                 journal.len(),
                 inventory.as_ptr(),
                 inventory.len(),
-                given,
+                edition,
+                registration.into(),
+                reading.into(),
             )
         };
-        let c::Registration { phase, length, copy } = answer.registration;
-        let length = u32::try_from(length).expect("a registration's length is at most that of its copy");
-        Answered { number: answer.number, registration: Registration { phase, length, copy }, rule: "" }
+        let (number, registration, reading) = (answer.number, answer.registration.into(), answer.reading.into());
+        Answered { number, registration, reading, rule: "" }
+    }
+
+    fn no_reading(&self) -> ReadingRecord {
+        // SAFETY: the function takes nothing.
+        unsafe { c::draugsten_no_reading() }.into()
+    }
+
+    fn edit(&self, edition: u32) -> Edit {
+        // SAFETY: the function takes a number alone.
+        let c::Edit { taken, edition } = unsafe { c::draugsten_edit(edition) };
+        Edit { taken, edition }
     }
 
     fn read_nodes(&self, area: &[u8], scope: u32, out: &mut [u32]) -> Reading {

@@ -38,7 +38,8 @@ fn main() -> ExitCode {
     let sides = Sides { paper: &subject::Paper, tested: subject::under_test() };
     println!("draugsten-compare: document 01 written out ({}) against {}", sides.paper.name(), sides.tested.name());
     println!(
-        "compared: every answer, and every byte of the argument buffer, of memory, of the registration and of out"
+        "compared: every answer, and every byte of the argument buffer, of memory, of the registration, of the reading \
+        record and of out"
     );
     crash::install();
     if options.fixed && options.only.is_none() && !run_fixed(sides) {

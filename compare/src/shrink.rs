@@ -1,7 +1,8 @@
 //! Makes a case with a difference smaller, as long as the difference stays.
 
 use crate::buffers::record_places;
-use crate::case::{Case, ReadCase, SessionCase};
+use crate::case::{Asked, CallCase, Case, Listing, ReadCase, SessionCase};
+use crate::library::ReadingRecord;
 use std::time::{Duration, Instant};
 
 /// The parts of a case that are made smaller.
@@ -55,6 +56,45 @@ fn with_bytes(case: &Case, part: Part, bytes: Vec<u8>) -> Case {
     changed
 }
 
+/// Changes of what is no buffer, each of one sort of case; of several of one thing the simplest is the last.
+const SIMPLER: [fn(&mut Case); 11] = [
+    |case| of_session(case, |session| session.plain = true),
+    |case| of_listing(case, |listing| listing.edition = 0),
+    |case| of_listing(case, |listing| listing.disturbances = listing.disturbances.min(1)),
+    |case| of_listing(case, |listing| listing.disturbances = 0),
+    |case| of_read(case, |read| read.out = 0),
+    |case| of_call(case, |call| call.registration.length = 0),
+    |case| of_call(case, |call| (call.edition, call.reading.edition) = (0, 1)),
+    |case| of_call(case, |call| (call.edition, call.reading.edition) = (0, 0)),
+    |case| of_call(case, |call| call.reading.flag = 0),
+    |case| of_call(case, |call| call.reading.kind = 0),
+    |case| of_call(case, |call| (call.edition, call.reading) = (0, ReadingRecord::NONE)),
+];
+
+fn of_session(case: &mut Case, change: impl Fn(&mut SessionCase)) {
+    if let Case::Session(session) = case {
+        change(session);
+    }
+}
+
+fn of_listing(case: &mut Case, change: impl Fn(&mut Listing)) {
+    if let Case::Session(SessionCase { asked: Asked::Indices(listing), .. }) = case {
+        change(listing);
+    }
+}
+
+fn of_read(case: &mut Case, change: impl Fn(&mut ReadCase)) {
+    if let Case::ReadNodes { read, .. } | Case::ReadIndices(read) | Case::ReadProperties(read) = case {
+        change(read);
+    }
+}
+
+fn of_call(case: &mut Case, change: impl Fn(&mut CallCase)) {
+    if let Case::Call(call) = case {
+        change(call);
+    }
+}
+
 struct Shrinking<'a> {
     best: Case,
     differs: &'a mut dyn FnMut(&Case) -> bool,
@@ -88,19 +128,13 @@ impl Shrinking<'_> {
         differs
     }
 
-    /// Changes that are no matter of bytes.
+    /// Changes that are no matter of bytes, one after the other.
     fn simplify(&mut self) {
-        let candidate = match self.best.clone() {
-            Case::Session(session) => Case::Session(SessionCase { plain: true, ..session }),
-            Case::ReadNodes { scope, read } => Case::ReadNodes { scope, read: ReadCase { out: 0, ..read } },
-            Case::ReadIndices(read) => Case::ReadIndices(ReadCase { out: 0, ..read }),
-            Case::ReadProperties(read) => Case::ReadProperties(ReadCase { out: 0, ..read }),
-            Case::Call(mut call) => {
-                call.registration.length = 0;
-                Case::Call(call)
-            }
-        };
-        self.keep(candidate);
+        for change in SIMPLER {
+            let mut candidate = self.best.clone();
+            change(&mut candidate);
+            self.keep(candidate);
+        }
     }
 
     /// Removes records, many at a time first.
@@ -171,10 +205,10 @@ mod tests {
     use crate::compare::{self, Sides};
     use crate::coverage::Coverage;
     use crate::generate;
-    use crate::library::{Reading, Registration};
-    use crate::subject::{Answered, Paper, Subject};
+    use crate::library::{Edit, Reading};
+    use crate::subject::{Answered, Paper, Platform, Subject};
 
-    /// Gives number 9 where the journal holds a delete of node type 6.
+    /// Gives number 9 where the journal holds a delete of node type 6, and clears the record where its number is 0.
     struct Faulty;
 
     impl Subject for Faulty {
@@ -182,10 +216,23 @@ mod tests {
             "faulty"
         }
 
-        fn call(&self, a: &mut [u8], m: &mut [u8], j: &[u8], i: &[u8], r: Registration) -> Answered {
-            let answered = Paper.call(a, m, j, i, r);
-            let number = if j.windows(4).any(|part| part == [1, 0, 6, 0]) { 9 } else { answered.number };
-            Answered { number, ..answered }
+        fn call(&self, args: &mut [u8], memory: &mut [u8], platform: &Platform) -> Answered {
+            let mut answered = Paper.call(args, memory, platform);
+            if platform.journal.windows(4).any(|part| part == [1, 0, 6, 0]) {
+                answered.number = 9;
+            }
+            if platform.reading.number == 0 {
+                answered.reading = ReadingRecord::NONE;
+            }
+            answered
+        }
+
+        fn no_reading(&self) -> ReadingRecord {
+            Paper.no_reading()
+        }
+
+        fn edit(&self, edition: u32) -> Edit {
+            Paper.edit(edition)
         }
 
         fn read_nodes(&self, area: &[u8], scope: u32, out: &mut [u32]) -> Reading {
@@ -201,18 +248,35 @@ mod tests {
         }
     }
 
-    #[test]
-    fn a_fault_is_found_and_made_small() {
+    /// The first call with a difference for which this holds, made small.
+    fn small_call(holds: impl Fn(&CallCase) -> bool) -> CallCase {
         let sides = Sides { paper: &Paper, tested: &Faulty };
         let mut coverage = Coverage::new();
-        let mut differs = |case: &Case| compare::difference(sides, case, &mut coverage).is_some();
-        let found = (0..2000).map(|number| generate::case(1, number)).find(|case| differs(case)).unwrap();
-        let small = shrink(found, &mut differs);
-        let Case::Call(call) = &small else {
-            panic!("no call: {}", small.text());
+        let mut differs = |case: &Case| {
+            let held = matches!(case, Case::Call(call) if holds(call));
+            held && compare::difference(sides, case, &mut coverage).is_some()
         };
+        let found = (0..4000).map(|number| generate::case(1, number)).find(|case| differs(case)).unwrap();
+        let small = shrink(found, &mut differs);
         assert!(differs(&small));
+        match small {
+            Case::Call(call) => call,
+            _ => panic!("no call: {}", small.text()),
+        }
+    }
+
+    #[test]
+    fn a_fault_is_found_and_made_small() {
+        let call = small_call(|call| call.reading.number != 0);
         assert_eq!((call.args.len(), call.memory.len()), (0, 0));
-        assert!(call.journal.len() <= 10, "{}", small.text());
+        assert!(call.journal.len() <= 10, "{}", call.text());
+        assert_eq!((call.edition, call.reading), (0, ReadingRecord::NONE));
+    }
+
+    #[test]
+    fn a_record_is_made_small() {
+        let call = small_call(|call| call.reading.number == 0);
+        assert_eq!((call.args.len(), call.memory.len(), call.journal.len()), (0, 0, 0));
+        assert_eq!((call.edition, call.reading), (0, ReadingRecord { number: 0, ..ReadingRecord::NONE }));
     }
 }

@@ -1,6 +1,6 @@
 //! The two sides of the comparison behind one trait.
 
-use crate::library::{Reading, Registration, NO_REGISTRATION};
+use crate::library::{Edit, Reading, ReadingRecord, Registration, NO_REGISTRATION};
 use crate::paper;
 
 /// With no library at hand the other side is a second copy of the paper's implementation.
@@ -9,10 +9,20 @@ use crate::paper;
 #[path = "paper/mod.rs"]
 mod second;
 
+/// What the platform has for a call of a partition.
+pub struct Platform<'a> {
+    pub journal: &'a [u8],
+    pub inventory: &'a [u8],
+    pub edition: u32,
+    pub registration: Registration,
+    pub reading: ReadingRecord,
+}
+
 /// What a call gives back. The rule that refused it is told by the paper's side only.
 pub struct Answered {
     pub number: u32,
     pub registration: Registration,
+    pub reading: ReadingRecord,
     pub rule: &'static str,
 }
 
@@ -20,14 +30,13 @@ pub struct Answered {
 pub trait Subject {
     fn name(&self) -> &'static str;
 
-    fn call(
-        &self,
-        args: &mut [u8],
-        memory: &mut [u8],
-        journal: &[u8],
-        inventory: &[u8],
-        registration: Registration,
-    ) -> Answered;
+    fn call(&self, args: &mut [u8], memory: &mut [u8], platform: &Platform) -> Answered;
+
+    /// The record that a partition starts with.
+    fn no_reading(&self) -> ReadingRecord;
+
+    /// An edit of an inventory of this edition.
+    fn edit(&self, edition: u32) -> Edit;
 
     /// With entries, writes three words for each that fits in `out`, and nothing else.
     fn read_nodes(&self, area: &[u8], scope: u32, out: &mut [u32]) -> Reading;
@@ -52,30 +61,44 @@ fn refused_reading(refusal: u32, offset: u64) -> Reading {
 
 /// Puts an implementation of the paper behind the trait.
 macro_rules! paper_subject {
-    ($subject:ident, $rules:ident, $name:literal) => {
+    ($subject:ident, $rules:ident, $record:ident, $name:literal) => {
         pub struct $subject;
+
+        fn $record(record: $rules::ReadingRecord) -> ReadingRecord {
+            let [flag, kind, number, edition] =
+                [record.flag, record.kind, record.number, record.edition].map(|field| field as u32);
+            ReadingRecord { flag, kind, number, edition }
+        }
 
         impl Subject for $subject {
             fn name(&self) -> &'static str {
                 $name
             }
 
-            fn call(
-                &self,
-                args: &mut [u8],
-                memory: &mut [u8],
-                journal: &[u8],
-                inventory: &[u8],
-                given: Registration,
-            ) -> Answered {
+            fn call(&self, args: &mut [u8], memory: &mut [u8], platform: &Platform) -> Answered {
+                let Platform { journal, inventory, edition, registration: given, reading } = *platform;
                 let phase = match given.phase {
                     0 if given.length <= 512 => $rules::Phase::None,
                     1 if given.length <= 512 => $rules::Phase::Registered,
                     2 if given.length <= 512 => $rules::Phase::Active,
-                    _ => return Answered { number: NO_REGISTRATION, registration: given, rule: "no registration" },
+                    _ => {
+                        let rule = "no registration";
+                        return Answered { number: NO_REGISTRATION, registration: given, reading, rule };
+                    }
                 };
-                let registration = $rules::Registration { phase, length: given.length, copy: given.copy };
-                let told = $rules::call(args, memory, journal, inventory, registration);
+                let platform = $rules::Platform {
+                    journal,
+                    inventory,
+                    edition: u64::from(edition),
+                    registration: $rules::Registration { phase, length: given.length, copy: given.copy },
+                    reading: $rules::ReadingRecord {
+                        flag: u64::from(reading.flag),
+                        kind: u64::from(reading.kind),
+                        number: u64::from(reading.number),
+                        edition: u64::from(reading.edition),
+                    },
+                };
+                let told = $rules::call(args, memory, &platform);
                 let phase = match told.registration.phase {
                     $rules::Phase::None => 0,
                     $rules::Phase::Registered => 1,
@@ -83,7 +106,19 @@ macro_rules! paper_subject {
                 };
                 let registration =
                     Registration { phase, length: told.registration.length, copy: told.registration.copy };
-                Answered { number: told.number, registration, rule: told.rule }
+                let reading = $record(told.reading);
+                Answered { number: told.number, registration, reading, rule: told.rule }
+            }
+
+            fn no_reading(&self) -> ReadingRecord {
+                $record($rules::NO_READING)
+            }
+
+            fn edit(&self, edition: u32) -> Edit {
+                match $rules::reading_record::edit(u64::from(edition)) {
+                    Some(next) => Edit { taken: 1, edition: next as u32 },
+                    None => Edit { taken: 0, edition },
+                }
             }
 
             fn read_nodes(&self, area: &[u8], scope: u32, out: &mut [u32]) -> Reading {
@@ -126,10 +161,10 @@ macro_rules! paper_subject {
     };
 }
 
-paper_subject!(Paper, paper, "paper");
+paper_subject!(Paper, paper, paper_record, "paper");
 
 #[cfg(feature = "without-library")]
-paper_subject!(Second, second, "second copy");
+paper_subject!(Second, second, second_record, "second copy");
 
 /// The side that is compared with the paper's.
 #[cfg(feature = "without-library")]

@@ -2,17 +2,25 @@
 
 use super::inventory;
 use super::words::{be32, le16, le32, put_be32};
-use super::{MALFORMED, PARAMETER};
-use crate::interface::Asked;
+use super::{CHANGED, MALFORMED, NO_READING, PARAMETER};
+use crate::interface::{Asked, ReadingRecord};
 
 /// The status, or that of a refusal. The inputs are flag, type, address, size and Starting Number; the output after the
 /// status is the Next Starting Number.
-pub fn get_indices(inputs: &[u8], next: &mut [u8], memory: &mut [u8], inventory: &[u8]) -> Result<i32, i32> {
+pub fn get_indices(
+    inputs: &[u8],
+    next: &mut [u8],
+    memory: &mut [u8],
+    inventory: &[u8],
+    edition: u32,
+    reading: &mut ReadingRecord,
+) -> Result<i32, i32> {
     let asked = Asked { flag: be32(inputs, 0), kind: be32(inputs, 4), number: be32(inputs, 16) };
     if asked.flag > 1 || is_forbidden(asked) {
         return Err(PARAMETER);
     }
     let area = area(memory, be32(inputs, 8), be32(inputs, 12)).ok_or(PARAMETER)?;
+    go_on(asked, edition, reading)?;
     let (count, due) = inventory::counted(inventory, asked).ok_or(MALFORMED)?;
     let number = asked.number as usize;
     if number < 1 || number > count {
@@ -24,8 +32,25 @@ pub fn get_indices(inputs: &[u8], next: &mut [u8], memory: &mut [u8], inventory:
     }
     let following = number + handed_out;
     let remain = following <= count;
-    put_be32(next, 0, if remain { following as u32 } else { 1 });
+    let named = ReadingRecord { flag: asked.flag, kind: asked.kind, number: following as u32, edition };
+    *reading = if remain { named } else { NO_READING };
+    put_be32(next, 0, reading.number);
     Ok(i32::from(remain))
+}
+
+/// Starting Number 1 begins afresh; any other goes on with the reading that the record names. Another edition ends it.
+fn go_on(asked: Asked, edition: u32, reading: &mut ReadingRecord) -> Result<(), i32> {
+    if asked.number == 1 {
+        return Ok(());
+    }
+    if (asked.flag, asked.kind, asked.number) != (reading.flag, reading.kind, reading.number) {
+        return Err(PARAMETER);
+    }
+    if edition != reading.edition {
+        *reading = NO_READING;
+        return Err(CHANGED);
+    }
+    Ok(())
 }
 
 /// The types that have no list.

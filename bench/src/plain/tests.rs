@@ -1,6 +1,6 @@
 //! Random cases, in which this side has to answer and to leave the bytes as the independent program does.
 
-use crate::interface::{Registration, Side};
+use crate::interface::{ReadingRecord, Registration, Side};
 use crate::random::Xorshift;
 use crate::{independent, plain};
 use std::collections::BTreeMap;
@@ -107,6 +107,21 @@ fn arguments(random: &mut Xorshift) -> Vec<u8> {
     bytes
 }
 
+/// A record that names what the arguments ask for in this edition, or one that is not it in a field.
+fn reading(random: &mut Xorshift, args: &[u8], edition: u32) -> ReadingRecord {
+    let word = |at: usize| args.get(at..at + 4).map_or(1, |word| u32::from_be_bytes(word.try_into().unwrap()));
+    let mut reading = ReadingRecord { flag: word(12), kind: word(16), number: word(28), edition };
+    match random.below(12) {
+        0 => reading.flag ^= 1,
+        1 => reading.kind ^= 1,
+        2 => reading.number = pick(random, &[0, 1, 2, u32::MAX]),
+        3 | 4 => reading.edition = pick(random, &[edition ^ 1, edition ^ 1 << 16, edition ^ 1 << 31]),
+        5 => reading = ReadingRecord { flag: 0, kind: 0, number: 1, edition: 0 },
+        _ => {}
+    }
+    reading
+}
+
 /// Memory with a good beginning of a node area, or one that is not.
 fn memory(random: &mut Xorshift) -> Vec<u8> {
     let mut memory = vec![0xa5; 3 * AREA];
@@ -128,7 +143,7 @@ fn property_memory(random: &mut Xorshift, journal: &[u8]) -> Vec<u8> {
     let none = Registration { phase: 0, length: 0, copy: [0; 512] };
     for _ in 0..random.below(4) {
         let mut args: Vec<u8> = [4, 2, 1, AREA as u32, 1, 0].iter().flat_map(|word| word.to_be_bytes()).collect();
-        (plain::SIDE.call)(&mut args, &mut memory, journal, &[], none);
+        (plain::SIDE.call)(&mut args, &mut memory, journal, &[], 0, none, (plain::SIDE.no_reading)());
     }
     spoil(random, &mut memory[AREA..], 16);
     memory
@@ -161,9 +176,11 @@ fn case(random: &mut Xorshift) -> (u32, u32, i32) {
     let of_properties = args.starts_with(&[0, 0, 0, 4]);
     let memory = if of_properties { property_memory(random, &journal) } else { memory(random) };
     let none = Registration { phase: 0, length: 0, copy: [0; 512] };
+    let edition = pick(random, &[0, 7, u32::MAX]);
+    let reading = reading(random, &args, edition);
     let [left, right] = SIDES.map(|side| {
         let (mut args, mut memory) = (args.clone(), memory.clone());
-        let answer = (side.call)(&mut args, &mut memory, &journal, &inventory, none);
+        let answer = (side.call)(&mut args, &mut memory, &journal, &inventory, edition, none, reading);
         (answer, args, memory)
     });
     assert!(left == right, "a call");
@@ -181,10 +198,9 @@ fn answers_as_the_independent_program() {
     for _ in 0..CASES {
         *seen.entry(case(&mut random)).or_insert(0) += 1;
     }
-    for token in [1, 2, 4] {
-        for status in [0, 1, -1, -3] {
-            let cases = seen.get(&(token, 0, status)).copied().unwrap_or(0);
-            assert!(cases >= 50, "token {token}, status {status}: {cases} cases");
-        }
+    let expected = [1, 2, 4].iter().flat_map(|&token| [0, 1, -1, -3].map(|status| (token, status)));
+    for (token, status) in expected.chain([(2, -4)]) {
+        let cases = seen.get(&(token, 0, status)).copied().unwrap_or(0);
+        assert!(cases >= 50, "token {token}, status {status}: {cases} cases");
     }
 }

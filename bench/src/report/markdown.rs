@@ -141,8 +141,8 @@ fn method(effort: Effort) -> String {
         *independent* the rules written out plainly and not for speed (`compare/src/paper`); `cargo build --release` \
         builds both, and `rt staticlib` the proved archives. The scope is 1 where no other is named; in scope 3 one \
         of the two units in the journal is asked for, and of an inventory's types the last. One call of update-nodes \
-        begins at state 0, one of get-indices in the middle of the list, one of update-properties in the middle of the \
-        session; every work area has 4,096 bytes. The scan of \
+        begins at state 0, one of get-indices in the middle of the list, with a reading record that names it, one of \
+        update-properties in the middle of the session; every work area has 4,096 bytes. The scan of \
         an inventory does not hand on the entry due, on any side. The search goes from the first entry of the type to \
         the last, over an inventory that was judged before; the independent program has none, and reads and judges \
         the records once more."

@@ -5,13 +5,17 @@ use crate::case::CallCase;
 use crate::compare::CallResult;
 use crate::paper::{get_indices, records};
 
-pub const RULES: [&str; 15] = [
+pub const RULES: [&str; 19] = [
     "answered",
     "flag",
     "type",
     "size under 4",
     "address + size above 2^32",
     "area not inside memory",
+    "flag unlike the record's",
+    "type unlike the record's",
+    "number unlike the record's",
+    "edition unlike the record's",
     "malformed: oversized",
     "malformed: records do not fill the buffer",
     "malformed: kind",
@@ -65,7 +69,7 @@ pub fn facts(case: &CallCase, result: &CallResult, inputs: &[u64]) -> Facts {
         sizes: Vec::new(),
         codes: Vec::new(),
     };
-    if RULES[1..=11].contains(&result.rule) {
+    if RULES[1..=15].contains(&result.rule) {
         return facts;
     }
     let all = inventory.unwrap_or_default();
@@ -99,23 +103,23 @@ fn answered_code(facts: &Facts, length: usize) -> bool {
 
 /// The call was refused by the inventory.
 fn malformed(facts: &Facts) -> bool {
-    RULES[6..=11].contains(&facts.rule)
+    RULES[10..=15].contains(&facts.rule)
 }
 
 fn bad_length(facts: &Facts, length: u64) -> bool {
-    facts.rule == RULES[9] && facts.bad_record == Some((16, length))
+    facts.rule == RULES[13] && facts.bad_record == Some((16, length))
 }
 
 fn bad_long_code(facts: &Facts) -> bool {
-    facts.rule == RULES[11] && facts.bad_record.is_some_and(|record| record.1 > 12 + 255)
+    facts.rule == RULES[15] && facts.bad_record.is_some_and(|record| record.1 > 12 + 255)
 }
 
 fn bad_kind(facts: &Facts, kind: u64) -> bool {
-    facts.rule == RULES[8] && facts.bad_record.is_some_and(|record| record.0 == kind)
+    facts.rule == RULES[12] && facts.bad_record.is_some_and(|record| record.0 == kind)
 }
 
 fn bad_flag(facts: &Facts, flag: u64) -> bool {
-    facts.rule == RULES[10] && facts.bad_flag == Some(flag)
+    facts.rule == RULES[14] && facts.bad_flag == Some(flag)
 }
 
 pub const LINES: &[Line<Facts>] = &[
@@ -132,10 +136,10 @@ pub const LINES: &[Line<Facts>] = &[
     ("flag with bit 31", |f| f.flag >= 0x8000_0000),
     ("size 0", |f| f.size == 0),
     ("size 3", |f| f.size == 3),
-    ("size 4, does not fit", |f| f.size == 4 && f.rule == RULES[14]),
-    ("size 15, does not fit", |f| f.size == 15 && f.rule == RULES[14]),
+    ("size 4, does not fit", |f| f.size == 4 && f.rule == RULES[18]),
+    ("size 15, does not fit", |f| f.size == 15 && f.rule == RULES[18]),
     ("size 16 answered", |f| f.size == 16 && f.rule.is_empty()),
-    ("size 1,035, does not fit", |f| f.size == 1035 && f.rule == RULES[14]),
+    ("size 1,035, does not fit", |f| f.size == 1035 && f.rule == RULES[18]),
     ("size 1,036 answered, code of 1,023 bytes", |f| f.size == 1036 && answered_code(f, 1023)),
     ("size 1,037 answered, code of 1,023 bytes", |f| f.size == 1037 && answered_code(f, 1023)),
     ("address + size where memory ends, answered", |f| f.end == f.memory && f.rule.is_empty()),
@@ -166,7 +170,7 @@ pub const LINES: &[Line<Facts>] = &[
     ("Starting Number 0x80000001", |f| judged(f) && f.start == 0x8000_0001),
     ("Starting Number 0xffffffff", |f| judged(f) && f.start == 0xffff_ffff),
     ("the area holds the entry due exactly", |f| run_ends(f, 0) == Some(1) && f.rule.is_empty()),
-    ("the area is one byte short of the entry due", |f| run_ends(f, 1) == Some(1) && f.rule == RULES[14]),
+    ("the area is one byte short of the entry due", |f| run_ends(f, 1) == Some(1) && f.rule == RULES[18]),
     ("a run of two or more fills the area", |f| run_ends(f, 0) >= Some(2) && f.rule.is_empty()),
     ("the area is one byte short of the next entry", |f| run_ends(f, 1) >= Some(2) && f.status == 1),
     ("status 1", |f| f.status == 1),

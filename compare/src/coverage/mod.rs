@@ -7,11 +7,13 @@ mod indices;
 mod nodes;
 mod properties;
 mod property_areas;
+mod reading_records;
 
 use crate::buffers::{record_places, word_at};
 use crate::case::{Asked, CallCase, ReadCase};
 use crate::compare::CallResult;
 use crate::library::Reading;
+use crate::session::Counts;
 use combinations::Combinations;
 
 /// A line of the paper, as a condition on the facts of a case.
@@ -54,7 +56,7 @@ impl Table {
     }
 }
 
-const ANSWERS: [(&str, u32, i32); 10] = [
+const ANSWERS: [(&str, u32, i32); 11] = [
     ("number 10", 10, 0),
     ("number 11", 11, 0),
     ("number 12", 12, 0),
@@ -63,12 +65,13 @@ const ANSWERS: [(&str, u32, i32); 10] = [
     ("status 1", 0, 1),
     ("status -1", 0, -1),
     ("status -3", 0, -3),
+    ("status -4", 0, -4),
     ("status -9", 0, -9),
     ("status -10", 0, -10),
 ];
 
 /// The answers that a token can have; the last column is for all other tokens and for buffers too short for one.
-const POSSIBLE: [[bool; 5]; 10] = [
+const POSSIBLE: [[bool; 5]; 11] = [
     [true, true, true, true, true],
     [true, true, true, true, true],
     [true, true, true, true, true],
@@ -77,6 +80,7 @@ const POSSIBLE: [[bool; 5]; 10] = [
     [true, true, false, true, false],
     [true, true, false, true, false],
     [true, true, true, true, true],
+    [false, true, false, false, false],
     [false, false, true, false, false],
     [false, false, true, false, false],
 ];
@@ -91,7 +95,7 @@ const BUFFER_RULES: [&str; 7] = [
     "-3: counts unlike the call's own",
 ];
 
-const SESSION_ROWS: [&str; 16] = [
+const SESSION_ROWS: [&str; 23] = [
     "update-nodes sessions to the end",
     "get-indices sessions to the end",
     "answered calls in sessions",
@@ -108,15 +112,24 @@ const SESSION_ROWS: [&str; 16] = [
     "two nodes' properties over one journal at the same time",
     "the same node's properties twice at the same time",
     "update-properties sessions of nine or more answered calls",
+    "get-indices sessions to the end in one edition, with calls between",
+    "get-indices sessions to the end after -4",
+    "edits of an inventory between the calls of a session",
+    "edits that were not taken, at the top",
+    "calls of get-indices sessions with -4",
+    "readings begun afresh, since the record was gone",
+    "readings begun between the calls of a session",
 ];
 
 pub struct Coverage {
-    answers: [[u64; 5]; 10],
+    answers: [[u64; 5]; 11],
     buffer: Table,
     node_rules: Table,
     node_lines: Table,
     index_rules: Table,
     index_lines: Table,
+    reading_records: Table,
+    edits: Table,
     dump_rules: Table,
     dump_lines: Table,
     property_rules: Table,
@@ -134,12 +147,14 @@ pub struct Coverage {
 impl Coverage {
     pub fn new() -> Coverage {
         Coverage {
-            answers: [[0; 5]; 10],
+            answers: [[0; 5]; 11],
             buffer: Table::new("the argument buffer, by rule", BUFFER_RULES.into_iter()),
             node_rules: Table::new("update-nodes, by rule", nodes::RULES.into_iter()),
             node_lines: Table::of_lines("update-nodes, lines", nodes::LINES),
             index_rules: Table::new("get-indices, by rule", indices::RULES.into_iter()),
             index_lines: Table::of_lines("get-indices, lines", indices::LINES),
+            reading_records: Table::of_lines("the record of the reading in progress", reading_records::LINES),
+            edits: Table::of_lines("edits", reading_records::EDITS),
             dump_rules: Table::new("configure-kernel-dump, by rule", dump::RULES.into_iter()),
             dump_lines: Table::of_lines("configure-kernel-dump, lines", dump::LINES),
             property_rules: Table::new("update-properties, by rule", properties::RULES.into_iter()),
@@ -158,6 +173,7 @@ impl Coverage {
     pub fn call(&mut self, case: &CallCase, result: &CallResult) {
         let token = word_at(&case.args, 0);
         self.count_answer(token, result);
+        self.reading_records.count_lines(reading_records::LINES, &reading_records::facts(case, result));
         if let Some(row) = buffer_rule(result.rule) {
             self.buffer.add(row, 1);
             return;
@@ -182,6 +198,10 @@ impl Coverage {
                 self.dump_lines.count_lines(dump::LINES, &dump::facts(case, result, &inputs));
             }
         }
+    }
+
+    pub fn edit(&mut self, edition: u32) {
+        self.edits.count_lines(reading_records::EDITS, &edition);
     }
 
     fn count_answer(&mut self, token: Option<u32>, result: &CallResult) {
@@ -211,7 +231,8 @@ impl Coverage {
     }
 
     /// Sessions over one journal or one inventory that came to their ends.
-    pub fn session(&mut self, asked: &Asked, answered: u64, refused: u64, entries: u64) {
+    pub fn session(&mut self, asked: &Asked, counts: &Counts) {
+        let Counts { answered, refused, entries, .. } = *counts;
         self.sessions.add(SESSION_ROWS[2], answered);
         self.sessions.add(SESSION_ROWS[3], refused);
         match asked {
@@ -226,10 +247,11 @@ impl Coverage {
                 self.sessions.add(SESSION_ROWS[10], u64::from(units > 0 && units < sessions));
                 self.calls_in_a_session(answered / sessions);
             }
-            Asked::Indices { .. } => {
-                self.sessions.add(SESSION_ROWS[1], 1);
+            Asked::Indices(_) => {
+                self.sessions.add(SESSION_ROWS[1], counts.to_the_end);
                 self.sessions.add(SESSION_ROWS[7], entries);
                 self.calls_in_a_session(answered);
+                self.disturbed_session(counts);
             }
             Asked::Properties(phandles) => {
                 let sessions = phandles.len() as u64;
@@ -244,19 +266,33 @@ impl Coverage {
         }
     }
 
+    /// A session of get-indices, by what came between its calls.
+    fn disturbed_session(&mut self, counts: &Counts) {
+        let in_one_edition = counts.edits == 0 && counts.refused > 0;
+        self.sessions.add(SESSION_ROWS[16], counts.to_the_end * u64::from(in_one_edition));
+        self.sessions.add(SESSION_ROWS[17], counts.to_the_end * u64::from(counts.changed > 0));
+        self.sessions.add(SESSION_ROWS[18], counts.edits);
+        self.sessions.add(SESSION_ROWS[19], counts.edits_at_the_top);
+        self.sessions.add(SESSION_ROWS[20], counts.changed);
+        self.sessions.add(SESSION_ROWS[21], counts.begun_afresh);
+        self.sessions.add(SESSION_ROWS[22], counts.other_readings);
+    }
+
     /// Counts by the answered calls of a session; of sessions at the same time, those that each has on the average.
     fn calls_in_a_session(&mut self, answered: u64) {
         self.sessions.add(SESSION_ROWS[4], u64::from(answered >= 2));
         self.sessions.add(SESSION_ROWS[5], u64::from(answered >= 5));
     }
 
-    fn tables(&self) -> [&Table; 16] {
+    fn tables(&self) -> [&Table; 18] {
         [
             &self.buffer,
             &self.node_rules,
             &self.node_lines,
             &self.index_rules,
             &self.index_lines,
+            &self.reading_records,
+            &self.edits,
             &self.dump_rules,
             &self.dump_lines,
             &self.property_rules,

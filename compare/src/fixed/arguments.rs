@@ -1,13 +1,21 @@
 //! "The argument buffer"
 
-use super::{CallReading, NONE};
+use super::{CallReading, EDITION, NONE, READING};
 use crate::buffers::words;
 use crate::case::CallCase;
 use crate::library::Registration;
 
 /// A call with this argument buffer over one page of memory, an empty journal and an empty inventory.
 fn with(args: Vec<u8>) -> CallCase {
-    CallCase { args, memory: vec![0; 4096], journal: Vec::new(), inventory: Vec::new(), registration: NONE }
+    CallCase {
+        args,
+        memory: vec![0; 4096],
+        journal: Vec::new(),
+        inventory: Vec::new(),
+        edition: EDITION,
+        registration: NONE,
+        reading: READING,
+    }
 }
 
 /// A buffer of these words, padded to a length or cut off.

@@ -1,6 +1,6 @@
 //! The readings of configure-kernel-dump.
 
-use super::{CallReading, NONE};
+use super::{CallReading, EDITION, NONE, READING};
 use crate::buffers::{arguments, put_word};
 use crate::case::CallCase;
 use crate::library::Registration;
@@ -52,7 +52,9 @@ fn call(command: u32, length: u32, structure: &[u8], registration: Registration)
         memory,
         journal: vec![1],
         inventory: vec![1],
+        edition: EDITION,
         registration,
+        reading: READING,
     }
 }
 

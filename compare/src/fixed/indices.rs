@@ -1,22 +1,32 @@
 //! The readings of get-indices.
 
-use super::{CallReading, NONE};
+use super::{CallReading, EDITION, NONE};
 use crate::buffers::{arguments, inventory_record, words};
 use crate::case::CallCase;
+use crate::library::ReadingRecord;
 
-/// A call over 1,100 bytes of memory that are 0xee; the area stands at byte 3.
+/// A call over 1,100 bytes of memory that are 0xee; the area stands at byte 3. The record names what is asked for.
 fn call(inventory: &[u8], flag: u32, kind: u32, size: u32, start: u32) -> CallCase {
     CallCase {
         args: arguments(2, &[flag, kind, 3, size, start], &[0x5555_5555, 0x6666_6666]),
         memory: vec![0xee; MEMORY],
         journal: Vec::new(),
         inventory: inventory.to_vec(),
+        edition: EDITION,
         registration: NONE,
+        reading: ReadingRecord { flag, kind, number: start, edition: EDITION },
     }
 }
 
 fn answered(name: &str, case: CallCase, status: i32, next: i32, area: &[u8]) -> CallReading {
-    CallReading::new(name, case).outputs(&[status, next]).writes(3, area)
+    answered_at(3, name, case, status, next, area)
+}
+
+/// The area stands at another byte.
+fn answered_at(at: usize, name: &str, case: CallCase, status: i32, next: i32, area: &[u8]) -> CallReading {
+    let named = ReadingRecord { number: next as u32, ..case.reading };
+    let reading = if status == 1 { named } else { ReadingRecord::NONE };
+    CallReading::new(name, case).outputs(&[status, next]).writes(at, area).reading(reading)
 }
 
 fn refused(name: &str, case: CallCase, status: i32) -> CallReading {
@@ -139,7 +149,7 @@ fn places() -> Vec<CallReading> {
         case
     };
     vec![
-        CallReading::new("area where memory ends", at(1084, 16)).outputs(&[1, 2]).writes(1084, THREE_BYTES),
+        answered_at(1084, "area where memory ends", at(1084, 16), 1, 2, THREE_BYTES),
         refused("area one byte past memory", at(1085, 16), -3),
         refused("address + size = 2^32", at(0xffff_fff0, 16), -3),
         refused("address + size wraps to 4", at(0xffff_fff4, 16), -3),

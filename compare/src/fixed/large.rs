@@ -1,11 +1,11 @@
 //! Readings in a memory above 4 GiB, where alone "at most 2^32" can be told from "inside memory". The memory is zero and
 //! shared by all of them; around both ends of the first 4 GiB every byte is compared, the rest is not looked at.
 
-use super::NONE;
+use super::{EDITION, NONE, READING};
 use crate::buffers::{arguments, inventory_record, property_record, put_word, words};
 use crate::compare::Sides;
-use crate::library::Registration;
-use crate::subject::Subject;
+use crate::library::{ReadingRecord, Registration};
+use crate::subject::{Platform, Subject};
 use std::alloc::{alloc_zeroed, Layout};
 
 const FOUR_GIB: usize = 1 << 32;
@@ -23,6 +23,7 @@ struct LargeReading {
     /// What the call writes.
     writes: (usize, Vec<u8>),
     registration: Registration,
+    reading: ReadingRecord,
 }
 
 /// Zero bytes, as long as the system has room; pages that nobody touches take none.
@@ -66,7 +67,9 @@ fn failure(subject: &dyn Subject, reading: &LargeReading, memory: &mut [u8]) -> 
     let mut args = reading.args.clone();
     let inventory = inventory_record(1, 9, 7, b"abc");
     let journal = property_record(7, b"a", Some(b"v"));
-    let answered = subject.call(&mut args, memory, &journal, &inventory, NONE);
+    let (journal, inventory) = (&journal, &inventory);
+    let platform = Platform { journal, inventory, edition: EDITION, registration: NONE, reading: READING };
+    let answered = subject.call(&mut args, memory, &platform);
     let mut expected = reading.args.clone();
     let inputs = expected[7] as usize;
     for (place, &output) in reading.outputs.iter().enumerate() {
@@ -75,6 +78,7 @@ fn failure(subject: &dyn Subject, reading: &LargeReading, memory: &mut [u8]) -> 
     let good = answered.number == 0
         && args == expected
         && answered.registration == reading.registration
+        && answered.reading == reading.reading
         && compared_parts(memory) == written;
     (!good).then(|| format!("fixed reading '{}' in a memory above 4 GiB on {}", reading.name, subject.name()))
 }
@@ -90,6 +94,7 @@ fn indices(name: &'static str, address: u32, size: u32, answered: bool) -> Large
         outputs: if answered { vec![0, 1] } else { vec![-3] },
         writes: (address as usize, writes),
         registration: NONE,
+        reading: if answered { ReadingRecord::NONE } else { READING },
     }
 }
 
@@ -101,6 +106,7 @@ fn nodes() -> LargeReading {
         outputs: vec![0],
         writes: (0xffff_f000, words(&[0, 0, 0, 0, 0])),
         registration: NONE,
+        reading: READING,
     }
 }
 
@@ -112,6 +118,7 @@ fn properties() -> LargeReading {
         outputs: vec![0],
         writes: (0xffff_f010, b"\0\0\0\x01a\0\0\0\0\x01v".to_vec()),
         registration: NONE,
+        reading: READING,
     }
 }
 
@@ -132,6 +139,7 @@ fn dump() -> LargeReading {
         outputs: vec![0],
         writes: (0, Vec::new()),
         registration: Registration { phase: 1, length: 80, copy },
+        reading: READING,
     }
 }
 

@@ -9,15 +9,17 @@ mod large;
 mod nodes;
 mod properties;
 mod property_areas;
+mod reading_records;
 mod scopes;
 
 use crate::buffers::put_word;
 use crate::case::{CallCase, ReadCase};
 use crate::compare::{run_call, run_read_indices, run_read_nodes, run_read_properties, Sides};
 use crate::crash;
-use crate::library::Registration;
+use crate::library::{ReadingRecord, Registration};
 use crate::subject::Subject;
 use crate::text;
+use reading_records::{edit_failure, start_failure, EDITS};
 
 /// A call and all that it has to leave.
 pub struct CallReading {
@@ -27,15 +29,21 @@ pub struct CallReading {
     args: Vec<u8>,
     memory: Vec<u8>,
     registration: Registration,
+    reading: ReadingRecord,
 }
 
 pub const NONE: Registration = Registration { phase: 0, length: 0, copy: [0; 512] };
 
+/// An edition, and the record of a reading that began in another one. Calls of other tokens keep it.
+pub const EDITION: u32 = 7;
+pub const READING: ReadingRecord = ReadingRecord { flag: 1, kind: 9, number: 2, edition: 6 };
+
 impl CallReading {
     /// A call that is expected to leave everything as it was, with number 0.
     fn new(name: &str, case: CallCase) -> CallReading {
-        let (args, memory, registration) = (case.args.clone(), case.memory.clone(), case.registration);
-        CallReading { name: String::from(name), case, number: 0, args, memory, registration }
+        let (args, memory) = (case.args.clone(), case.memory.clone());
+        let (registration, reading) = (case.registration, case.reading);
+        CallReading { name: String::from(name), case, number: 0, args, memory, registration, reading }
     }
 
     fn number(mut self, number: u32) -> CallReading {
@@ -63,6 +71,12 @@ impl CallReading {
         self
     }
 
+    /// Expects this record of the reading in progress.
+    fn reading(mut self, reading: ReadingRecord) -> CallReading {
+        self.reading = reading;
+        self
+    }
+
     /// What a side does otherwise than written.
     fn failure(&self, subject: &dyn Subject) -> Option<String> {
         let result = run_call(subject, &self.case);
@@ -71,13 +85,17 @@ impl CallReading {
             (result.args.content() != self.args, "the argument buffer"),
             (result.memory.content() != self.memory, "memory"),
             (result.registration != self.registration, "the registration"),
+            (result.reading != self.reading, "the reading record"),
         ];
         let wrong: Vec<&str> = wrong.iter().filter(|part| part.0).map(|part| part.1).collect();
         if wrong.is_empty() {
             return None;
         }
-        let given = format!("number {}, argument buffer {}", result.number, text::hex(result.args.content()));
-        let written = format!("number {}, argument buffer {}", self.number, text::hex(&self.args));
+        let told = |number: u32, args: &[u8], reading: &ReadingRecord| {
+            format!("number {number}, argument buffer {}, reading record {}", text::hex(args), reading.text())
+        };
+        let given = told(result.number, result.args.content(), &result.reading);
+        let written = told(self.number, &self.args, &self.reading);
         let what = format!("wrong: {}\n  given:   {given}\n  written: {written}", wrong.join(", "));
         Some(format!("fixed reading '{}' on {}: {what}", self.name, subject.name()))
     }
@@ -172,29 +190,28 @@ pub fn run(sides: Sides) -> Vec<String> {
         indices::readings(),
         dump::readings(),
         properties::readings(),
+        reading_records::readings(),
     ]
     .into_iter()
     .flatten()
     .collect();
-    let areas = areas::readings();
-    let property_areas = property_areas::readings();
+    let (areas, property_areas) = (areas::readings(), property_areas::readings());
     let mut failures = Vec::new();
     for subject in [sides.paper, sides.tested] {
-        for (place, reading) in calls.iter().enumerate() {
-            crash::running_fixed(place);
-            failures.extend(reading.failure(subject));
-        }
-        for (place, reading) in areas.iter().enumerate() {
-            crash::running_fixed(calls.len() + place);
-            failures.extend(reading.failure(subject));
-        }
-        for (place, reading) in property_areas.iter().enumerate() {
-            crash::running_fixed(calls.len() + areas.len() + place);
-            failures.extend(reading.failure(subject));
-        }
+        let of_calls = calls.iter().map(|reading| reading.failure(subject));
+        let of_areas = areas.iter().map(|reading| reading.failure(subject));
+        let of_property_areas = property_areas.iter().map(|reading| reading.failure(subject));
+        let of_edits = EDITS.iter().map(|&(edition, written)| edit_failure(subject, edition, written));
+        let of_the_start = std::iter::once_with(|| start_failure(subject));
+        let all = of_calls.chain(of_areas).chain(of_property_areas).chain(of_edits).chain(of_the_start);
+        // The place is noted before the reading is run.
+        let places = (0..).inspect(|&place| crash::running_fixed(place));
+        failures.extend(places.zip(all).filter_map(|(_, failure)| failure));
     }
-    let all_areas = areas.len() + property_areas.len();
-    println!("fixed readings: {} calls and {all_areas} areas on both sides", calls.len());
+    let (calls, all_areas, edits) = (calls.len(), areas.len() + property_areas.len(), EDITS.len());
+    println!(
+        "fixed readings: {calls} calls, {all_areas} areas, {edits} edits and the record to start with on both sides"
+    );
     match large::run(sides) {
         Some((readings, wrong)) => {
             println!("fixed readings in a memory of 4 GiB and 8,192 bytes: {readings} calls on both sides");

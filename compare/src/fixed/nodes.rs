@@ -1,6 +1,6 @@
 //! The readings of update-nodes.
 
-use super::{CallReading, NONE};
+use super::{CallReading, EDITION, NONE, READING};
 use crate::buffers::{arguments, journal_record, put_word, unit_record, words};
 use crate::case::CallCase;
 
@@ -23,7 +23,9 @@ pub fn call(journal: &[u8], scope: u32, state: u32) -> CallCase {
         memory,
         journal: journal.to_vec(),
         inventory: Vec::new(),
+        edition: EDITION,
         registration: NONE,
+        reading: READING,
     }
 }
 

@@ -1,6 +1,6 @@
 //! The readings of update-properties (M-103).
 
-use super::{CallReading, NONE};
+use super::{CallReading, EDITION, NONE, READING};
 use crate::buffers::{arguments, journal_record, property_record, put_word, record, words};
 use crate::case::CallCase;
 
@@ -22,7 +22,9 @@ fn call_for(journal: &[u8], phandle: u32, state: u32) -> CallCase {
         memory,
         journal: journal.to_vec(),
         inventory: Vec::new(),
+        edition: EDITION,
         registration: NONE,
+        reading: READING,
     }
 }
 

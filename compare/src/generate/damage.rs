@@ -6,7 +6,7 @@ use crate::buffers::{inventory_record, journal_record, record, record_places, un
 use crate::random::Random;
 
 /// Puts one record more into a buffer of records.
-fn insert(random: &mut Random, buffer: &mut Vec<u8>, record: &[u8]) {
+pub fn insert(random: &mut Random, buffer: &mut Vec<u8>, record: &[u8]) {
     let places = record_places(buffer);
     let at = places.get(random.between(0, places.len())).map_or(buffer.len(), |place| place.0);
     buffer.splice(at..at, record.iter().copied());

@@ -1,6 +1,6 @@
 //! Calls of configure-kernel-dump.
 
-use super::{arguments, faults, memories, registrations, structures};
+use super::{arguments, faults, memories, reading_records, registrations, structures};
 use crate::case::CallCase;
 use crate::random::Random;
 
@@ -82,5 +82,7 @@ fn write(random: &mut Random, plan: Plan) -> CallCase {
     }
     let registration = registrations::of_phase(random, plan.phase);
     let args = arguments::good(random, 3, &[plan.command, plan.address, plan.length], 1);
-    CallCase { args, memory, journal: vec![0; random.below(2)], inventory: vec![0; random.below(2)], registration }
+    let (journal, inventory) = (vec![0; random.below(2)], vec![0; random.below(2)]);
+    let (edition, reading) = (reading_records::edition(random), reading_records::any(random));
+    CallCase { args, memory, journal, inventory, edition, registration, reading }
 }

@@ -25,10 +25,8 @@ fn written(random: &mut Random) -> Vec<u8> {
     let stock = inventories::stock(random, 0, 9000, entries);
     let mut area = vec![0; random.between(AMPLE, 2500)];
     random.fill(&mut area);
-    let size = area.len() as u32;
-    let registration = paper::Registration { phase: paper::Phase::None, length: 0, copy: [0; 512] };
-    let mut args = arguments(2, &[0, 9000, 0, size, 1], &[0, 0]);
-    paper::call(&mut args, &mut area, &[], &stock.bytes, registration);
+    let args = arguments(2, &[0, 9000, 0, area.len() as u32, 1], &[0, 0]);
+    super::call_paper(args, &mut area, &[], &stock.bytes);
     area
 }
 

@@ -1,8 +1,9 @@
 //! Calls of get-indices.
 
 use super::inventories::{self, Stock, AMPLE};
-use super::{arguments, damage, faults, memories, registrations};
+use super::{arguments, damage, faults, memories, reading_records, registrations};
 use crate::case::CallCase;
+use crate::library::ReadingRecord;
 use crate::random::Random;
 
 struct Plan {
@@ -36,7 +37,7 @@ fn number_of_entries(random: &mut Random) -> usize {
 fn good_plan(random: &mut Random) -> Plan {
     let flag = random.below(2) as u32;
     let kind = inventories::good_kind(random, flag);
-    let stock = if random.one_in(1000) {
+    let stock = if random.one_in(500) {
         inventories::full_stock(random, flag, kind)
     } else {
         let entries = number_of_entries(random);
@@ -127,7 +128,10 @@ fn write(random: &mut Random, plan: Plan) -> CallCase {
     let memory = memories::memory(random, plan.memory);
     let mut journal = vec![0; random.pick(&[0, 0, 5])];
     random.fill(&mut journal);
-    let inputs = [plan.flag, plan.kind, plan.address, plan.size, plan.start];
-    let args = arguments::good(random, 2, &inputs, 2);
-    CallCase { args, memory, journal, inventory: plan.inventory, registration: registrations::any(random) }
+    let Plan { flag, kind, address, size, start, entries, .. } = plan;
+    let args = arguments::good(random, 2, &[flag, kind, address, size, start], 2);
+    let edition = reading_records::edition(random);
+    let reading = reading_records::for_call(random, ReadingRecord { flag, kind, number: start, edition }, entries);
+    let registration = registrations::any(random);
+    CallCase { args, memory, journal, inventory: plan.inventory, edition, registration, reading }
 }

@@ -3,6 +3,7 @@
 pub mod arguments;
 mod damage;
 mod dump_call;
+pub mod edits;
 mod index_areas;
 pub mod indices_call;
 pub mod inventories;
@@ -13,18 +14,21 @@ mod nodes_call;
 mod properties;
 mod properties_call;
 mod property_areas;
+pub mod reading_records;
 pub mod registrations;
 mod structures;
 
 use crate::buffers::record_places;
-use crate::case::{Asked, CallCase, Case, SessionCase, Wanted};
+use crate::case::{Asked, CallCase, Case, Listing, SessionCase, Wanted};
+use crate::paper;
 use crate::random::Random;
 use journals::Size;
 
 pub fn case(seed: u64, number: u64) -> Case {
     let mut random = Random::for_case(seed, number);
     match random.below(100) {
-        0..=64 => Case::Call(call(&mut random)),
+        0..=63 => Case::Call(call(&mut random)),
+        64 => Case::Edit(reading_records::edition(&mut random)),
         65..=75 => node_areas::case(&mut random),
         76..=84 => Case::ReadIndices(index_areas::case(&mut random)),
         85..=92 => Case::ReadProperties(property_areas::case(&mut random)),
@@ -36,10 +40,10 @@ pub fn case(seed: u64, number: u64) -> Case {
 
 /// A call of any token, good or damaged.
 pub fn call(random: &mut Random) -> CallCase {
-    let mut call = match random.below(13) {
+    let mut call = match random.below(14) {
         0..=3 => nodes_call::call(random),
-        4..=6 => indices_call::call(random),
-        7..=9 => properties_call::call(random),
+        4..=7 => indices_call::call(random),
+        8..=10 => properties_call::call(random),
         _ => dump_call::call(random),
     };
     match random.below(16) {
@@ -51,6 +55,13 @@ pub fn call(random: &mut Random) -> CallCase {
         registrations::spoil(random, &mut call.registration);
     }
     call
+}
+
+/// A call on the paper's side alone, for what it writes, of a partition that begins.
+fn call_paper(mut args: Vec<u8>, memory: &mut [u8], journal: &[u8], inventory: &[u8]) {
+    let registration = paper::Registration { phase: paper::Phase::None, length: 0, copy: [0; 512] };
+    let platform = paper::Platform { journal, inventory, edition: 0, registration, reading: paper::NO_READING };
+    paper::call(&mut args, memory, &platform);
 }
 
 /// How many things are wrong with a call.
@@ -139,7 +150,18 @@ fn index_session(random: &mut Random) -> SessionCase {
     let kind = inventories::good_kind(random, flag);
     let entries = if random.one_in(20) { random.between(20, 80) } else { random.between(1, 20) };
     let records = inventories::stock(random, flag, kind, entries).bytes;
-    SessionCase { seed: random.next(), records, asked: Asked::Indices { flag, kind }, plain: random.one_in(4) }
+    let disturbances = if random.one_in(3) { 0 } else { random.between(1, 6) };
+    let edition = edition_of_session(random);
+    let asked = Asked::Indices(Listing { flag, kind, edition, disturbances });
+    SessionCase { seed: random.next(), records, asked, plain: random.one_in(4) }
+}
+
+/// Any edition; often one from which a few edits come to the top.
+fn edition_of_session(random: &mut Random) -> u32 {
+    match random.below(3) {
+        0 => u32::MAX - random.below(5) as u32,
+        _ => reading_records::edition(random),
+    }
 }
 
 #[cfg(test)]

@@ -33,9 +33,7 @@ fn written(random: &mut Random) -> (Vec<u8>, u32) {
     let mut area = vec![0; 4096];
     random.fill(&mut area[16..]);
     area[0..16].copy_from_slice(&wanted.first_bytes());
-    let registration = paper::Registration { phase: paper::Phase::None, length: 0, copy: [0; 512] };
-    let mut args = arguments(1, &[0, wanted.scope], &[0]);
-    paper::call(&mut args, &mut area, &journal, &[], registration);
+    super::call_paper(arguments(1, &[0, wanted.scope], &[0]), &mut area, &journal, &[]);
     (area, wanted.scope)
 }
 

@@ -1,7 +1,7 @@
 //! Calls of update-nodes.
 
 use super::journals::{self, Size};
-use super::{arguments, damage, faults, memories, registrations};
+use super::{arguments, damage, faults, memories, reading_records, registrations};
 use crate::buffers::put_word;
 use crate::case::{CallCase, Wanted};
 use crate::paper::{records, scope};
@@ -128,5 +128,7 @@ fn write(random: &mut Random, plan: Plan) -> CallCase {
     let mut inventory = vec![0; random.pick(&[0, 0, 5])];
     random.fill(&mut inventory);
     let args = arguments::good(random, 1, &[plan.address, plan.scope], 1);
-    CallCase { args, memory, journal: plan.journal, inventory, registration: registrations::any(random) }
+    let (edition, reading) = (reading_records::edition(random), reading_records::any(random));
+    let registration = registrations::any(random);
+    CallCase { args, memory, journal: plan.journal, inventory, edition, registration, reading }
 }

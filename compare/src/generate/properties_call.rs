@@ -2,7 +2,7 @@
 
 use super::journals::Size;
 use super::nodes_call::{other_scope, spoil_address};
-use super::{arguments, damage, faults, journals, memories, properties, registrations};
+use super::{arguments, damage, faults, journals, memories, properties, reading_records, registrations};
 use crate::buffers::put_word;
 use crate::case::CallCase;
 use crate::paper::records::{self, Property};
@@ -136,5 +136,7 @@ fn write(random: &mut Random, plan: Plan) -> CallCase {
     let mut inventory = vec![0; random.pick(&[0, 0, 5])];
     random.fill(&mut inventory);
     let args = arguments::good(random, 4, &[plan.address, plan.scope], 1);
-    CallCase { args, memory, journal: plan.journal, inventory, registration: registrations::any(random) }
+    let (edition, reading) = (reading_records::edition(random), reading_records::any(random));
+    let registration = registrations::any(random);
+    CallCase { args, memory, journal: plan.journal, inventory, edition, registration, reading }
 }

@@ -32,9 +32,7 @@ fn written(random: &mut Random) -> Vec<u8> {
     let mut area = vec![0; 4096];
     random.fill(&mut area[16..]);
     put_word(&mut area, 0, stock.phandle);
-    let registration = paper::Registration { phase: paper::Phase::None, length: 0, copy: [0; 512] };
-    let mut args = arguments(4, &[0, 1], &[0]);
-    paper::call(&mut args, &mut area, &stock.journal, &[], registration);
+    super::call_paper(arguments(4, &[0, 1], &[0]), &mut area, &stock.journal, &[]);
     area
 }
 

@@ -1,5 +1,6 @@
 //! "get-indices"
 
+use super::reading_record::{self, ReadingRecord};
 use super::records::{self, Entry};
 use super::words::{as_word, put_word};
 use super::{refused, Refusal};
@@ -19,11 +20,18 @@ pub struct Outputs {
     pub next: u32,
 }
 
-/// The outputs of the call, or the rule that refuses it.
-pub fn get_indices(memory: &mut [u8], inventory: &[u8], inputs: &Inputs) -> Result<Outputs, Refusal> {
+/// The outputs of the call, or the rule that refuses it. What becomes of the record follows from either.
+pub fn get_indices(
+    memory: &mut [u8],
+    inventory: &[u8],
+    inputs: &Inputs,
+    edition: u64,
+    record: &ReadingRecord,
+) -> Result<Outputs, Refusal> {
     if let Some(rule) = broken_before_inventory(memory.len() as u64, inputs) {
         return refused(-3, rule);
     }
+    reading_record::judge(inputs, edition, record)?;
     let entries = match records::inventory(inventory) {
         Ok(entries) => entries,
         Err(rule) => return refused(-1, rule),

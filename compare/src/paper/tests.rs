@@ -2,7 +2,7 @@
 
 use super::readers::{read_properties, Properties, Property, Refused};
 use super::words::{put_word, word};
-use super::{call, Phase, Registration};
+use super::{call, Phase, Platform, Registration, NO_READING};
 
 /// A record of kind 5 where there is a value, otherwise of kind 6.
 fn record(phandle: u32, name: &[u8], value: Option<&[u8]>) -> Vec<u8> {
@@ -30,8 +30,9 @@ fn ask(journal: &[u8], phandle: u32, state: u32) -> (i32, Vec<u8>) {
 /// The status of a call over this memory at address 0.
 fn call_over(memory: &mut [u8], journal: &[u8], scope: u32) -> i32 {
     let mut args: Vec<u8> = [4, 2, 1, 0, scope, 77].iter().flat_map(|word: &u32| word.to_be_bytes()).collect();
-    let none = Registration { phase: Phase::None, length: 0, copy: [0; 512] };
-    let told = call(&mut args, memory, journal, &[], none);
+    let registration = Registration { phase: Phase::None, length: 0, copy: [0; 512] };
+    let told =
+        call(&mut args, memory, &Platform { journal, inventory: &[], edition: 0, registration, reading: NO_READING });
     assert_eq!(told.number, 0);
     word(&args, 20) as u32 as i32
 }

@@ -1,6 +1,7 @@
 //! Sessions: lists of calls over one journal or one inventory up to status 0, with refused calls of any sort between.
 //! Beside the comparison of every byte, the answered calls have to hand out the whole list, in order, once.
 
+mod account;
 mod indices;
 mod nodes;
 mod properties;
@@ -9,7 +10,7 @@ use crate::case::{Asked, CallCase, ReadCase, SessionCase};
 use crate::compare::{self, CallPair, CallResult, Sides};
 use crate::coverage::Coverage;
 use crate::generate;
-use crate::library::Registration;
+use crate::library::{ReadingRecord, Registration};
 use crate::random::Random;
 
 /// A session under way. What goes wrong is told as text.
@@ -19,8 +20,29 @@ struct Run<'a> {
     random: Random,
     memory: Vec<u8>,
     registration: Registration,
-    answered: u64,
-    refused: u64,
+    edition: u32,
+    reading: ReadingRecord,
+    counts: Counts,
+}
+
+/// What a session came to.
+#[derive(Default)]
+pub struct Counts {
+    /// Calls of the sessions themselves, not of others between.
+    pub answered: u64,
+    pub refused: u64,
+    /// The entries that came.
+    pub entries: u64,
+    /// 1 where a session of get-indices came to its end: at the top there may be nothing to read and no edit.
+    pub to_the_end: u64,
+    pub edits: u64,
+    pub edits_at_the_top: u64,
+    /// Calls with -4.
+    pub changed: u64,
+    /// Readings that were begun afresh, since they could not go on.
+    pub begun_afresh: u64,
+    /// Readings that were begun between the calls of the session.
+    pub other_readings: u64,
 }
 
 /// Room for every entry that an area can hold.
@@ -34,18 +56,31 @@ pub fn difference(sides: Sides, case: &SessionCase, coverage: &mut Coverage) -> 
     let pages = random.between(1, 3);
     let memory = generate::memories::memory(&mut random, 4096 * pages);
     let registration = generate::registrations::any(&mut random);
-    let mut run = Run { sides, case, random, memory, registration, answered: 0, refused: 0 };
+    let edition = generate::reading_records::edition(&mut random);
+    let reading = generate::reading_records::any(&mut random);
+    let mut run = Run { sides, case, random, memory, registration, edition, reading, counts: Counts::default() };
     let handed_out = match &case.asked {
         Asked::Nodes(wanted) => nodes::run(&mut run, wanted),
-        Asked::Indices { flag, kind } => indices::run(&mut run, *flag, *kind),
+        Asked::Indices(listing) => indices::run(&mut run, *listing),
         Asked::Properties(phandles) => properties::run(&mut run, phandles),
     };
+    let counts = run.counts;
     match handed_out {
         Ok(entries) => {
-            coverage.session(&case.asked, run.answered, run.refused, entries);
+            coverage.session(&case.asked, &Counts { entries, ..counts });
             None
         }
-        Err(text) => Some(format!("after {} answered and {} refused calls\n{text}", run.answered, run.refused)),
+        Err(text) => Some(format!("after {} answered and {} refused calls\n{text}", counts.answered, counts.refused)),
+    }
+}
+
+/// "demand 1 reads the record beside the work area, and that clearing as its one exception": a call that is no answered
+/// one of get-indices keeps the record, but for -4.
+fn keeps_record(call: &CallCase, result: &CallResult) -> bool {
+    match (result.number, result.status()) {
+        (0, Some(-4)) => result.reading == ReadingRecord::NONE,
+        (0, Some(0 | 1)) if call.args.starts_with(&[0, 0, 0, 2]) => true,
+        _ => result.reading == call.reading,
     }
 }
 
@@ -59,31 +94,32 @@ impl Run<'_> {
         }
     }
 
-    /// A call that is refused, or is no part of the session: it leaves what is carried.
-    fn between(&mut self, call: &CallCase) -> Result<(), String> {
-        let pair = self.both(call)?;
-        if pair.paper.answered() {
-            return Ok(());
+    /// The call on both sides, which have to agree; a refused one leaves what is carried.
+    fn judged(&mut self, call: &CallCase) -> Result<CallResult, String> {
+        let result = self.both(call)?.paper;
+        if !keeps_record(call, &result) {
+            return Err(format!("the call left another reading record, this {}", call.text()));
         }
-        self.refused += 1;
-        let untouched =
-            |result: &CallResult| result.memory.content() == call.memory && result.registration == call.registration;
-        if untouched(&pair.paper) && untouched(&pair.tested) {
-            Ok(())
+        if result.answered() {
+            return Ok(result);
+        }
+        self.counts.refused += 1;
+        if result.memory.content() == call.memory && result.registration == call.registration {
+            Ok(result)
         } else {
             Err(format!("a refused call left other memory or another registration, of this {}", call.text()))
         }
     }
 
-    /// A well-made call, which is answered; its memory is the next one's.
+    /// A well-made call of another token than get-indices, which is answered; its memory is the next one's.
     fn well_made(&mut self, call: &CallCase) -> Result<CallResult, String> {
-        let pair = self.both(call)?;
-        if !pair.paper.answered() {
+        let result = self.judged(call)?;
+        if !result.answered() {
             return Err(format!("a well-made call was refused, this {}", call.text()));
         }
-        self.answered += 1;
-        self.memory.copy_from_slice(pair.paper.memory.content());
-        Ok(pair.paper)
+        self.counts.answered += 1;
+        self.memory.copy_from_slice(result.memory.content());
+        Ok(result)
     }
 
     /// Between calls the operating system may write anywhere in memory.

@@ -101,14 +101,16 @@ fn call_of(run: &Run, args: Vec<u8>) -> CallCase {
         memory: run.memory.clone(),
         journal: run.case.records.clone(),
         inventory: Vec::new(),
+        edition: run.edition,
         registration: run.registration,
+        reading: run.reading,
     }
 }
 
 fn refused_calls(run: &mut Run, wanted: Wanted, carried: &[u8; 16], list: u32) -> Result<(), String> {
     while !run.case.plain && run.random.one_in(2) {
         let call = refused_call(run, wanted, carried, list);
-        run.between(&call)?;
+        run.judged(&call)?;
     }
     Ok(())
 }

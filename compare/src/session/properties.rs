@@ -155,7 +155,9 @@ fn well_made_call(run: &mut Run, carried: &[u8; 16]) -> (CallCase, usize) {
         memory: run.memory.clone(),
         journal: run.case.records.clone(),
         inventory: Vec::new(),
+        edition: run.edition,
         registration: run.registration,
+        reading: run.reading,
     };
     (call, address)
 }
@@ -163,7 +165,7 @@ fn well_made_call(run: &mut Run, carried: &[u8; 16]) -> (CallCase, usize) {
 fn refused_calls(run: &mut Run, session: &Session) -> Result<(), String> {
     while !run.case.plain && run.random.one_in(2) {
         let call = refused_call(run, session);
-        run.between(&call)?;
+        run.judged(&call)?;
     }
     Ok(())
 }

@@ -1,0 +1,1 @@
+s/if inputs.start == 1 {/if inputs.start == 1 \&\& *record == NO_READING {/

@@ -1,0 +1,1 @@
+s/if inputs.flag != record.flag {/if false {/

@@ -1,0 +1,1 @@
+s/reading_record::judge(inputs, edition, record)?;/reading_record::judge(inputs, edition, record).or_else(|refusal| if refusal.status == -4 \&\& records::inventory(inventory).is_err() { Ok(()) } else { Err(refusal) })?;/

@@ -1,0 +1,1 @@
+s/return Told { number, registration, reading, rule };/return Told { number, registration, reading: NO_READING, rule };/

@@ -1,0 +1,1 @@
+s/let status = update_properties::update_properties(memory, journal, input(0), input(1))?;/let (status, reading) = (update_properties::update_properties(memory, journal, input(0), input(1))?, NO_READING); let with_outputs = |outputs| Answered { reading, ..with_outputs(outputs) };/

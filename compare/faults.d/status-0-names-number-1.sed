@@ -1,0 +1,1 @@
+s/if outputs.status == 0 {/if outputs.status == 2 {/

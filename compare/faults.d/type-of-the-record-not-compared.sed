@@ -1,0 +1,1 @@
+s/if inputs.kind != record.kind {/if false {/
