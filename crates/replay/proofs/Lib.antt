@@ -1,0 +1,5 @@
+pub mod Parts
+pub mod Leaves
+pub mod Plays
+pub mod Standings
+pub mod Ending

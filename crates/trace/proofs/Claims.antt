@@ -1,0 +1,164 @@
+-- The claims of a trace hold.
+use mathlib.Core.Path.{_≡_, refl, sym, ap, _∙_}
+use mathlib.Core.Bool.{Bool, true, false, _&&_, and-false, true≢false}
+use mathlib.Core.List.{List, []}
+use Prim.Native.Nat.{ℕ, _+_}
+use lib.Dec.{leb, eqb}
+use lib.ListN.{length, take}
+use lib.Seq.{take-length}
+use borrow.Author.Tests.{eqb-true}
+use Rattle.words.proofs.Choice.{choose, and-left, and-right}
+use Rattle.records.specs.Records.{kindOf}
+use Rattle.records.specs.Cutting.{start, fed}
+use Rattle.records.proofs.Feeding.{any-cutting, standing-start, fed-stopped}
+use Rattle.records.proofs.Whole.{any-cutting-over}
+use Rattle.trace.specs.Playing.{Platform, Waiting, none, call, State, isOver, agreed, stopped, blamed, faulted, kept, setting, common, compared, called, calling, played, concluded, step, reader, begin, replayOf}
+use Rattle.trace.specs.declared.report.Report.{Report}
+use Rattle.trace.specs.declared.report.Report.the-variants.{Agreed, Differs, Malformed}
+use Rattle.trace.specs.Trace.{isBefore, isAfter, isSetting, bodyOf, isGood, isSettable}
+use Rattle.trace.specs.Claims.{AnyCutting, OverRecords, FaultTouchesReport, BadFaults, DifferenceKeeps, AgreedSame, StopsForGood, TraceClaims}
+use Rattle.trace.proofs.Reader.{sticky, stops, alike}
+use Rattle.trace.proofs.Recording.{own-trace-agrees}
+use Rattle.trace.proofs.First.{common-same, first-difference}
+use Rattle.trace.proofs.TraceReadings.{trace-readings}
+
+any : AnyCutting
+any p m bs = any-cutting (reader p) (sticky p) (start (begin m)) (standing-start (reader p) (begin m)) bs
+
+over : OverRecords
+unfolding replayOf
+over p m bs = ap concluded (any-cutting-over (reader p) (sticky p) (stops p) (alike p) (begin m) bs)
+
+-- ---- what a record leaves
+
+-- a state beside its report
+abbrev Kept : State → State → Type 0
+Kept s t = (t .records ≡ s .records) × ((t .waiting ≡ s .waiting) × ((t .memory ≡ s .memory) × ((t .registration ≡ s .registration) × (t .reading ≡ s .reading))))
+
+isMalformed : Report → Bool
+isMalformed (Agreed c) = false
+isMalformed (Differs n k) = false
+isMalformed (Malformed n) = true
+
+number-of : Report → ℕ
+number-of (Agreed c) = 0
+number-of (Differs n k) = 0
+number-of (Malformed n) = n
+
+differs : Report → Bool
+differs (Agreed c) = false
+differs (Differs n k) = true
+differs (Malformed n) = false
+
+calls-in : Report → ℕ
+calls-in (Agreed c) = c
+calls-in (Differs n k) = 0
+calls-in (Malformed n) = 0
+
+isCall : Waiting → Bool
+isCall none = false
+isCall (call args) = true
+
+argsIn : Waiting → List ℕ
+argsIn none = []
+argsIn (call args) = args
+
+module _ (p : Platform) (s : State) (r : List ℕ) (going : stopped s ≡ false) where
+  -- the ways of a record
+  ways : (P : State → Type 0) → P (faulted s) → ((w : Waiting) → s .waiting ≡ w → isGood r ≡ true → P (played p s w (kindOf r) (bodyOf r))) → P (step p s r)
+  unfolding step
+  ways P bad good = rw going (choose (leb (s .records + 1) 4294967295 && isGood r) P (λ t. good (s .waiting) refl (and-right (leb (s .records + 1) 4294967295) _ t)) (λ _. bad))
+
+  -- a fault, or no malformed report
+  abbrev Faults : State → Type 0
+  Faults t = (number : ℕ) → t .report ≡ Malformed number → (number ≡ blamed (s .records) (s .waiting)) × Kept s t
+
+  by-fault : Faults (faulted s)
+  unfolding faulted number-of
+  by-fault number e = (sym (ap number-of e), (refl, (refl, (refl, (refl, refl)))))
+
+  not-malformed : (t : State) → isMalformed (t .report) ≡ false → Faults t
+  unfolding isMalformed
+  not-malformed t f number e = absurd (true≢false (sym (ap isMalformed e) ∙ f))
+
+  -- what is going on has a report that is not malformed
+  unmalformed : (x : Report) → isOver x ≡ false → isMalformed x ≡ false
+  unfolding isMalformed
+  unmalformed (Agreed c) e = refl
+  unmalformed (Differs n k) e = refl
+  unmalformed (Malformed n) e = absurd (true≢false e)
+
+  on-going : isMalformed (s .report) ≡ false
+  unfolding stopped
+  on-going = unmalformed (s .report) going
+
+  by-kept : Faults (kept s (bodyOf r))
+  unfolding kept
+  by-kept = not-malformed (kept s (bodyOf r)) on-going
+
+  by-setting : Faults (setting s (bodyOf r))
+  unfolding setting
+  by-setting = choose (isSettable (s .memory) (bodyOf r)) Faults {y = faulted s} (λ _. not-malformed _ on-going) (λ _. by-fault)
+
+  compared-not : (calls : ℕ) (recorded ours : List ℕ) → isMalformed (compared calls recorded ours) ≡ false
+  unfolding compared isMalformed
+  compared-not calls recorded ours =
+      let n = common recorded ours in
+      choose (eqb n (length recorded) && eqb n (length ours)) (λ (x : Report). isMalformed x ≡ false) {x = Agreed (calls + 1)} {y = Differs (calls + 1) n} (λ _. refl) (λ _. refl)
+
+  by-call : (args : List ℕ) → Faults (calling p s args (bodyOf r))
+  unfolding calling
+  by-call args = not-malformed (calling p s args (bodyOf r)) (compared-not (agreed (s .report)) (bodyOf r) (called p s args .args))
+
+  by-played : (w : Waiting) → s .waiting ≡ w → isGood r ≡ true → Faults (played p s w (kindOf r) (bodyOf r))
+  by-played none e g = choose (isBefore (kindOf r)) Faults (λ _. by-kept) (λ _. choose (isSetting (kindOf r)) Faults (λ _. by-setting) (λ _. by-fault))
+  by-played (call args) e g = choose (isAfter (kindOf r)) Faults (λ _. by-call args) (λ _. by-fault)
+
+  faults : Faults (step p s r)
+  faults = ways Faults by-fault by-played
+
+  bad : isGood r ≡ false → step p s r .report ≡ Malformed (blamed (s .records) (s .waiting))
+  unfolding step faulted
+  bad e = rw (going, e, and-false (leb (s .records + 1) 4294967295))
+
+  -- ---- a difference
+
+  module _ (args : List ℕ) (waits : s .waiting ≡ call args) (number offset : ℕ) where
+    abbrev Keeps : State → Type 0
+    Keeps t = t .report ≡ Differs number offset → (t .memory ≡ called p s args .memory) × ((t .registration ≡ called p s args .registration) × (t .reading ≡ called p s args .reading))
+
+    fault-keeps : Keeps (faulted s)
+    unfolding faulted isMalformed
+    fault-keeps e = absurd (true≢false (ap isMalformed e))
+
+    call-keeps : (other : List ℕ) → other ≡ args → Keeps (calling p s other (bodyOf r))
+    unfolding calling
+    call-keeps other e = rw e (λ _. (refl, (refl, refl)))
+
+    played-keeps : (w : Waiting) → s .waiting ≡ w → isGood r ≡ true → Keeps (played p s w (kindOf r) (bodyOf r))
+    unfolding isCall argsIn
+    played-keeps none e g = absurd (true≢false (ap isCall (sym waits ∙ e)))
+    played-keeps (call other) e g = choose (isAfter (kindOf r)) Keeps (λ _. call-keeps other (ap argsIn (sym e ∙ waits))) (λ _. fault-keeps)
+
+    keeps : Keeps (step p s r)
+    keeps = ways Keeps fault-keeps played-keeps
+
+-- ---- buffers that agree
+
+all-common : (a b : List ℕ) → common a b ≡ length a → common a b ≡ length b → a ≡ b
+all-common a b e f =
+    sym (take-length a) ∙ ap (λ (n : ℕ). take n a) (sym e) ∙ common-same a b ∙ ap (λ (n : ℕ). take n b) f ∙ take-length b
+
+agreed-same : AgreedSame
+unfolding compared differs calls-in
+agreed-same calls number recorded ours =
+    let n = common recorded ours in
+    choose (eqb n (length recorded) && eqb n (length ours)) (λ (x : Report). x ≡ Agreed number → (recorded ≡ ours) × (number ≡ calls + 1)) {x = Agreed (calls + 1)} {y = Differs (calls + 1) n}
+    (λ t e. (all-common recorded ours (eqb-true n (length recorded) (and-left _ _ t)) (eqb-true n (length ours) (and-right (eqb n (length recorded)) _ t)), sym (ap calls-in e)))
+    (λ _ e. absurd (true≢false (ap differs e)))
+
+stops-for-good : StopsForGood
+stops-for-good p s b e = fed-stopped (reader p) (sticky p) (start s) b e
+
+pub trace-claims : TraceClaims
+trace-claims = record { any-cutting = any; over-records = over; fault-touches-report = λ p s r number going. faults p s r going number; bad-faults = bad; difference-keeps = λ p s r args number offset going waits. keeps p s r going args waits number offset; agreed-same = agreed-same; stops-for-good = stops-for-good; own-trace-agrees = own-trace-agrees; first-difference = first-difference; trace-readings = trace-readings }

@@ -1,0 +1,5 @@
+pub mod Reader
+pub mod Recording
+pub mod First
+pub mod TraceReadings
+pub mod Claims

@@ -1,0 +1,54 @@
+-- The reader of a trace keeps what the laws of cutting ask of a reader.
+use mathlib.Core.Path.{_≡_, refl, sym, _∙_}
+use mathlib.Core.Bool.{Bool, true, false, cond, _&&_, and-false}
+use mathlib.Core.List.{List}
+use Prim.Native.Nat.{ℕ, _+_, _-_, _≤_}
+use native.Mathlib.Omega.{arith}
+use lib.Dec.{leb}
+use borrow.Author.Tests.{leb-true}
+use Rattle.words.proofs.Choice.{decide, and-left, and-right}
+use Rattle.records.specs.Records.{lengthOf, kindOf}
+use Rattle.records.specs.Cutting.{due, Sticky, Stops, Alike, fair}
+use Rattle.trace.specs.Trace.{goodFrame, isGood}
+use Rattle.trace.specs.Playing.{Platform, State, stopped, faulted, step, reader}
+
+-- ---- lengths and kinds
+
+pub frame-bounds : (length kind : ℕ) → goodFrame length kind ≡ true → (2 ≤ length) × (length ≤ 4102)
+unfolding goodFrame
+frame-bounds length kind e = let front = and-left _ (leb 32 kind && leb kind 34) e in (leb-true 2 length (and-left _ _ front), leb-true length 4102 (and-right (leb 2 length) _ front))
+
+-- no record is longer than the buffer that holds it
+pub due-most : (r : List ℕ) → due goodFrame r ≤ 4104
+unfolding due
+due-most r = go (goodFrame (lengthOf r) (kindOf r)) refl
+  where
+    go : (t : Bool) → goodFrame (lengthOf r) (kindOf r) ≡ t → 4 + cond t (lengthOf r - 2) 0 ≤ 4104
+    go true e = omega (arith, frame-bounds (lengthOf r) (kindOf r) e .1)
+    go false e = omega arith
+
+-- ---- the step
+
+pub faulted-stopped : (s : State) → stopped (faulted s) ≡ true
+unfolding stopped faulted
+faulted-stopped s = refl
+
+module _ (p : Platform) where
+  fair-good : (r : List ℕ) → fair (reader p) r ≡ isGood r
+  unfolding isGood
+  fair-good r = refl
+
+  pub sticky : Sticky (reader p)
+  unfolding step
+  sticky s r e = rw e
+
+  -- a record that is not whole, or not good by its length and kind
+  pub unfair-step : (s : State) (r : List ℕ) → stopped s ≡ false → fair (reader p) r ≡ false → step p s r ≡ faulted s
+  unfolding step
+  unfair-step s r e f = let g : isGood r ≡ false = sym (fair-good r) ∙ f in rw (e, g, and-false)
+
+  pub stops : Stops (reader p)
+  stops s r f = decide (stopped s) (λ e. rw (sticky s r e) e) (λ e. rw (unfair-step s r e f) (faulted-stopped s))
+
+  pub alike : Alike (reader p)
+  alike s r q f g = decide (stopped s) (λ e. sticky s r e ∙ sym (sticky s q e)) (λ e. unfair-step s r e f ∙ sym (unfair-step s q e g))

@@ -1,0 +1,175 @@
+-- The trace that our own calls make replays with all calls agreeing.
+use mathlib.Core.Path.{_≡_, refl, sym, ap, _∙_}
+use mathlib.Core.Bool.{Bool, true, false, cond, _&&_}
+use mathlib.Core.List.{List, [], _∷_, _++_, append-assoc}
+use Prim.Native.Nat.{ℕ, suc, _+_, _-_, _*_, _/_, _%_, _≤_, _<_}
+use native.Mathlib.Omega.{arith}
+use native.Mathlib.Nat.{zero-add}
+use lib.Dec.{leb, eqb}
+use lib.ListN.{length, take, drop, getD, length-append}
+use lib.Seq.{sets, length-sets, take-append-seam, drop-append-seam}
+use borrow.Author.Tests.{le-leb, eq-eqb}
+use Rattle.words.specs.Numbers.{le}
+use Rattle.records.specs.Records.{lengthOf, kindOf, sizeOf, firstRecord, recordsFrom, records, whole}
+use Rattle.records.specs.Cutting.{run}
+use Rattle.records.proofs.Steps.{records-step, records-end}
+use Rattle.calls.specs.Buffer.{found, Left}
+use Rattle.calls.proofs.Confined.{demand1}
+use Rattle.trace.specs.declared.report.Report.{Report}
+use Rattle.trace.specs.declared.report.Report.the-variants.{Agreed}
+use Rattle.trace.specs.Trace.{bodyOf, goodFrame, isGood, isSettable, addressIn}
+use Rattle.trace.specs.Playing.{Platform, Waiting, none, call, State, stopped, kept, setting, common, compared, calling, played, step, unanswered, concluded, replayOf}
+use Rattle.trace.specs.Recording.{leBytes, recordOf, Deed, sets-memory, makes-call, Machine, fresh, leftBy, after, afterAll, recorded, traceOf, recordsIn, callsIn, Fits, AllFit, Replays, OwnTraceAgrees}
+
+-- ---- a record
+
+module _ (kind : ℕ) (body : List ℕ) (low : 32 ≤ kind) (high : kind ≤ 34) (short : length body ≤ 4100) where
+  abbrev r : List ℕ
+  r = recordOf kind body
+
+  own-size : length r ≡ length body + 4
+  unfolding recordOf leBytes
+  own-size = omega arith
+
+  own-length : lengthOf r ≡ length body + 2
+  unfolding lengthOf le recordOf leBytes
+  own-length = omega arith
+
+  own-kind : kindOf r ≡ kind
+  unfolding kindOf le recordOf leBytes
+  own-kind = omega arith
+
+  own-body : bodyOf r ≡ body
+  unfolding recordOf leBytes
+  own-body = refl
+
+  own-good : isGood r ≡ true
+  unfolding isGood whole goodFrame
+  own-good =
+      rw (own-length, own-kind, own-size, le-leb 2 (length body + 2) (omega arith), eq-eqb (length body + 4) (length body + 2 + 2) (omega arith), le-leb (length body + 2) 4102 (omega arith), le-leb 32 kind low, le-leb kind 34 high)
+
+  -- with anything behind it, it is the first
+  module _ (rest : List ℕ) where
+    length-is : lengthOf (r ++ rest) ≡ length body + 2
+    unfolding lengthOf le recordOf leBytes
+    length-is = omega arith
+
+    size-is : sizeOf (r ++ rest) ≡ length r
+    size-is = omega (arith, length-is, own-size)
+
+    front-is : firstRecord (r ++ rest) ≡ r
+    front-is = ap (λ (n : ℕ). take n (r ++ rest)) size-is ∙ take-append-seam r rest
+
+    behind-is : drop (sizeOf (r ++ rest)) (r ++ rest) ≡ rest
+    behind-is = ap (λ (n : ℕ). drop n (r ++ rest)) size-is ∙ drop-append-seam r rest
+
+    records-first : records (r ++ rest) ≡ r ∷ records rest
+    records-first = records-step (r ++ rest) 0 (omega (arith, own-size, length-append r rest)) ∙ rw (zero-add, front-is, behind-is)
+
+-- ---- the replay of one
+
+module _ (p : Platform) where
+  -- a replay with nothing to tell, that has taken n records with c calls
+  abbrev at : ℕ → ℕ → Waiting → Machine → State
+  at n c w s = record { records = n; report = Agreed c; waiting = w; memory = s .memory; registration = s .registration; reading = s .reading }
+
+  module _ (n c : ℕ) (w : Waiting) (s : Machine) (kind : ℕ) (body : List ℕ) (low : 32 ≤ kind) (high : kind ≤ 34) (short : length body ≤ 4100) (few : n + 1 ≤ 4294967295) where
+    plays : step p (at n c w s) (recordOf kind body) ≡ played p (at n c w s) w kind body
+    unfolding step stopped
+    plays = rw (le-leb (n + 1) 4294967295 few, own-good kind body low high short, own-kind kind body low high short, own-body kind body low high short)
+
+  -- a buffer agrees with itself
+  common-self : (b : List ℕ) → common b b ≡ length b
+  unfolding common
+  common-self [] = refl
+  common-self (x ∷ xs) = rw (eq-eqb x x refl, common-self xs)
+
+  compared-self : (c : ℕ) (b : List ℕ) → compared c b b ≡ Agreed (c + 1)
+  unfolding compared
+  compared-self c b = rw (common-self b, eq-eqb (length b) (length b) refl)
+
+  -- the body of a 34
+  body-size : (a : ℕ) (bs : List ℕ) → length (leBytes 4 a ++ bs) ≡ length bs + 4
+  unfolding leBytes
+  body-size a bs = omega arith
+
+  bytes-are : (a : ℕ) (bs : List ℕ) → drop 4 (leBytes 4 a ++ bs) ≡ bs
+  unfolding leBytes
+  bytes-are a bs = refl
+
+  address-is : (a : ℕ) (bs : List ℕ) → a < 4294967296 → le 4 (leBytes 4 a ++ bs) 0 ≡ a
+  unfolding leBytes le
+  address-is a bs h = omega arith
+
+  settable : (a : ℕ) (bs m : List ℕ) → Fits (length m) (sets-memory a bs) → isSettable m (leBytes 4 a ++ bs) ≡ true
+  unfolding isSettable
+  settable a bs m h = rw (body-size a bs, address-is a bs (h .0), le-leb 5 (length bs + 4) (omega (arith, h .1)), le-leb (a + (length bs + 4 - 4)) (length m) (omega (arith, h .3)))
+
+  -- ---- a deed
+
+  module _ (n c : ℕ) (s : Machine) where
+    set-plays : (a : ℕ) (bs : List ℕ) → Fits (length (s .memory)) (sets-memory a bs) → n + 1 ≤ 4294967295
+        → step p (at n c none s) (recordOf 34 (leBytes 4 a ++ bs)) ≡ at (n + 1) c none (after p s (sets-memory a bs))
+    unfolding setting
+    set-plays a bs h few =
+        plays n c none s 34 (leBytes 4 a ++ bs) (omega arith) (omega arith) (omega (arith, h .2, body-size a bs)) few
+        ∙ rw (settable a bs (s .memory) h, address-is a bs (h .0), bytes-are a bs)
+
+    call-plays : (args : List ℕ) → length args ≤ 4100 → n + 2 ≤ 4294967295
+        → step p (step p (at n c none s) (recordOf 32 args)) (recordOf 33 (leftBy p s args .args)) ≡ at (n + 2) (c + 1) none (after p s (makes-call args))
+    unfolding kept calling
+    call-plays args h few =
+        let same : length (leftBy p s args .args) ≡ length args = demand1 (found args (s .memory) (p .journal) (p .inventory) (p .edition) (s .registration) (s .reading)) .args-length in
+        ap (λ (x : State). step p x (recordOf 33 (leftBy p s args .args))) (plays n c none s 32 args (omega arith) (omega arith) h (omega arith))
+        ∙ plays (n + 1) c (call args) s 33 (leftBy p s args .args) (omega arith) (omega arith) (omega (arith, same)) (omega arith)
+        ∙ rw (compared-self c (leftBy p s args .args)) (ap (λ (k : ℕ). at k (c + 1) none (after p s (makes-call args))) (omega arith))
+
+  -- ---- all of them
+
+  size-kept : (s : Machine) (d : Deed) → length (after p s d .memory) ≡ length (s .memory)
+  size-kept s (sets-memory a bs) = length-sets (s .memory) a bs
+  size-kept s (makes-call args) = demand1 (found args (s .memory) (p .journal) (p .inventory) (p .edition) (s .registration) (s .reading)) .memory-length
+
+  none-left : records [] ≡ []
+  unfolding records recordsFrom
+  none-left = refl
+
+  reached : (n k c d : ℕ) → n ≡ k → c ≡ d → (s : Machine) → at n c none s ≡ at k d none s
+  reached n k c d e f s = rw (e, f)
+
+  all-play : (n c : ℕ) (s : Machine) (ds : List Deed) → AllFit (length (s .memory)) ds → n + recordsIn ds ≤ 4294967295
+      → run (step p) (at n c none s) (records (traceOf p s ds)) ≡ at (n + recordsIn ds) (c + callsIn ds) none (afterAll p s ds)
+  unfolding traceOf recordsIn callsIn run
+  all-play n c s [] h few = ap (run (step p) (at n c none s)) none-left ∙ reached n (n + 0) c (c + 0) (omega arith) (omega arith) s
+  all-play n c s (sets-memory a bs ∷ ds) h few =
+      let then = after p s (sets-memory a bs) in
+      let body : length (leBytes 4 a ++ bs) ≤ 4100 = omega (arith, h .0 .2, body-size a bs) in
+      ap (run (step p) (at n c none s)) (records-first 34 (leBytes 4 a ++ bs) (omega arith) (omega arith) body (traceOf p then ds))
+      ∙ ap (λ (x : State). run (step p) x (records (traceOf p then ds))) (set-plays n c s a bs (h .0) (omega arith))
+      ∙ all-play (n + 1) c then ds (rw (size-kept s (sets-memory a bs)) (h .1)) (omega arith)
+      ∙ reached (n + 1 + recordsIn ds) (n + (1 + recordsIn ds)) (c + callsIn ds) (c + callsIn ds) (omega arith) refl (afterAll p then ds)
+  all-play n c s (makes-call args ∷ ds) h few =
+      let then = after p s (makes-call args) in
+      let ours = leftBy p s args .args in
+      let same : length ours ≡ length args = demand1 (found args (s .memory) (p .journal) (p .inventory) (p .edition) (s .registration) (s .reading)) .args-length in
+      let both : records ((recordOf 32 args ++ recordOf 33 ours) ++ traceOf p then ds) ≡ recordOf 32 args ∷ recordOf 33 ours ∷ records (traceOf p then ds) =
+      ap records (append-assoc (recordOf 32 args) (recordOf 33 ours) (traceOf p then ds))
+      ∙ records-first 32 args (omega arith) (omega arith) (h .0) (recordOf 33 ours ++ traceOf p then ds)
+      ∙ ap (λ (l : List (List ℕ)). recordOf 32 args ∷ l) (records-first 33 ours (omega arith) (omega arith) (omega (arith, same, h .0)) (traceOf p then ds)) in
+      ap (run (step p) (at n c none s)) both
+      ∙ ap (λ (x : State). run (step p) x (records (traceOf p then ds))) (call-plays n c s args (h .0) (omega arith))
+      ∙ all-play (n + 2) (c + 1) then ds (rw (size-kept s (makes-call args)) (h .1)) (omega arith)
+      ∙ reached (n + 2 + recordsIn ds) (n + (2 + recordsIn ds)) (c + 1 + callsIn ds) (c + (1 + callsIn ds)) (omega arith) (omega arith) (afterAll p then ds)
+
+-- ---- the whole trace
+
+pub own-trace-agrees : OwnTraceAgrees
+unfolding replayOf concluded stopped
+own-trace-agrees p m ds fits few =
+    let all : replayOf p m (traceOf p (fresh m) ds) ≡ at p (0 + recordsIn ds) (0 + callsIn ds) none (afterAll p (fresh m) ds) = ap concluded (all-play p 0 0 (fresh m) ds fits (omega arith)) in
+    record {
+      report = ap (λ (x : State). x .report) all ∙ ap Agreed (zero-add (callsIn ds));
+      memory = ap (λ (x : State). x .memory) all;
+      registration = ap (λ (x : State). x .registration) all;
+      reading = ap (λ (x : State). x .reading) all;
+    }

@@ -1,0 +1,60 @@
+-- What is claimed of the definition of a replay, over every platform: for every way of cutting a trace, of bad records, of differences and of our own traces.
+-- Cited by the contracts of `feed` and `end` of crate `replay`.
+use mathlib.Core.Path.{_≡_}
+use mathlib.Core.Bool.{true, false}
+use mathlib.Core.List.{List}
+use Prim.Native.Nat.{ℕ, _+_}
+use Rattle.records.specs.Cutting.{start, fed, fedAll, ended, joined}
+use Rattle.trace.specs.declared.report.Report.the-variants.{Agreed, Differs, Malformed}
+use Rattle.trace.specs.Trace.{isGood}
+use Rattle.trace.specs.Playing.{Platform, call, State, begin, stopped, blamed, called, compared, step, concluded, replayOf, reader}
+use Rattle.trace.specs.Recording.{OwnTraceAgrees}
+use Rattle.trace.specs.First.{FirstDifference}
+use Rattle.trace.specs.TraceReadings.{TraceReadings}
+
+-- Bursts, however they are cut and some of them empty, leave what their bytes leave as one burst.
+abbrev pub AnyCutting : Type 0
+AnyCutting = (p : Platform) (m : List ℕ) (bs : List (List ℕ)) → fedAll (reader p) (start (begin m)) bs ≡ fed (reader p) (start (begin m)) (joined bs)
+
+-- With an end behind them they are the replay of the whole trace: report, memory, registration and reading record.
+abbrev pub OverRecords : Type 0
+OverRecords = (p : Platform) (m : List ℕ) (bs : List (List ℕ)) → concluded (ended (reader p) (fedAll (reader p) (start (begin m)) bs)) ≡ replayOf p m (joined bs)
+
+-- A malformed record touches the report alone, and is told with the number of the 32 that waits, or else with its own.
+abbrev pub FaultTouchesReport : Type 0
+FaultTouchesReport =
+    (p : Platform) (s : State) (r : List ℕ) (number : ℕ) → stopped s ≡ false → step p s r .report ≡ Malformed number
+    → let t = step p s r in
+    (number ≡ blamed (s .records) (s .waiting)) × ((t .records ≡ s .records) × ((t .waiting ≡ s .waiting) × ((t .memory ≡ s .memory) × ((t .registration ≡ s .registration) × (t .reading ≡ s .reading)))))
+
+-- A record that is cut off, or whose length or kind no good record has, is malformed.
+abbrev pub BadFaults : Type 0
+BadFaults = (p : Platform) (s : State) (r : List ℕ) → stopped s ≡ false → isGood r ≡ false → step p s r .report ≡ Malformed (blamed (s .records) (s .waiting))
+
+-- "Memory keeps what was done before the stop", the call that differs included.
+abbrev pub DifferenceKeeps : Type 0
+DifferenceKeeps =
+    (p : Platform) (s : State) (r args : List ℕ) (number offset : ℕ) → stopped s ≡ false → s .waiting ≡ call args → step p s r .report ≡ Differs number offset
+    → let t = step p s r in
+    let x = called p s args in
+    (t .memory ≡ x .memory) × ((t .registration ≡ x .registration) × (t .reading ≡ x .reading))
+
+-- Only buffers that are the same agree.
+abbrev pub AgreedSame : Type 0
+AgreedSame = (calls number : ℕ) (recorded ours : List ℕ) → compared calls recorded ours ≡ Agreed number → (recorded ≡ ours) × (number ≡ calls + 1)
+
+-- After a stop every burst changes nothing.
+abbrev pub StopsForGood : Type 0
+StopsForGood = (p : Platform) (s : State) (b : List ℕ) → stopped s ≡ true → fed (reader p) (start s) b ≡ start s
+
+pub record TraceClaims : Type 0 where
+  pub any-cutting : AnyCutting
+  pub over-records : OverRecords
+  pub fault-touches-report : FaultTouchesReport
+  pub bad-faults : BadFaults
+  pub difference-keeps : DifferenceKeeps
+  pub agreed-same : AgreedSame
+  pub stops-for-good : StopsForGood
+  pub own-trace-agrees : OwnTraceAgrees
+  pub first-difference : FirstDifference
+  pub trace-readings : TraceReadings

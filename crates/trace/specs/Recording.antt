@@ -1,0 +1,86 @@
+-- A session of ours recorded as a trace (document 02, M-110).
+use Prim.Native.Nat.{ℕ, zero, suc, _+_, _/_, _%_, _≤_, _<_}
+use mathlib.Core.Path.{_≡_}
+use mathlib.Core.List.{List, [], _∷_, _++_}
+use lib.ListN.{length}
+use lib.Seq.{sets}
+use Rattle.dump.specs.declared.registration.Registration.{Registration}
+use Rattle.dump.specs.Registration.{noRegistration}
+use Rattle.calls.specs.declared.reading_record.ReadingRecord.{ReadingRecord}
+use Rattle.calls.specs.ReadingRecord.{noReading}
+use Rattle.calls.specs.Buffer.{found, Left, callOf}
+use Rattle.trace.specs.declared.report.Report.the-variants.{Agreed}
+use Rattle.trace.specs.Playing.{Platform, replayOf}
+
+-- a number in so many bytes, little-endian
+unfoldable pub leBytes : ℕ → ℕ → List ℕ
+leBytes zero v = []
+leBytes (suc w) v = v % 256 ∷ leBytes w (v / 256)
+
+-- "our usual records, numbers little-endian"
+unfoldable pub recordOf : ℕ → List ℕ → List ℕ
+recordOf kind body = leBytes 2 (length body + 2) ++ (leBytes 2 kind ++ body)
+
+-- what is done to a partition: bytes of its memory are set, or it makes a call
+pub data Deed : Type 0 where
+  sets-memory : ℕ → List ℕ → Deed
+  makes-call : List ℕ → Deed
+
+-- what a partition has
+pub record Machine : Type 0 where
+  pub memory : List ℕ
+  pub registration : Registration
+  pub reading : ReadingRecord
+
+abbrev pub fresh : List ℕ → Machine
+fresh m = record { memory = m; registration = noRegistration; reading = noReading }
+
+abbrev pub leftBy : Platform → Machine → List ℕ → Left
+leftBy p s args = callOf (found args (s .memory) (p .journal) (p .inventory) (p .edition) (s .registration) (s .reading))
+
+abbrev pub after : Platform → Machine → Deed → Machine
+after p s (sets-memory a bs) = record { memory = sets (s .memory) a bs; registration = s .registration; reading = s .reading }
+after p s (makes-call args) = record { memory = leftBy p s args .memory; registration = leftBy p s args .registration; reading = leftBy p s args .reading }
+
+abbrev pub afterAll : Platform → Machine → List Deed → Machine
+afterAll p s [] = s
+afterAll p s (d ∷ ds) = afterAll p (after p s d) ds
+
+-- the records of a deed: a 34; or a 32 and the 33 with the buffer that our call leaves
+abbrev pub recorded : Platform → Machine → Deed → List ℕ
+recorded p s (sets-memory a bs) = recordOf 34 (leBytes 4 a ++ bs)
+recorded p s (makes-call args) = recordOf 32 args ++ recordOf 33 (leftBy p s args .args)
+
+unfoldable pub traceOf : Platform → Machine → List Deed → List ℕ
+traceOf p s [] = []
+traceOf p s (d ∷ ds) = recorded p s d ++ traceOf p (after p s d) ds
+
+-- how many records and calls there are
+unfoldable pub recordsIn : List Deed → ℕ
+recordsIn [] = 0
+recordsIn (sets-memory a bs ∷ ds) = 1 + recordsIn ds
+recordsIn (makes-call args ∷ ds) = 2 + recordsIn ds
+
+unfoldable pub callsIn : List Deed → ℕ
+callsIn [] = 0
+callsIn (sets-memory a bs ∷ ds) = callsIn ds
+callsIn (makes-call args ∷ ds) = 1 + callsIn ds
+
+-- memory settings of 1 to 4,096 bytes at an address of four bytes, inside memory, and argument buffers of at most 4,100 bytes
+abbrev pub Fits : ℕ → Deed → Type 0
+Fits size (sets-memory a bs) = (a < 4294967296) × (1 ≤ length bs) × (length bs ≤ 4096) × (a + length bs ≤ size)
+Fits size (makes-call args) = length args ≤ 4100
+
+abbrev pub AllFit : ℕ → List Deed → Type 0
+AllFit size [] = Unit {0}
+AllFit size (d ∷ ds) = Fits size d × AllFit size ds
+
+-- Whatever is done, the trace that our own calls make replays with all calls agreeing, and leaves what the calls left.
+pub record Replays (p : Platform) (m : List ℕ) (ds : List Deed) : Type 0 where
+  pub report : replayOf p m (traceOf p (fresh m) ds) .report ≡ Agreed (callsIn ds)
+  pub memory : replayOf p m (traceOf p (fresh m) ds) .memory ≡ afterAll p (fresh m) ds .memory
+  pub registration : replayOf p m (traceOf p (fresh m) ds) .registration ≡ afterAll p (fresh m) ds .registration
+  pub reading : replayOf p m (traceOf p (fresh m) ds) .reading ≡ afterAll p (fresh m) ds .reading
+
+abbrev pub OwnTraceAgrees : Type 0
+OwnTraceAgrees = (p : Platform) (m : List ℕ) (ds : List Deed) → AllFit (length m) ds → recordsIn ds ≤ 4294967295 → Replays p m ds
