@@ -4,8 +4,7 @@ use mathlib.Core.Bool.{Bool, true, false, _&&_, and-false, true≢false}
 use mathlib.Core.List.{List, []}
 use Prim.Native.Nat.{ℕ, _+_}
 use lib.Dec.{leb, eqb}
-use lib.ListN.{length, take}
-use lib.Seq.{take-length}
+use lib.ListN.{length}
 use borrow.Author.Tests.{eqb-true}
 use Rattle.words.proofs.Choice.{choose, and-left, and-right}
 use Rattle.records.specs.Records.{kindOf}
@@ -17,9 +16,10 @@ use Rattle.trace.specs.declared.report.Report.{Report}
 use Rattle.trace.specs.declared.report.Report.the-variants.{Agreed, Differs, Malformed}
 use Rattle.trace.specs.Trace.{isBefore, isAfter, isSetting, bodyOf, isGood, isSettable}
 use Rattle.trace.specs.Claims.{AnyCutting, OverRecords, FaultTouchesReport, BadFaults, DifferenceKeeps, AgreedSame, StopsForGood, TraceClaims}
-use Rattle.trace.proofs.Reader.{sticky, stops, alike}
+use Rattle.trace.proofs.Reader.{sticky, stops, alike, ways}
 use Rattle.trace.proofs.Recording.{own-trace-agrees}
-use Rattle.trace.proofs.First.{common-same, first-difference}
+use Rattle.trace.proofs.First.{all-common, first-difference}
+use Rattle.trace.proofs.Converse.{agreed-is-ours}
 use Rattle.trace.proofs.TraceReadings.{trace-readings}
 
 any : AnyCutting
@@ -64,11 +64,6 @@ argsIn none = []
 argsIn (call args) = args
 
 module _ (p : Platform) (s : State) (r : List ℕ) (going : stopped s ≡ false) where
-  -- the ways of a record
-  ways : (P : State → Type 0) → P (faulted s) → ((w : Waiting) → s .waiting ≡ w → isGood r ≡ true → P (played p s w (kindOf r) (bodyOf r))) → P (step p s r)
-  unfolding step
-  ways P bad good = rw going (choose (leb (s .records + 1) 4294967295 && isGood r) P (λ t. good (s .waiting) refl (and-right (leb (s .records + 1) 4294967295) _ t)) (λ _. bad))
-
   -- a fault, or no malformed report
   abbrev Faults : State → Type 0
   Faults t = (number : ℕ) → t .report ≡ Malformed number → (number ≡ blamed (s .records) (s .waiting)) × Kept s t
@@ -115,7 +110,7 @@ module _ (p : Platform) (s : State) (r : List ℕ) (going : stopped s ≡ false)
   by-played (call args) e g = choose (isAfter (kindOf r)) Faults (λ _. by-call args) (λ _. by-fault)
 
   faults : Faults (step p s r)
-  faults = ways Faults by-fault by-played
+  faults = ways p s r going Faults by-fault (λ _. by-played (s .waiting) refl)
 
   bad : isGood r ≡ false → step p s r .report ≡ Malformed (blamed (s .records) (s .waiting))
   unfolding step faulted
@@ -141,13 +136,9 @@ module _ (p : Platform) (s : State) (r : List ℕ) (going : stopped s ≡ false)
     played-keeps (call other) e g = choose (isAfter (kindOf r)) Keeps (λ _. call-keeps other (ap argsIn (sym e ∙ waits))) (λ _. fault-keeps)
 
     keeps : Keeps (step p s r)
-    keeps = ways Keeps fault-keeps played-keeps
+    keeps = ways p s r going Keeps fault-keeps (λ _. played-keeps (s .waiting) refl)
 
 -- ---- buffers that agree
-
-all-common : (a b : List ℕ) → common a b ≡ length a → common a b ≡ length b → a ≡ b
-all-common a b e f =
-    sym (take-length a) ∙ ap (λ (n : ℕ). take n a) (sym e) ∙ common-same a b ∙ ap (λ (n : ℕ). take n b) f ∙ take-length b
 
 agreed-same : AgreedSame
 unfolding compared differs calls-in
@@ -161,4 +152,4 @@ stops-for-good : StopsForGood
 stops-for-good p s b e = fed-stopped (reader p) (sticky p) (start s) b e
 
 pub trace-claims : TraceClaims
-trace-claims = record { any-cutting = any; over-records = over; fault-touches-report = λ p s r number going. faults p s r going number; bad-faults = bad; difference-keeps = λ p s r args number offset going waits. keeps p s r going args waits number offset; agreed-same = agreed-same; stops-for-good = stops-for-good; own-trace-agrees = own-trace-agrees; first-difference = first-difference; trace-readings = trace-readings }
+trace-claims = record { any-cutting = any; over-records = over; fault-touches-report = λ p s r number going. faults p s r going number; bad-faults = bad; difference-keeps = λ p s r args number offset going waits. keeps p s r going args waits number offset; agreed-same = agreed-same; stops-for-good = stops-for-good; own-trace-agrees = own-trace-agrees; agreed-is-ours = agreed-is-ours; first-difference = first-difference; trace-readings = trace-readings }

@@ -6,6 +6,7 @@ use Prim.Native.Nat.{ℕ, zero, suc, _+_, _≤_, _<_}
 use native.Mathlib.Omega.{arith}
 use lib.Dec.{leb, eqb}
 use lib.ListN.{length, take, getD}
+use lib.Seq.{take-length}
 use borrow.Author.Tests.{eqb-true, eqb-false, eq-eqb}
 use Rattle.words.proofs.Choice.{choose, decide, and-left, and-right}
 use Rattle.records.specs.Records.{kindOf, records}
@@ -25,12 +26,17 @@ common-within (x ∷ xs) [] = (omega arith, omega arith)
 common-within (x ∷ xs) (y ∷ ys) = let more = common-within xs ys in
     choose (eqb x y) (λ (n : ℕ). (n ≤ suc (length xs)) × (n ≤ suc (length ys))) {x = suc (common xs ys)} {y = 0} (λ _. (omega (arith, more .0), omega (arith, more .1))) (λ _. (omega arith, omega arith))
 
-pub common-same : (a b : List ℕ) → take (common a b) a ≡ take (common a b) b
+common-same : (a b : List ℕ) → take (common a b) a ≡ take (common a b) b
 unfolding common
 common-same [] b = refl
 common-same (x ∷ xs) [] = refl
 common-same (x ∷ xs) (y ∷ ys) = choose (eqb x y) (λ (n : ℕ). take n (x ∷ xs) ≡ take n (y ∷ ys)) {x = suc (common xs ys)} {y = 0}
     (λ e. rw (eqb-true x y e, common-same xs ys)) (λ _. refl)
+
+-- buffers of which all is common are the same
+pub all-common : (a b : List ℕ) → common a b ≡ length a → common a b ≡ length b → a ≡ b
+all-common a b e f =
+    sym (take-length a) ∙ ap (λ (n : ℕ). take n a) (sym e) ∙ common-same a b ∙ ap (λ (n : ℕ). take n b) f ∙ take-length b
 
 common-ends : (a b : List ℕ) → common a b < length a → common a b < length b → getD a (common a b) 0 ≡ getD b (common a b) 0 → ⊥
 unfolding common

@@ -6,11 +6,11 @@ use Prim.Native.Nat.{ℕ, _+_, _-_, _≤_}
 use native.Mathlib.Omega.{arith}
 use lib.Dec.{leb}
 use borrow.Author.Tests.{leb-true}
-use Rattle.words.proofs.Choice.{decide, and-left, and-right}
+use Rattle.words.proofs.Choice.{choose, decide, and-left, and-right}
 use Rattle.records.specs.Records.{lengthOf, kindOf}
 use Rattle.records.specs.Cutting.{due, Sticky, Stops, Alike, fair}
-use Rattle.trace.specs.Trace.{goodFrame, isGood}
-use Rattle.trace.specs.Playing.{Platform, State, stopped, faulted, step, reader}
+use Rattle.trace.specs.Trace.{bodyOf, goodFrame, isGood}
+use Rattle.trace.specs.Playing.{Platform, State, stopped, faulted, played, step, reader}
 
 -- ---- lengths and kinds
 
@@ -52,3 +52,9 @@ module _ (p : Platform) where
 
   pub alike : Alike (reader p)
   alike s r q f g = decide (stopped s) (λ e. sticky s r e ∙ sym (sticky s q e)) (λ e. unfair-step s r e f ∙ sym (unfair-step s q e g))
+
+  -- the ways of a record where nothing has stopped the replay: it is a fault, or good and within the limit
+  pub ways : (s : State) (r : List ℕ) → stopped s ≡ false → (P : State → Type 0) → P (faulted s) → (s .records + 1 ≤ 4294967295 → isGood r ≡ true → P (played p s (s .waiting) (kindOf r) (bodyOf r))) → P (step p s r)
+  unfolding step
+  ways s r going P bad good =
+      rw going (choose (leb (s .records + 1) 4294967295 && isGood r) P (λ t. good (leb-true (s .records + 1) 4294967295 (and-left _ _ t)) (and-right (leb (s .records + 1) 4294967295) _ t)) (λ _. bad))

@@ -70,7 +70,7 @@ module _ (kind : ℕ) (body : List ℕ) (low : 32 ≤ kind) (high : kind ≤ 34)
 
 module _ (p : Platform) where
   -- a replay with nothing to tell, that has taken n records with c calls
-  abbrev at : ℕ → ℕ → Waiting → Machine → State
+  abbrev pub at : ℕ → ℕ → Waiting → Machine → State
   at n c w s = record { records = n; report = Agreed c; waiting = w; memory = s .memory; registration = s .registration; reading = s .reading }
 
   module _ (n c : ℕ) (w : Waiting) (s : Machine) (kind : ℕ) (body : List ℕ) (low : 32 ≤ kind) (high : kind ≤ 34) (short : length body ≤ 4100) (few : n + 1 ≤ 4294967295) where
@@ -126,11 +126,11 @@ module _ (p : Platform) where
 
   -- ---- all of them
 
-  size-kept : (s : Machine) (d : Deed) → length (after p s d .memory) ≡ length (s .memory)
+  pub size-kept : (s : Machine) (d : Deed) → length (after p s d .memory) ≡ length (s .memory)
   size-kept s (sets-memory a bs) = length-sets (s .memory) a bs
   size-kept s (makes-call args) = demand1 (found args (s .memory) (p .journal) (p .inventory) (p .edition) (s .registration) (s .reading)) .memory-length
 
-  none-left : records [] ≡ []
+  pub none-left : records [] ≡ []
   unfolding records recordsFrom
   none-left = refl
 

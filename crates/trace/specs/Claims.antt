@@ -8,7 +8,7 @@ use Rattle.records.specs.Cutting.{start, fed, fedAll, ended, joined}
 use Rattle.trace.specs.declared.report.Report.the-variants.{Agreed, Differs, Malformed}
 use Rattle.trace.specs.Trace.{isGood}
 use Rattle.trace.specs.Playing.{Platform, call, State, begin, stopped, blamed, called, compared, step, concluded, replayOf, reader}
-use Rattle.trace.specs.Recording.{OwnTraceAgrees}
+use Rattle.trace.specs.Recording.{OwnTraceAgrees, AgreedIsOurs}
 use Rattle.trace.specs.First.{FirstDifference}
 use Rattle.trace.specs.TraceReadings.{TraceReadings}
 
@@ -56,5 +56,6 @@ pub record TraceClaims : Type 0 where
   pub agreed-same : AgreedSame
   pub stops-for-good : StopsForGood
   pub own-trace-agrees : OwnTraceAgrees
+  pub agreed-is-ours : AgreedIsOurs
   pub first-difference : FirstDifference
   pub trace-readings : TraceReadings

@@ -4,6 +4,7 @@ use mathlib.Core.Path.{_≡_}
 use mathlib.Core.List.{List, [], _∷_, _++_}
 use lib.ListN.{length}
 use lib.Seq.{sets}
+use Rattle.words.specs.Numbers.{Bytes}
 use Rattle.dump.specs.declared.registration.Registration.{Registration}
 use Rattle.dump.specs.Registration.{noRegistration}
 use Rattle.calls.specs.declared.reading_record.ReadingRecord.{ReadingRecord}
@@ -84,3 +85,14 @@ pub record Replays (p : Platform) (m : List ℕ) (ds : List Deed) : Type 0 where
 
 abbrev pub OwnTraceAgrees : Type 0
 OwnTraceAgrees = (p : Platform) (m : List ℕ) (ds : List Deed) → AllFit (length m) ds → recordsIn ds ≤ 4294967295 → Replays p m ds
+
+-- The other way round: a trace of bytes that replays with all calls agreeing is one that our own calls make.
+pub record Ours (p : Platform) (m trace : List ℕ) (calls : ℕ) : Type 0 where
+  pub deeds : List Deed
+  pub fit : AllFit (length m) deeds
+  pub few : recordsIn deeds ≤ 4294967295
+  pub counted : callsIn deeds ≡ calls
+  pub made : trace ≡ traceOf p (fresh m) deeds
+
+abbrev pub AgreedIsOurs : Type 0
+AgreedIsOurs = (p : Platform) (m trace : List ℕ) (calls : ℕ) → Bytes trace → replayOf p m trace .report ≡ Agreed calls → Ours p m trace calls
