@@ -14,7 +14,8 @@ use Rattle.records.proofs.Due.{short-raw}
 use Rattle.records.proofs.Whole.{fair-ripe}
 use Rattle.trace.specs.Trace.{goodFrame}
 use Rattle.trace.specs.Playing.{Platform, Waiting, State, isOver, stopped, blamed, faulted, unanswered, concluded, step, reader}
-use Rattle.replay.specs.Feeding.{waitingOf, stateOf, at, Ready, endOf}
+use Rattle.playing.specs.Played.{waitingOf, stateOf}
+use Rattle.replay.specs.Feeding.{at, Ready, endOf}
 use Rattle.replay.specs.Ending.{EndTells, ReplayClaims}
 use Rattle.trace.proofs.Claims.{trace-claims}
 use Rattle.trace.specs.declared.report.Report.{Report}

@@ -1,5 +1,3 @@
-pub mod Parts
 pub mod Leaves
-pub mod Plays
 pub mod Standings
 pub mod Ending

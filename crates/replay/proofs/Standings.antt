@@ -17,8 +17,9 @@ use Rattle.records.proofs.Whole.{fed-first}
 use Rattle.inventory.specs.declared.edition.Edition.{Edition}
 use Rattle.trace.specs.Trace.{goodFrame}
 use Rattle.trace.specs.Playing.{Platform, State, begin, isOver, stopped, step, reader}
-use Rattle.replay.specs.Feeding.{platformOf, stateOf, Steady, Plays, Playable, at, standingOf, Ready, Filled, Finishes, Passes, Feeds, startOf}
-use Rattle.replay.specs.declared.playing.Playing.{Playing}
+use Rattle.playing.specs.Played.{platformOf, stateOf, Steady, Plays, Playable}
+use Rattle.replay.specs.Feeding.{at, standingOf, Ready, Filled, Finishes, Passes, Feeds, startOf}
+use Rattle.playing.specs.declared.playing.Playing.{Playing}
 use Rattle.replay.specs.declared.feeding.Replay.{Replay}
 use Rattle.replay.specs.declared.feeding.Finished.{Finished}
 use Rattle.replay.specs.declared.feeding.Passed.{Passed}

@@ -3,14 +3,15 @@ ghost use mathlib.Core.Path.{_≡_};
 ghost use Prim.Native.Nat.{_≤_};
 ghost use lib.ListN.{length};
 ghost use Rattle.replay.specs.Ending.{ReplayClaims};
-ghost use Rattle.replay.specs.Feeding.{platformOf, Steady, Ready, Finishes, Passes, Feeds, startOf, endOf};
+ghost use Rattle.playing.specs.Played.{platformOf, Steady};
+ghost use Rattle.replay.specs.Feeding.{Ready, Finishes, Passes, Feeds, startOf, endOf};
 use crate::filling::due_at;
 use crate::filling::fill;
 use crate::filling::ripe_at;
-use crate::playing::Playing;
-use crate::playing::is_going;
-use crate::playing::play;
 use inventory::Edition;
+use playing::Playing;
+use playing::is_going;
+use playing::play;
 use trace::Report;
 
 // Where a replay stands, and how many bytes of an unfinished record are held.

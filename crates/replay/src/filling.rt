@@ -6,7 +6,7 @@ ghost use lib.ListN.{length, drop};
 ghost use Rattle.records.specs.Cutting.{due, ripe};
 ghost use Rattle.trace.specs.Trace.{goodFrame};
 ghost use Rattle.replay.specs.Feeding.{Filled};
-use crate::playing::due_by;
+use playing::due_by;
 
 pub fn due_at(bytes: &[u8], at: usize) -> usize
     requires { ⌜ at + 4 ≤ length (now bytes) ⌝ }

@@ -8,7 +8,7 @@ use denote.Ref.{now}
 use lib.ListN.{length}
 use native.Mathlib.Omega.{arith}
 use Rattle.trace.specs.Playing.{isOver}
-use Rattle.replay.specs.Feeding.{platformOf}
+use Rattle.playing.specs.Played.{platformOf}
 use Rattle.replay.proofs.Standings.{Ripe, ripe-is, part-playable, Passing, pass-starts, pass-over, pass-held, pass-on}
 use Rattle.replay.proofs.feeding.pass.Statement.{statement}
 use Rattle.replay.proofs.feeding.pass.Tie as tie

@@ -2,8 +2,8 @@
 use mathlib.Core.Path.{_∙_, ap}
 use borrow.Author.Needs.{needs}
 use Rattle.records.specs.declared.framing.Frame.{Frame}
-use Rattle.replay.specs.Feeding.{dueBy}
-use Rattle.replay.proofs.Leaves.{due-frame}
+use Rattle.playing.specs.Played.{dueBy}
+use Rattle.playing.proofs.Leaves.{due-frame}
 use Rattle.replay.proofs.filling.due_at.Statement.{statement}
 use Rattle.replay.proofs.filling.due_at.Tie as tie
 

@@ -15,10 +15,10 @@ use Rattle.calls.specs.Buffer.{Left}
 use Rattle.trace.specs.declared.report.Report.{Report}
 use Rattle.trace.specs.declared.report.Report.the-variants.{Agreed, Differs}
 use Rattle.trace.proofs.Reader.{frame-bounds}
-use Rattle.replay.specs.declared.playing.Playing.{Playing}
+use Rattle.playing.specs.declared.playing.Playing.{Playing}
 use Rattle.trace.specs.Trace.{bodyOf, goodFrame, isGood, isSettable}
 use Rattle.trace.specs.Playing.{Platform, call, State, isOver, agreed, stopped, faulted, kept, setting, common, compared, calling, played, step}
-use Rattle.replay.specs.Feeding.{waitingOf, stateOf, Steady, playedOn, keptBy, faultedBy, setBy, memorySet, leftBy, calledBy, Plays, Playable}
+use Rattle.playing.specs.Played.{waitingOf, stateOf, Steady, playedOn, keptBy, faultedBy, setBy, memorySet, leftBy, calledBy, Plays, Playable}
 
 -- ---- a record that is cut out
 

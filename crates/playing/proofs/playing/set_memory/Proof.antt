@@ -2,9 +2,9 @@
 use borrow.Author.Needs.{needs}
 use denote.Ref.{now}
 use native.Mathlib.Omega.{arith}
-use Rattle.replay.proofs.Leaves.{set-short, set-past, set-not, set-done}
-use Rattle.replay.proofs.playing.set_memory.Statement.{statement}
-use Rattle.replay.proofs.playing.set_memory.Tie as tie
+use Rattle.playing.proofs.Leaves.{set-short, set-past, set-not, set-done}
+use Rattle.playing.proofs.playing.set_memory.Statement.{statement}
+use Rattle.playing.proofs.playing.set_memory.Tie as tie
 
 fault-requires : tie.Need-fault-requires
 fault-requires c κs = search needs

@@ -10,10 +10,10 @@ use denote.Ref.{now}
 use Rattle.records.specs.declared.framing.Frame.{Frame}
 use Rattle.records.specs.Records.{lengthOf, kindOf}
 use Rattle.trace.specs.Trace.{goodFrame}
-use Rattle.replay.specs.Feeding.{platformOf}
-use Rattle.replay.proofs.Plays.{plays-last, plays-bad, plays-call, plays-unanswered, plays-keep, plays-set, plays-other, item-size}
-use Rattle.replay.proofs.playing.play.Statement.{statement}
-use Rattle.replay.proofs.playing.play.Tie as tie
+use Rattle.playing.specs.Played.{platformOf}
+use Rattle.playing.proofs.Plays.{plays-last, plays-bad, plays-call, plays-unanswered, plays-keep, plays-set, plays-other, item-size}
+use Rattle.playing.proofs.playing.play.Statement.{statement}
+use Rattle.playing.proofs.playing.play.Tie as tie
 
 -- the tests of number and frame are those of the definition
 few : (c : tie.Else2) → c .before .before .before .before .before .before .before .before .before .before .args .from .records ≤ 4294967294

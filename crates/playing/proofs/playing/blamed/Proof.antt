@@ -1,7 +1,7 @@
 -- `playing::blamed` meets its contract.
 use borrow.Author.Needs.{needs}
-use Rattle.replay.proofs.playing.blamed.Statement.{statement}
-use Rattle.replay.proofs.playing.blamed.Tie as tie
+use Rattle.playing.proofs.playing.blamed.Statement.{statement}
+use Rattle.playing.proofs.playing.blamed.Tie as tie
 
 returns : tie.Need-returns
 returns c = search needs

@@ -1,9 +1,9 @@
 -- `playing::due_by` meets its contract.
 use mathlib.Core.Path.{sym, _∙_}
 use borrow.Author.Needs.{needs}
-use Rattle.replay.proofs.Leaves.{due-good-frame, due-bad-frame}
-use Rattle.replay.proofs.playing.due_by.Statement.{statement}
-use Rattle.replay.proofs.playing.due_by.Tie as tie
+use Rattle.playing.proofs.Leaves.{due-good-frame, due-bad-frame}
+use Rattle.playing.proofs.playing.due_by.Statement.{statement}
+use Rattle.playing.proofs.playing.due_by.Tie as tie
 
 is-good-frame-requires : tie.Need-is-good-frame-requires
 is-good-frame-requires c κs = search needs

@@ -3,9 +3,9 @@ use Prim.Native.Nat.{_-_}
 use borrow.Author.Needs.{needs}
 use denote.Ref.{now}
 use lib.ListN.{length}
-use Rattle.replay.proofs.Leaves.{Alike, common-start, common-later, common-first, common-second, common-here}
-use Rattle.replay.proofs.comparing.common_length.Statement.{statement}
-use Rattle.replay.proofs.comparing.common_length.Tie as tie
+use Rattle.playing.proofs.Leaves.{Alike, common-start, common-later, common-first, common-second, common-here}
+use Rattle.playing.proofs.comparing.common_length.Statement.{statement}
+use Rattle.playing.proofs.comparing.common_length.Tie as tie
 
 abbrev Inv-loop : tie.InvT-loop
 Inv-loop a b i₀ i = Alike a b i

@@ -2,9 +2,9 @@
 use borrow.Author.Needs.{needs}
 use denote.Ref.{now}
 use native.Mathlib.Omega.{arith}
-use Rattle.replay.proofs.Leaves.{common-most, compared-other, compared-longer, compared-same}
-use Rattle.replay.proofs.comparing.compare.Statement.{statement}
-use Rattle.replay.proofs.comparing.compare.Tie as tie
+use Rattle.playing.proofs.Leaves.{common-most, compared-other, compared-longer, compared-same}
+use Rattle.playing.proofs.comparing.compare.Statement.{statement}
+use Rattle.playing.proofs.comparing.compare.Tie as tie
 
 common-length-requires : tie.Need-common-length-requires
 common-length-requires c κs = search needs

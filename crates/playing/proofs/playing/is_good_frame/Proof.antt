@@ -1,7 +1,7 @@
 -- `playing::is_good_frame` meets its contract.
-use Rattle.replay.proofs.Leaves.{frame-low, frame-high, frame-kind-low, frame-kind}
-use Rattle.replay.proofs.playing.is_good_frame.Statement.{statement}
-use Rattle.replay.proofs.playing.is_good_frame.Tie as tie
+use Rattle.playing.proofs.Leaves.{frame-low, frame-high, frame-kind-low, frame-kind}
+use Rattle.playing.proofs.playing.is_good_frame.Statement.{statement}
+use Rattle.playing.proofs.playing.is_good_frame.Tie as tie
 
 returns : tie.Need-returns
 returns c = frame-low _ _ (c .if1 .taken)

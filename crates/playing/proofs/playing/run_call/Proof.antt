@@ -6,9 +6,9 @@ use lib.ListN.{length, length-drop}
 use lib.Seq.{length-take-le}
 use borrow.Author.Needs.{needs}
 use denote.Ref.{now}
-use Rattle.replay.proofs.Parts.{back-inside, back-front, behind}
-use Rattle.replay.proofs.playing.run_call.Statement.{statement}
-use Rattle.replay.proofs.playing.run_call.Tie as tie
+use Rattle.playing.proofs.Parts.{back-inside, back-front, behind}
+use Rattle.playing.proofs.playing.run_call.Statement.{statement}
+use Rattle.playing.proofs.playing.run_call.Tie as tie
 
 -- the body that waits is inside its buffer
 inside : (c : tie.Start) → c .args .from .size ≤ length (now (c .args .args))

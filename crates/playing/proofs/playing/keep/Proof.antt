@@ -2,9 +2,9 @@
 use mathlib.Core.Path.{refl}
 use borrow.Author.Needs.{needs}
 use denote.Ref.{now}
-use Rattle.replay.proofs.Leaves.{kept-body}
-use Rattle.replay.proofs.playing.keep.Statement.{statement}
-use Rattle.replay.proofs.playing.keep.Tie as tie
+use Rattle.playing.proofs.Leaves.{kept-body}
+use Rattle.playing.proofs.playing.keep.Statement.{statement}
+use Rattle.playing.proofs.playing.keep.Tie as tie
 
 sub-size : tie.Need-sub-size
 sub-size c = search needs

@@ -1,7 +1,7 @@
 -- `playing::fault` meets its contract.
 use borrow.Author.Needs.{needs}
-use Rattle.replay.proofs.playing.fault.Statement.{statement}
-use Rattle.replay.proofs.playing.fault.Tie as tie
+use Rattle.playing.proofs.playing.fault.Statement.{statement}
+use Rattle.playing.proofs.playing.fault.Tie as tie
 
 blamed-requires : tie.Need-blamed-requires
 blamed-requires c κs = search needs

@@ -6,7 +6,7 @@ ghost use lib.ListN.{length};
 ghost use lib.Seq.{sets};
 ghost use Rattle.trace.specs.Trace.{bodyOf, goodFrame};
 ghost use Rattle.trace.specs.Playing.{isOver, agreed};
-ghost use Rattle.replay.specs.Feeding.{platformOf, Steady, playedOn, keptBy, faultedBy, setBy, memorySet, leftBy, calledBy, dueBy, Playable, Plays};
+ghost use Rattle.playing.specs.Played.{platformOf, Steady, playedOn, keptBy, faultedBy, setBy, memorySet, leftBy, calledBy, dueBy, Playable, Plays};
 use crate::comparing::compare;
 use calls::ReadingRecord;
 use dump::Registration;
