@@ -1,24 +1,23 @@
 -- What a record does, way by way through the code.
 use mathlib.Core.Path.{_≡_, refl, sym, ap, _∙_}
-use mathlib.Core.Bool.{Bool, true, false, cond, _&&_, and-false}
-use mathlib.Core.List.{List, [], _∷_, _++_}
+use mathlib.Core.Bool.{Bool, true, false, and-false}
+use mathlib.Core.List.{List}
 use Prim.Native.Nat.{ℕ, _+_, _-_, _≤_, _<_}
 use native.Mathlib.Omega.{arith}
-use lib.Dec.{leb, eqb}
+use lib.Dec.{leb}
 use lib.ListN.{length, take, drop, length-drop}
 use lib.Seq.{sets, length-sets, sets-eq, take-append-seam}
 use borrow.Author.Tests.{le-leb, lt-leb, eq-eqb, ne-eqb}
-use Rattle.words.proofs.Choice.{choose, decide, and-left, and-right}
+use Rattle.words.proofs.Choice.{decide}
 use Rattle.records.specs.Records.{lengthOf, kindOf, whole}
 use Rattle.records.specs.Cutting.{due}
-use Rattle.calls.specs.Buffer.{Left}
 use Rattle.trace.specs.declared.report.Report.{Report}
-use Rattle.trace.specs.declared.report.Report.the-variants.{Agreed, Differs}
 use Rattle.trace.proofs.Reader.{frame-bounds}
+use Rattle.trace.proofs.First.{compared-ways}
 use Rattle.playing.specs.declared.playing.Playing.{Playing}
 use Rattle.trace.specs.Trace.{bodyOf, goodFrame, isGood, isSettable}
-use Rattle.trace.specs.Playing.{Platform, call, State, isOver, agreed, stopped, faulted, kept, setting, common, compared, calling, played, step}
-use Rattle.playing.specs.Played.{waitingOf, stateOf, Steady, playedOn, keptBy, faultedBy, setBy, memorySet, leftBy, calledBy, Plays, Playable}
+use Rattle.trace.specs.Playing.{Platform, call, State, agreed, stopped, faulted, kept, setting, compared, calling, played, step}
+use Rattle.playing.specs.Played.{waitingOf, stateOf, Steady, keptBy, faultedBy, setBy, memorySet, leftBy, calledBy, Plays, Playable}
 
 -- ---- a record that is cut out
 
@@ -40,10 +39,7 @@ stored-front body args h = ap (take (length body)) (sets-eq body args 0 (omega a
 
 -- a report has no more calls than one more
 compared-few : (calls : ℕ) (recorded ours : List ℕ) → agreed (compared calls recorded ours) ≤ calls + 1
-unfolding compared
-compared-few calls recorded ours =
-    let n = common recorded ours in
-    choose (eqb n (length recorded) && eqb n (length ours)) (λ (x : Report). agreed x ≤ calls + 1) {x = Agreed (calls + 1)} {y = Differs (calls + 1) n} (λ _. omega arith) (λ _. omega arith)
+compared-few calls recorded ours = compared-ways calls recorded ours (λ (x : Report). agreed x ≤ calls + 1) (λ _. omega arith) (λ _. omega arith)
 
 module _ (p : Platform) (args memory : List ℕ) (t : Playing) (item : List ℕ) (ready : Playable args t item) where
   abbrev s : State

@@ -6,7 +6,7 @@ use mathlib.Core.Bool.{Bool, true, false, cond}
 use mathlib.Core.List.{List}
 use lib.ListN.{length, take}
 use lib.Seq.{sets}
-use Rattle.records.specs.Cutting.{due, start}
+use Rattle.records.specs.Cutting.{due}
 use Rattle.dump.specs.declared.registration.Registration.{Registration}
 use Rattle.calls.specs.declared.reading_record.ReadingRecord.{ReadingRecord}
 use Rattle.calls.specs.Buffer.{found, Left, callOf}

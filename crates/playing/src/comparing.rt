@@ -2,8 +2,6 @@
 ghost use mathlib.Core.Path.{_≡_};
 ghost use Rattle.trace.specs.Playing.{common, compared};
 ghost use lib.ListN.{length};
-ghost use mathlib.Core.Bool.{cond, _&&_};
-ghost use lib.Dec.{eqb};
 ghost use Prim.Native.Nat.{_+_, _<_};
 use trace::Report;
 

@@ -1,13 +1,13 @@
 -- What an end tells.
 use mathlib.Core.Path.{_≡_, refl, ap, _∙_}
-use mathlib.Core.Bool.{Bool, true, false, false≢true, true≢false}
+use mathlib.Core.Bool.{Bool, true, false}
 use mathlib.Core.List.{List, [], _∷_}
 use Prim.Native.Nat.{ℕ, _<_}
 use native.Mathlib.Omega.{arith}
 use lib.Dec.{eqb}
 use lib.ListN.{length, take}
 use lib.Seq.{length-take-le}
-use borrow.Author.Tests.{ne-eqb, eqb-true, eqb-false}
+use borrow.Author.Tests.{eqb-true, eqb-false}
 use Rattle.words.proofs.Choice.{decide}
 use Rattle.records.specs.Cutting.{ripe, run, start, ended, fair}
 use Rattle.records.proofs.Due.{short-raw}
@@ -19,7 +19,7 @@ use Rattle.replay.specs.Feeding.{at, Ready, endOf}
 use Rattle.replay.specs.Ending.{EndTells, ReplayClaims}
 use Rattle.trace.proofs.Claims.{trace-claims}
 use Rattle.trace.specs.declared.report.Report.{Report}
-use Rattle.trace.specs.declared.report.Report.the-variants.{Agreed, Differs, Malformed}
+use Rattle.trace.specs.declared.report.Report.the-variants.{Malformed}
 use Rattle.replay.specs.declared.feeding.Replay.{Replay}
 use Rattle.trace.proofs.Reader.{faulted-stopped, unfair-step}
 use Rattle.replay.proofs.Leaves.{end-over, end-waits, end-held, end-clean}

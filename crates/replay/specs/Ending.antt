@@ -1,4 +1,4 @@
--- What is claimed of a replay in code, cited by the contracts of `feed` and `end` (document 02, M-110).
+-- What is claimed of a replay in code, cited by the contracts of `start`, `feed` and `end` (document 02, M-110).
 use mathlib.Core.Path.{_≡_}
 use mathlib.Core.List.{List}
 use Prim.Native.Nat.{ℕ, _≤_}

@@ -1,2 +1,3 @@
 pub mod Feeding
+pub mod Terms
 pub mod Ending

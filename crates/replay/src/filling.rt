@@ -5,7 +5,7 @@ ghost use Prim.Native.Nat.{_+_, _-_, _≤_, min};
 ghost use lib.ListN.{length, drop};
 ghost use Rattle.records.specs.Cutting.{due, ripe};
 ghost use Rattle.trace.specs.Trace.{goodFrame};
-ghost use Rattle.replay.specs.Feeding.{Filled};
+ghost use Rattle.replay.specs.Terms.{Filled};
 use playing::due_by;
 
 pub fn due_at(bytes: &[u8], at: usize) -> usize

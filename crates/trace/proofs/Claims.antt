@@ -1,24 +1,22 @@
 -- The claims of a trace hold.
 use mathlib.Core.Path.{_≡_, refl, sym, ap, _∙_}
-use mathlib.Core.Bool.{Bool, true, false, _&&_, and-false, true≢false}
+use mathlib.Core.Bool.{Bool, true, false, and-false, true≢false}
 use mathlib.Core.List.{List, []}
 use Prim.Native.Nat.{ℕ, _+_}
-use lib.Dec.{leb, eqb}
-use lib.ListN.{length}
-use borrow.Author.Tests.{eqb-true}
-use Rattle.words.proofs.Choice.{choose, and-left, and-right}
+use lib.Dec.{leb}
+use Rattle.words.proofs.Choice.{choose}
 use Rattle.records.specs.Records.{kindOf}
-use Rattle.records.specs.Cutting.{start, fed}
+use Rattle.records.specs.Cutting.{start}
 use Rattle.records.proofs.Feeding.{any-cutting, standing-start, fed-stopped}
 use Rattle.records.proofs.Whole.{any-cutting-over}
-use Rattle.trace.specs.Playing.{Platform, Waiting, none, call, State, isOver, agreed, stopped, blamed, faulted, kept, setting, common, compared, called, calling, played, concluded, step, reader, begin, replayOf}
+use Rattle.trace.specs.Playing.{Platform, Waiting, none, call, State, isOver, agreed, stopped, blamed, faulted, kept, setting, compared, called, calling, played, concluded, step, reader, begin, replayOf}
 use Rattle.trace.specs.declared.report.Report.{Report}
 use Rattle.trace.specs.declared.report.Report.the-variants.{Agreed, Differs, Malformed}
 use Rattle.trace.specs.Trace.{isBefore, isAfter, isSetting, bodyOf, isGood, isSettable}
-use Rattle.trace.specs.Claims.{AnyCutting, OverRecords, FaultTouchesReport, BadFaults, DifferenceKeeps, AgreedSame, StopsForGood, TraceClaims}
+use Rattle.trace.specs.Claims.{AnyCutting, OverRecords, AgreedSame, StopsForGood, TraceClaims}
 use Rattle.trace.proofs.Reader.{sticky, stops, alike, ways}
 use Rattle.trace.proofs.Recording.{own-trace-agrees}
-use Rattle.trace.proofs.First.{all-common, first-difference}
+use Rattle.trace.proofs.First.{isDiffers, compared-ways, first-difference}
 use Rattle.trace.proofs.Converse.{agreed-is-ours}
 use Rattle.trace.proofs.TraceReadings.{trace-readings}
 
@@ -44,16 +42,6 @@ number-of : Report → ℕ
 number-of (Agreed c) = 0
 number-of (Differs n k) = 0
 number-of (Malformed n) = n
-
-differs : Report → Bool
-differs (Agreed c) = false
-differs (Differs n k) = true
-differs (Malformed n) = false
-
-calls-in : Report → ℕ
-calls-in (Agreed c) = c
-calls-in (Differs n k) = 0
-calls-in (Malformed n) = 0
 
 isCall : Waiting → Bool
 isCall none = false
@@ -96,10 +84,8 @@ module _ (p : Platform) (s : State) (r : List ℕ) (going : stopped s ≡ false)
   by-setting = choose (isSettable (s .memory) (bodyOf r)) Faults {y = faulted s} (λ _. not-malformed _ on-going) (λ _. by-fault)
 
   compared-not : (calls : ℕ) (recorded ours : List ℕ) → isMalformed (compared calls recorded ours) ≡ false
-  unfolding compared isMalformed
-  compared-not calls recorded ours =
-      let n = common recorded ours in
-      choose (eqb n (length recorded) && eqb n (length ours)) (λ (x : Report). isMalformed x ≡ false) {x = Agreed (calls + 1)} {y = Differs (calls + 1) n} (λ _. refl) (λ _. refl)
+  unfolding isMalformed
+  compared-not calls recorded ours = compared-ways calls recorded ours (λ (x : Report). isMalformed x ≡ false) (λ _. refl) (λ _. refl)
 
   by-call : (args : List ℕ) → Faults (calling p s args (bodyOf r))
   unfolding calling
@@ -141,12 +127,8 @@ module _ (p : Platform) (s : State) (r : List ℕ) (going : stopped s ≡ false)
 -- ---- buffers that agree
 
 agreed-same : AgreedSame
-unfolding compared differs calls-in
 agreed-same calls number recorded ours =
-    let n = common recorded ours in
-    choose (eqb n (length recorded) && eqb n (length ours)) (λ (x : Report). x ≡ Agreed number → (recorded ≡ ours) × (number ≡ calls + 1)) {x = Agreed (calls + 1)} {y = Differs (calls + 1) n}
-    (λ t e. (all-common recorded ours (eqb-true n (length recorded) (and-left _ _ t)) (eqb-true n (length ours) (and-right (eqb n (length recorded)) _ t)), sym (ap calls-in e)))
-    (λ _ e. absurd (true≢false (ap differs e)))
+    compared-ways calls recorded ours (λ (x : Report). x ≡ Agreed number → (recorded ≡ ours) × (number ≡ calls + 1)) (λ same e. (same, sym (ap agreed e))) (λ _ e. absurd (true≢false (ap isDiffers e)))
 
 stops-for-good : StopsForGood
 stops-for-good p s b e = fed-stopped (reader p) (sticky p) (start s) b e

@@ -1,30 +1,30 @@
 -- A trace that replays with all calls agreeing is one that our own calls make.
 use mathlib.Core.Path.{_≡_, refl, sym, ap, ap₂, _∙_}
-use mathlib.Core.Bool.{Bool, true, false, _&&_, true≢false}
+use mathlib.Core.Bool.{true, false, true≢false}
 use mathlib.Core.List.{List, [], _∷_, _++_, append-assoc}
 use mathlib.Core.Logic.{_⊎_, inl, inr, ⊎-elim}
 use Prim.Native.Nat.{ℕ, zero, suc, _+_, _-_, _*_, _/_, _%_, _≤_, _<_}
 use native.Mathlib.Omega.{arith}
 use native.Mathlib.Nat.{zero-add}
-use lib.Dec.{leb, eqb}
-use lib.ListN.{length, take, drop, getD, length-drop, take-append-drop}
+use lib.Dec.{leb}
+use lib.ListN.{length, take, drop, length-drop, take-append-drop}
 use lib.Seq.{drop-drop, getD-drop}
 use borrow.Author.Tests.{leb-true, eqb-true}
 use Rattle.words.specs.Numbers.{Bytes, le}
 use Rattle.words.proofs.Numbers.{le-drop, le-below}
-use Rattle.words.proofs.Choice.{choose, decide, and-left, and-right}
-use Rattle.records.specs.Records.{lengthOf, kindOf, sizeOf, firstRecord, recordsFrom, records, whole}
+use Rattle.words.proofs.Choice.{choose, and-left, and-right}
+use Rattle.records.specs.Records.{lengthOf, kindOf, sizeOf, firstRecord, records, whole}
 use Rattle.records.specs.Cutting.{run}
 use Rattle.records.proofs.Steps.{records-step, bytes-take}
 use Rattle.records.proofs.Feeding.{run-stopped}
 use Rattle.trace.specs.declared.report.Report.{Report}
-use Rattle.trace.specs.declared.report.Report.the-variants.{Agreed, Differs, Malformed}
+use Rattle.trace.specs.declared.report.Report.the-variants.{Agreed, Differs}
 use Rattle.trace.specs.Trace.{isBefore, isAfter, isSetting, bodyOf, goodFrame, isGood, isSettable, addressIn, bytesIn}
-use Rattle.trace.specs.Playing.{Platform, Waiting, none, call, State, isOver, agreed, stopped, faulted, kept, setting, common, compared, called, calling, played, step, concluded, reader, replayOf}
+use Rattle.trace.specs.Playing.{Platform, none, call, State, isOver, agreed, stopped, faulted, kept, setting, calling, step, concluded, reader, replayOf}
 use Rattle.trace.proofs.Reader.{frame-bounds, sticky, faulted-stopped, ways}
-use Rattle.trace.specs.Recording.{leBytes, recordOf, Deed, sets-memory, makes-call, Machine, fresh, leftBy, after, traceOf, recordsIn, callsIn, Fits, AllFit, Ours, AgreedIsOurs}
+use Rattle.trace.specs.Recording.{leBytes, recordOf, Deed, sets-memory, makes-call, Machine, fresh, leftBy, after, traceOf, recordsIn, callsIn, Fits, AllFit, AgreedIsOurs}
 use Rattle.trace.proofs.Recording.{at, size-kept, none-left}
-use Rattle.trace.proofs.First.{all-common}
+use Rattle.trace.proofs.First.{compared-ways}
 
 -- ---- numbers back to bytes
 
@@ -142,15 +142,6 @@ module _ (p : Platform) (calls : ℕ) where
 
     shorter : (k : ℕ) → length b ≤ suc k → length rest ≤ k
     shorter k h = omega (arith, length-drop (sizeOf b) b)
-
--- the ways of a comparison
-compared-ways : (c : ℕ) (recorded ours : List ℕ) (P : Report → Type 0) → (recorded ≡ ours → P (Agreed (c + 1))) → ((k : ℕ) → P (Differs (c + 1) k)) → P (compared c recorded ours)
-unfolding compared
-compared-ways c recorded ours P same other =
-    let n = common recorded ours in
-    choose (eqb n (length recorded) && eqb n (length ours)) P
-    (λ t. same (all-common recorded ours (eqb-true n (length recorded) (and-left _ _ t)) (eqb-true n (length ours) (and-right (eqb n (length recorded)) _ t))))
-    (λ _. other n)
 
 module _ (p : Platform) (calls : ℕ) where
   -- what is known of all shorter traces

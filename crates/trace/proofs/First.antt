@@ -1,20 +1,22 @@
 -- A report of a difference names the first.
 use mathlib.Core.Path.{_≡_, refl, sym, ap, _∙_}
-use mathlib.Core.Bool.{Bool, true, false, cond, _&&_, true≢false}
-use mathlib.Core.List.{List, [], _∷_, _++_}
-use Prim.Native.Nat.{ℕ, zero, suc, _+_, _≤_, _<_}
+use mathlib.Core.Bool.{Bool, true, false, _&&_, true≢false}
+use mathlib.Core.List.{List, [], _∷_}
+use Prim.Native.Nat.{ℕ, suc, _+_, _≤_, _<_}
 use native.Mathlib.Omega.{arith}
-use lib.Dec.{leb, eqb}
+use lib.Dec.{eqb}
 use lib.ListN.{length, take, getD}
 use lib.Seq.{take-length}
 use borrow.Author.Tests.{eqb-true, eqb-false, eq-eqb}
-use Rattle.words.proofs.Choice.{choose, decide, and-left, and-right}
+use Rattle.words.proofs.Choice.{choose, and-left, and-right}
 use Rattle.records.specs.Records.{kindOf, records}
 use Rattle.records.specs.Cutting.{run}
 use Rattle.trace.specs.declared.report.Report.{Report}
 use Rattle.trace.specs.declared.report.Report.the-variants.{Agreed, Differs, Malformed}
 use Rattle.trace.specs.Trace.{isBefore, isAfter, isSetting, bodyOf, isGood, isSettable}
-use Rattle.trace.specs.Playing.{Platform, Waiting, none, call, State, begin, isOver, agreed, stopped, faulted, kept, setting, common, compared, called, calling, played, step, unanswered, concluded, replayOf}
+use Rattle.trace.specs.Playing.{Platform, Waiting, none, call, State, begin, isOver, agreed, stopped, faulted, kept, setting, common, compared, called, calling, played, step, unanswered, concluded, reader, replayOf}
+use Rattle.records.proofs.Feeding.{run-stopped}
+use Rattle.trace.proofs.Reader.{sticky, ways}
 use Rattle.trace.specs.First.{DifferAt, Place, FirstDifference}
 
 -- ---- two buffers
@@ -34,7 +36,7 @@ common-same (x ∷ xs) (y ∷ ys) = choose (eqb x y) (λ (n : ℕ). take n (x �
     (λ e. rw (eqb-true x y e, common-same xs ys)) (λ _. refl)
 
 -- buffers of which all is common are the same
-pub all-common : (a b : List ℕ) → common a b ≡ length a → common a b ≡ length b → a ≡ b
+all-common : (a b : List ℕ) → common a b ≡ length a → common a b ≡ length b → a ≡ b
 all-common a b e f =
     sym (take-length a) ∙ ap (λ (n : ℕ). take n a) (sym e) ∙ common-same a b ∙ ap (λ (n : ℕ). take n b) f ∙ take-length b
 
@@ -55,9 +57,18 @@ differ-at recorded ours e = record {
   not-all = λ f g. true≢false (sym (rw (eq-eqb _ _ f, eq-eqb _ _ g)) ∙ e);
 }
 
+-- the ways of a comparison
+pub compared-ways : (c : ℕ) (recorded ours : List ℕ) (P : Report → Type 0) → (recorded ≡ ours → P (Agreed (c + 1))) → ((k : ℕ) → P (Differs (c + 1) k)) → P (compared c recorded ours)
+unfolding compared
+compared-ways c recorded ours P same other =
+    let n = common recorded ours in
+    choose (eqb n (length recorded) && eqb n (length ours)) P
+    (λ t. same (all-common recorded ours (eqb-true n (length recorded) (and-left _ _ t)) (eqb-true n (length ours) (and-right (eqb n (length recorded)) _ t))))
+    (λ _. other n)
+
 -- ---- one record
 
-abbrev isDiffers : Report → Bool
+abbrev pub isDiffers : Report → Bool
 isDiffers (Agreed c) = false
 isDiffers (Differs n k) = true
 isDiffers (Malformed n) = false
@@ -128,19 +139,10 @@ module _ (p : Platform) (n k : ℕ) where
     by-played g (call args) w = choose (isAfter (kindOf r)) Gone (λ a. by-call args w g (eqb-true (kindOf r) 33 a)) (λ _. by-fault)
 
     astray : Gone (step p s r)
-    unfolding step
-    astray = choose (stopped s) Gone (λ _ e. absurd (agrees-not (s .report) refl e))
-        (λ _. choose (leb (s .records + 1) 4294967295 && isGood r) Gone (λ t. by-played (and-right (leb (s .records + 1) 4294967295) _ t) (s .waiting) refl) (λ _. by-fault))
+    unfolding stopped
+    astray = ways p s r (ap isOver going) Gone by-fault (λ _ g. by-played g (s .waiting) refl)
 
   -- ---- all records
-
-  still : (s : State) (rs : List (List ℕ)) → stopped s ≡ true → run (step p) s rs ≡ s
-  unfolding run step
-  still s [] e = refl
-  still s (r ∷ rs) e = ap (λ (x : State). run (step p) x rs) stays ∙ still s rs e
-    where
-      stays : step p s r ≡ s
-      stays = rw e
 
   over-by : (s : State) (x : Report) → s .report ≡ x → stopped s ≡ isOver x
   unfolding stopped
@@ -182,7 +184,7 @@ module _ (p : Platform) (n k : ℕ) where
 
       -- a replay that has stopped stands as it did
       as-it-was : stopped (step p s r) ≡ true → step p s r .report ≡ Differs n k
-      as-it-was t = ap (λ (x : State). x .report) (sym (still (step p s r) rs t)) ∙ e
+      as-it-was t = ap (λ (x : State). x .report) (sym (run-stopped (reader p) (sticky p) (step p s r) rs t)) ∙ e
 
       by : ((d : ℕ) → step p s r .report ≡ Agreed d → Found (step p s r) rs) → (x : Report) → step p s r .report ≡ x → Found s (r ∷ rs)
       by more (Agreed d) f = later (more d f)

@@ -1,25 +1,23 @@
 -- The trace that our own calls make replays with all calls agreeing.
-use mathlib.Core.Path.{_≡_, refl, sym, ap, _∙_}
-use mathlib.Core.Bool.{Bool, true, false, cond, _&&_}
+use mathlib.Core.Path.{_≡_, refl, ap, _∙_}
+use mathlib.Core.Bool.{true}
 use mathlib.Core.List.{List, [], _∷_, _++_, append-assoc}
-use Prim.Native.Nat.{ℕ, suc, _+_, _-_, _*_, _/_, _%_, _≤_, _<_}
+use Prim.Native.Nat.{ℕ, _+_, _-_, _≤_, _<_}
 use native.Mathlib.Omega.{arith}
 use native.Mathlib.Nat.{zero-add}
-use lib.Dec.{leb, eqb}
-use lib.ListN.{length, take, drop, getD, length-append}
-use lib.Seq.{sets, length-sets, take-append-seam, drop-append-seam}
+use lib.ListN.{length, take, drop, length-append}
+use lib.Seq.{length-sets, take-append-seam, drop-append-seam}
 use borrow.Author.Tests.{le-leb, eq-eqb}
 use Rattle.words.specs.Numbers.{le}
-use Rattle.records.specs.Records.{lengthOf, kindOf, sizeOf, firstRecord, recordsFrom, records, whole}
+use Rattle.records.specs.Records.{lengthOf, kindOf, sizeOf, firstRecord, records, whole}
 use Rattle.records.specs.Cutting.{run}
 use Rattle.records.proofs.Steps.{records-step, records-end}
-use Rattle.calls.specs.Buffer.{found, Left}
+use Rattle.calls.specs.Buffer.{found}
 use Rattle.calls.proofs.Confined.{demand1}
-use Rattle.trace.specs.declared.report.Report.{Report}
 use Rattle.trace.specs.declared.report.Report.the-variants.{Agreed}
-use Rattle.trace.specs.Trace.{bodyOf, goodFrame, isGood, isSettable, addressIn}
-use Rattle.trace.specs.Playing.{Platform, Waiting, none, call, State, stopped, kept, setting, common, compared, calling, played, step, unanswered, concluded, replayOf}
-use Rattle.trace.specs.Recording.{leBytes, recordOf, Deed, sets-memory, makes-call, Machine, fresh, leftBy, after, afterAll, recorded, traceOf, recordsIn, callsIn, Fits, AllFit, Replays, OwnTraceAgrees}
+use Rattle.trace.specs.Trace.{bodyOf, goodFrame, isGood, isSettable}
+use Rattle.trace.specs.Playing.{Platform, Waiting, none, call, State, stopped, kept, setting, common, compared, calling, played, step, concluded, replayOf}
+use Rattle.trace.specs.Recording.{leBytes, recordOf, Deed, sets-memory, makes-call, Machine, fresh, leftBy, after, afterAll, traceOf, recordsIn, callsIn, Fits, AllFit, OwnTraceAgrees}
 
 -- ---- a record
 
@@ -131,8 +129,7 @@ module _ (p : Platform) where
   size-kept s (makes-call args) = demand1 (found args (s .memory) (p .journal) (p .inventory) (p .edition) (s .registration) (s .reading)) .memory-length
 
   pub none-left : records [] ≡ []
-  unfolding records recordsFrom
-  none-left = refl
+  none-left = records-end [] 0 (omega arith)
 
   reached : (n k c d : ℕ) → n ≡ k → c ≡ d → (s : Machine) → at n c none s ≡ at k d none s
   reached n k c d e f s = rw (e, f)

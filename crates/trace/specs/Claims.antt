@@ -1,5 +1,5 @@
 -- What is claimed of the definition of a replay, over every platform: for every way of cutting a trace, of bad records, of differences and of our own traces.
--- Cited by the contracts of `feed` and `end` of crate `replay`.
+-- Cited by the contracts of `start`, `feed` and `end` of crate `replay`.
 use mathlib.Core.Path.{_≡_}
 use mathlib.Core.Bool.{true, false}
 use mathlib.Core.List.{List}

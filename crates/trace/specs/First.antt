@@ -19,8 +19,8 @@ pub record DifferAt (recorded ours : List ℕ) (offset : ℕ) : Type 0 where
   pub unlike : offset < length recorded → offset < length ours → getD recorded offset 0 ≡ getD ours offset 0 → ⊥
   pub not-all : offset ≡ length recorded → offset ≡ length ours → ⊥
 
--- Among records that come where a replay stands: those before the call's 33, its 33 and those behind it, and the body of its 32. After those before it
--- the 32 waits, and so many calls agreed.
+-- The place of a call that differs, among records that come where a replay stands: the records before its 33, its 33, those behind it, and the body of
+-- its 32. After the records before it the 32 waits, and so many calls agreed.
 pub record Place (p : Platform) (s : State) (rs : List (List ℕ)) (calls offset : ℕ) : Type 0 where
   pub before : List (List ℕ)
   pub recorded : List ℕ

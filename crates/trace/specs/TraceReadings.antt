@@ -1,7 +1,7 @@
 -- Readings of a replay on both sides of its lines (document 02, M-110), cited by the contracts of `feed` and `end`. Each case is a trace and its report,
 -- over an empty journal and inventory and a memory of zeros, mostly of eight bytes.
 use Prim.Native.Nat.{ℕ}
-use mathlib.Core.Bool.{Bool, true, false, _&&_}
+use mathlib.Core.Bool.{Bool, false, _&&_}
 use mathlib.Core.List.{List, [], _∷_, _++_}
 use lib.Dec.{T, eqb}
 use lib.ListN.{take, replicate}
