@@ -9,7 +9,8 @@ use Rattle.calls.specs.Lent.{partAt, withPart}
 use Rattle.calls.specs.ReadingRecord.{begins, isNamed, isCurrent, recordAfter}
 use Rattle.calls.specs.GetIndices.{askable, lendable, goodNumber, dueFits, moreEntries, listStatus, readingStatus, indicesStatus, indicesMemory, nextNumber}
 use Rattle.calls.specs.Buffer.{numberFor, asks, indicesOutcome, outcome, callOf}
-use Rattle.draugsten.specs.Registration.{isRegistration, flatCallOf}
+use Rattle.crossing.specs.Registration.{isRegistration}
+use Rattle.draugsten.specs.Registration.{flatCallOf}
 use Rattle.draugsten.specs.Crossing.{RecordCrosses}
 
 pub record-crosses : RecordCrosses

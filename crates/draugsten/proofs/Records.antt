@@ -1,10 +1,7 @@
--- The reading record and the edition over the C boundary.
+-- The edition over the C boundary.
 use mathlib.Core.Path.{refl}
 use Rattle.inventory.proofs.Editions.{edition-rises}
-use Rattle.draugsten.specs.Record.{ReadingFaithful, flatEditOf, EditTold}
-
-pub reading-faithful : ReadingFaithful
-reading-faithful f = refl
+use Rattle.draugsten.specs.Record.{flatEditOf, EditTold}
 
 pub edit-told : EditTold
 unfolding flatEditOf

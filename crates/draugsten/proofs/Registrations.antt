@@ -1,49 +1,16 @@
--- A registration over the C boundary and back, and from one call to the next.
-use mathlib.Core.Path.{_≡_, refl, ap, _∙_}
+-- A registration from one call to the next.
+use mathlib.Core.Path.{_≡_, ap, _∙_}
 use mathlib.Core.Bool.{true}
-use Prim.Native.Nat.{ℕ, zero, suc, _≤_}
 use native.Mathlib.Omega.{arith}
-use lib.Dec.{leb}
-use borrow.Author.Tests.{leb-true, le-leb}
-use Rattle.words.proofs.Choice.{decide, and-left, and-right}
-use Rattle.dump.specs.declared.registration.Phase.{Phase}
-use Rattle.dump.specs.declared.registration.Phase.the-variants.{Unregistered, Registered, Active}
-use Rattle.dump.specs.declared.registration.Registration.{Registration}
-use Rattle.dump.specs.Registration.{copySize, noRegistration}
+use Rattle.words.proofs.Choice.{decide}
+use Rattle.dump.specs.Registration.{noRegistration}
 use Rattle.calls.specs.declared.status.Number.{Number}
 use Rattle.calls.specs.declared.status.Number.the-variants.{Given, Short, NoOutputs, TooMany}
 use Rattle.calls.specs.Status.{numberOf}
 use Rattle.calls.proofs.Registrations.{handed-short}
-use Rattle.draugsten.specs.declared.calling.FlatRegistration.{FlatRegistration}
-use Rattle.draugsten.specs.Registration.{phaseNumber, phaseOf, flatOf, registrationOf, isRegistration, Faithful, FlatFound, foundOver, called, flatCallOf, HandedOn, StartTaken}
-
--- the phase and the length of a registration
-bounds : (f : FlatRegistration) → isRegistration f ≡ true → (f .phase ≤ 2) × (f .length ≤ copySize)
-unfolding isRegistration
-bounds f e = (leb-true (f .phase) 2 (and-left _ _ e), omega (arith, leb-true (f .length) _ (and-right (leb (f .phase) 2) _ e)))
-
--- the number of a phase that was read from a number is that number
-phase-back : (n : ℕ) → n ≤ 2 → phaseNumber (phaseOf n) ≡ n
-phase-back zero h = refl
-phase-back (suc zero) h = refl
-phase-back (suc (suc zero)) h = refl
-phase-back (suc (suc (suc n))) h = omega arith
-
--- a claim that `draugsten_call` cites
-pub faithful : Faithful
-faithful f e = ap (λ (n : ℕ). record { phase = n; length = f .length; copy = f .copy }) (phase-back (f .phase) (bounds f e .0))
-
--- ---- from one call to the next
-
-few-phases : (p : Phase) → phaseNumber p ≤ 2
-few-phases Unregistered = omega arith
-few-phases Registered = omega arith
-few-phases Active = omega arith
-
--- a length within the copy makes a registration
-flat-is : (r : Registration) → r .len ≤ copySize → isRegistration (flatOf r) ≡ true
-unfolding isRegistration
-flat-is r h = rw (le-leb _ 2 (few-phases (r .phase))) (le-leb (r .len) _ (omega arith))
+use Rattle.crossing.specs.Registration.{isRegistration}
+use Rattle.crossing.proofs.Registrations.{bounds, flat-is}
+use Rattle.draugsten.specs.Registration.{FlatFound, foundOver, called, flatCallOf, HandedOn, StartTaken}
 
 no-thirteen : (n : Number) → numberOf n ≡ 13 → ⊥
 no-thirteen Given e = omega arith

@@ -7,8 +7,8 @@ use lib.ListN.{replicate}
 use Rattle.words.specs.Numbers.{be32, wordBytes}
 use Rattle.calls.specs.Terms.{minus}
 use Rattle.calls.specs.Readings.{inventoryOf, all}
-use Rattle.draugsten.specs.declared.reading_record.FlatReading.{FlatReading}
-use Rattle.draugsten.specs.Record.{flatReading}
+use Rattle.crossing.specs.declared.reading_record.FlatReading.{FlatReading}
+use Rattle.crossing.specs.Record.{flatReading}
 use Rattle.draugsten.specs.Registration.{FlatLeft, flatFound, flatCallOf}
 
 -- get-indices for sensors of type 9, of which there are five, with an area that holds two, in a phase and an edition

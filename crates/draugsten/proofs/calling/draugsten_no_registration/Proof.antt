@@ -1,7 +1,7 @@
 -- `calling::draugsten_no_registration` meets its contract.
 use mathlib.Core.Path.{ap, _∙_}
 use borrow.Author.Needs.{needs}
-use Rattle.draugsten.specs.Registration.{flatOf}
+use Rattle.crossing.specs.Registration.{flatOf}
 use Rattle.draugsten.proofs.Registrations.{start-taken}
 use Rattle.draugsten.proofs.calling.draugsten_no_registration.Statement.{statement}
 use Rattle.draugsten.proofs.calling.draugsten_no_registration.Tie as tie

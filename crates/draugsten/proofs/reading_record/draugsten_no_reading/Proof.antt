@@ -1,7 +1,7 @@
 -- `reading_record::draugsten_no_reading` meets its contract.
 use borrow.Author.Needs.{needs}
 use mathlib.Core.Path.{refl}
-use Rattle.draugsten.proofs.Records.{reading-faithful}
+use Rattle.crossing.proofs.Records.{reading-faithful}
 use Rattle.draugsten.proofs.reading_record.draugsten_no_reading.Statement.{statement}
 use Rattle.draugsten.proofs.reading_record.draugsten_no_reading.Tie as tie
 

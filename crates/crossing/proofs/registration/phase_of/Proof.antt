@@ -1,7 +1,7 @@
--- `calling::phase_of` meets its contract.
+-- `registration::phase_of` meets its contract.
 use borrow.Author.Tests.{eq-eqb, ne-eqb}
-use Rattle.draugsten.proofs.calling.phase_of.Statement.{statement}
-use Rattle.draugsten.proofs.calling.phase_of.Tie as tie
+use Rattle.crossing.proofs.registration.phase_of.Statement.{statement}
+use Rattle.crossing.proofs.registration.phase_of.Tie as tie
 
 returns : tie.Need-returns
 returns c = rw (eq-eqb _ 0 (c .if1 .taken))

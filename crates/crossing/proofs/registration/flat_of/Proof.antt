@@ -1,7 +1,7 @@
--- `calling::flat_of` meets its contract.
+-- `registration::flat_of` meets its contract.
 use borrow.Author.Needs.{needs}
-use Rattle.draugsten.proofs.calling.flat_of.Statement.{statement}
-use Rattle.draugsten.proofs.calling.flat_of.Tie as tie
+use Rattle.crossing.proofs.registration.flat_of.Statement.{statement}
+use Rattle.crossing.proofs.registration.flat_of.Tie as tie
 
 returns : tie.Need-returns
 returns c = rw (c .phase-number .ensures)

@@ -1,9 +1,9 @@
--- `calling::is_registration` meets its contract.
+-- `registration::is_registration` meets its contract.
 use native.Mathlib.Omega.{arith}
 use borrow.Author.Tests.{le-leb, lt-leb}
-use Rattle.draugsten.specs.Registration.{isRegistration}
-use Rattle.draugsten.proofs.calling.is_registration.Statement.{statement}
-use Rattle.draugsten.proofs.calling.is_registration.Tie as tie
+use Rattle.crossing.specs.Registration.{isRegistration}
+use Rattle.crossing.proofs.registration.is_registration.Statement.{statement}
+use Rattle.crossing.proofs.registration.is_registration.Tie as tie
 
 returns : tie.Need-returns
 unfolding isRegistration
