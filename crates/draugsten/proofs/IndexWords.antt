@@ -18,7 +18,7 @@ use Rattle.indices.specs.Reading.{lengthAt, fieldAt, faultAt, refusalNumber, ch
 use Rattle.indices.specs.Cursor.{entriesFrom, remaining}
 use Rattle.indices.proofs.IndexLaws.{code-part, fine-inside, entries-in-order}
 use Rattle.indices.proofs.Fine.{fine-some, code-ends, nul-place, code-place, Reads, reads-next}
-use Rattle.draugsten.specs.declared.reading.IndexReading.{IndexReading}
+use Rattle.draugsten.specs.declared.reading_indices.IndexReading.{IndexReading}
 use Rattle.draugsten.specs.Readings.{setWords, setsWords, indexReading, indicesOut, entriesTold, WordsTell}
 use Rattle.draugsten.proofs.EntryWords as entry
 

@@ -20,8 +20,8 @@ use Rattle.property_area.specs.declared.reading.Located.{Located}
 use Rattle.property_area.specs.Head as property-head
 use Rattle.property_area.specs.Piece.{Piece}
 use Rattle.property_area.specs.Reading as properties
-use Rattle.draugsten.specs.declared.reading.NodeReading.{NodeReading}
-use Rattle.draugsten.specs.declared.reading.IndexReading.{IndexReading}
+use Rattle.draugsten.specs.declared.reading_nodes.NodeReading.{NodeReading}
+use Rattle.draugsten.specs.declared.reading_indices.IndexReading.{IndexReading}
 use Rattle.draugsten.specs.declared.reading_properties.PropertyReading.{PropertyReading}
 
 -- ---- node areas

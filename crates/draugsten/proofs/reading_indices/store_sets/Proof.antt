@@ -1,4 +1,4 @@
--- `reading::store_sets` meets its contract.
+-- `reading_indices::store_sets` meets its contract.
 use mathlib.Core.Path.{_≡_}
 use Prim.Native.Nat.{_+_, _-_, _≤_}
 use native.Mathlib.Omega.{arith}
@@ -8,8 +8,8 @@ use denote.Ref.{now}
 use Rattle.indices.specs.Reading.{lengthAt}
 use Rattle.draugsten.proofs.EntryWords.{storing-first}
 use Rattle.draugsten.proofs.IndexWords.{Storing, storing-fine, storing-room, storing-next, storing-end}
-use Rattle.draugsten.proofs.reading.store_sets.Statement.{statement}
-use Rattle.draugsten.proofs.reading.store_sets.Tie as tie
+use Rattle.draugsten.proofs.reading_indices.store_sets.Statement.{statement}
+use Rattle.draugsten.proofs.reading_indices.store_sets.Tie as tie
 
 abbrev Inv-loop : tie.InvT-loop
 Inv-loop area out₀ count at₀ i₀ out at i = Storing area out₀ count out at i

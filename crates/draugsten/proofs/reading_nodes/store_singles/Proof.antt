@@ -1,10 +1,10 @@
--- `reading::store_singles` meets its contract.
+-- `reading_nodes::store_singles` meets its contract.
 use Prim.Native.Nat.{_-_}
 use native.Mathlib.Omega.{arith}
 use Rattle.draugsten.proofs.NodeWords.{Partly, partly-first, partly-length, partly-all, singles-next}
 use borrow.Author.Needs.{needs}
-use Rattle.draugsten.proofs.reading.store_singles.Statement.{statement}
-use Rattle.draugsten.proofs.reading.store_singles.Tie as tie
+use Rattle.draugsten.proofs.reading_nodes.store_singles.Statement.{statement}
+use Rattle.draugsten.proofs.reading_nodes.store_singles.Tie as tie
 
 abbrev Inv-loop : tie.InvT-loop
 Inv-loop area at code n out₀ to i₀ out i = Partly area out₀ 4 (λ k. k) at code n to out i

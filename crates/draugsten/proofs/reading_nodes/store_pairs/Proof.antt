@@ -1,10 +1,10 @@
--- `reading::store_pairs` meets its contract.
+-- `reading_nodes::store_pairs` meets its contract.
 use Prim.Native.Nat.{_+_, _-_}
 use native.Mathlib.Omega.{arith}
 use Rattle.draugsten.proofs.NodeWords.{Partly, partly-first, partly-length, partly-all, pairs-next}
 use borrow.Author.Needs.{needs}
-use Rattle.draugsten.proofs.reading.store_pairs.Statement.{statement}
-use Rattle.draugsten.proofs.reading.store_pairs.Tie as tie
+use Rattle.draugsten.proofs.reading_nodes.store_pairs.Statement.{statement}
+use Rattle.draugsten.proofs.reading_nodes.store_pairs.Tie as tie
 
 abbrev Inv-loop : tie.InvT-loop
 Inv-loop area at n out₀ to i₀ out i = Partly area out₀ 8 (λ k. k + k) at 3 n to out i

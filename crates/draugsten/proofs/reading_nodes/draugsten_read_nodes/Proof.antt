@@ -1,11 +1,11 @@
--- `reading::draugsten_read_nodes` meets its contract.
+-- `reading_nodes::draugsten_read_nodes` meets its contract.
 use mathlib.Core.Path.{refl}
 use native.Mathlib.Omega.{arith}
 use borrow.Author.Needs.{needs}
 use denote.Ref.{now}
 use Rattle.draugsten.proofs.NodeWords.{refused-reading, Good, good, good-out}
-use Rattle.draugsten.proofs.reading.draugsten_read_nodes.Statement.{statement}
-use Rattle.draugsten.proofs.reading.draugsten_read_nodes.Tie as tie
+use Rattle.draugsten.proofs.reading_nodes.draugsten_read_nodes.Statement.{statement}
+use Rattle.draugsten.proofs.reading_nodes.draugsten_read_nodes.Tie as tie
 
 -- the check found operations
 found : (c : tie.After-found2) → Good (c .before .before .before .before .before .args .scope) (now (c .before .before .before .before .before .args .area)) (c .found2 .given .0 .0)

@@ -1,11 +1,11 @@
--- `reading::store_operations` meets its contract.
+-- `reading_nodes::store_operations` meets its contract.
 use Prim.Native.Nat.{_-_}
 use native.Mathlib.Omega.{arith}
 use lib.ListN.{length}
 use Rattle.draugsten.proofs.NodeWords.{Walking, walking-first, walking-length, walking-all, walking-fits, walking-operator, walking-inside, walking-next}
 use borrow.Author.Needs.{needs}
-use Rattle.draugsten.proofs.reading.store_operations.Statement.{statement}
-use Rattle.draugsten.proofs.reading.store_operations.Tie as tie
+use Rattle.draugsten.proofs.reading_nodes.store_operations.Statement.{statement}
+use Rattle.draugsten.proofs.reading_nodes.store_operations.Tie as tie
 
 abbrev Inv-loop : tie.InvT-loop
 Inv-loop area out₀ count at₀ i₀ out at i = Walking area out₀ count out at i

@@ -1,12 +1,12 @@
--- `reading::store_operands` meets its contract.
+-- `reading_nodes::store_operands` meets its contract.
 use native.Mathlib.Omega.{arith}
 use lib.ListN.{drop, length-drop}
 use denote.Ref.{now}
 use Rattle.node_area.proofs.Walks.{words-inside}
 use Rattle.draugsten.proofs.NodeWords.{operands-pairs, operands-singles}
 use borrow.Author.Needs.{needs}
-use Rattle.draugsten.proofs.reading.store_operands.Statement.{statement}
-use Rattle.draugsten.proofs.reading.store_operands.Tie as tie
+use Rattle.draugsten.proofs.reading_nodes.store_operands.Statement.{statement}
+use Rattle.draugsten.proofs.reading_nodes.store_operands.Tie as tie
 
 store-pairs-requires : tie.Need-store-pairs-requires
 store-pairs-requires c κs =

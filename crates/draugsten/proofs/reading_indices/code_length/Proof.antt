@@ -1,12 +1,12 @@
--- `reading::code_length` meets its contract.
+-- `reading_indices::code_length` meets its contract.
 use Prim.Native.Nat.{_+_, _≤_}
 use native.Mathlib.Omega.{arith}
 use lib.ListN.{length}
 use borrow.Author.Needs.{needs}
 use denote.Ref.{now}
 use Rattle.draugsten.proofs.IndexWords.{field-stands, field-ends, nul-last, code-last}
-use Rattle.draugsten.proofs.reading.code_length.Statement.{statement}
-use Rattle.draugsten.proofs.reading.code_length.Tie as tie
+use Rattle.draugsten.proofs.reading_indices.code_length.Statement.{statement}
+use Rattle.draugsten.proofs.reading_indices.code_length.Tie as tie
 
 -- the field has at least four bytes, and stands in the area
 stands : (c : tie.Start) → (4 ≤ c .args .n) × (c .args .at + 8 + c .args .n ≤ length (now (c .args .area)))

@@ -1,4 +1,4 @@
--- `reading::draugsten_read_indices` meets its contract.
+-- `reading_indices::draugsten_read_indices` meets its contract.
 use mathlib.Core.Path.{sym, _∙_}
 use native.Mathlib.Omega.{arith}
 use borrow.Author.Needs.{needs}
@@ -6,8 +6,8 @@ use denote.Ref.{now}
 use Rattle.indices.specs.Reading.{reading}
 use Rattle.indices.proofs.Fine.{area-reads}
 use Rattle.draugsten.proofs.IndexWords.{refusal-told, entries-told}
-use Rattle.draugsten.proofs.reading.draugsten_read_indices.Statement.{statement}
-use Rattle.draugsten.proofs.reading.draugsten_read_indices.Tie as tie
+use Rattle.draugsten.proofs.reading_indices.draugsten_read_indices.Statement.{statement}
+use Rattle.draugsten.proofs.reading_indices.draugsten_read_indices.Tie as tie
 
 store-sets-requires : tie.Need-store-sets-requires
 store-sets-requires c κs = (omega arith, area-reads _ _ _ (sym (c .before .before .before .before .before .check-area .ensures .0) ∙ c .before .before .before .found2 .given .1) (omega arith))
