@@ -1,4 +1,3 @@
 pub mod Record
 pub mod Registration
 pub mod Crossing
-pub mod Readings

@@ -1,0 +1,4 @@
+pub mod EntryWords
+pub mod NodeWords
+pub mod IndexWords
+pub mod PropertyWords

@@ -1,0 +1,26 @@
+-- `reading_indices::store_set` meets its contract.
+use native.Mathlib.Numerals.{towards-suc}
+use native.Mathlib.Omega.{arith}
+use lib.ListN.{length-set}
+use borrow.Author.Needs.{needs}
+use Rattle.readers.proofs.reading_indices.store_set.Statement.{statement}
+use Rattle.readers.proofs.reading_indices.store_set.Tie as tie
+
+returns : tie.Need-returns
+returns c = simp towards-suc
+
+pub store-set-spec : {M : Type 1} → statement M
+store-set-spec =
+    tie.close
+    (tie.spec
+    (λ c. search needs)
+    (λ c. search needs)
+    (λ c. search needs)
+    (λ c. search needs)
+    (λ c. search needs)
+    (λ c. simp length-set (omega arith))
+    (λ c. search needs)
+    (λ c. search needs)
+    (λ c. simp length-set (omega arith))
+    (λ c. search needs)
+    returns)
