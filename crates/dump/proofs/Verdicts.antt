@@ -15,7 +15,7 @@ use Rattle.dump.specs.declared.registration.Registration.{Registration}
 use Rattle.dump.specs.declared.registration.Verdict.{Verdict}
 use Rattle.dump.specs.declared.registration.Configured.{Configured}
 use Rattle.dump.specs.Structure.{headerSize}
-use Rattle.dump.specs.Registration.{copySize, isDone, padded, registered, structureAt, acceptable, verdictOf, registrationAfter}
+use Rattle.dump.specs.Registration.{copySize, isDone, padded, noRegistration, registered, structureAt, acceptable, verdictOf, registrationAfter}
 
 -- an acceptable structure fits into a copy, and stands inside memory
 module _ (m : List ℕ) (address len : ℕ) (good : acceptable m address len ≡ true) where
@@ -43,7 +43,7 @@ pub outside : (command : ℕ) → (command ≡ 1 → ⊥) → (command ≡ 2 →
 outside zero one two three = refl
 outside (suc n) one two three = rw (le-ltb (suc n) 1 (omega arith), lt-ltb 3 (suc n) (omega arith))
 
--- ---- the length of a registration
+-- ---- what a command makes of a registration
 
 -- what command 1 copies is acceptable
 done-acceptable : (m : List ℕ) (address len : ℕ) (p : Phase) → isDone (verdictOf m 1 address len p) ≡ true → acceptable m address len ≡ true
@@ -52,13 +52,17 @@ done-acceptable m address len Active e = absurd (false≢true e)
 done-acceptable m address len Registered e = absurd (false≢true e)
 done-acceptable m address len Unregistered e = decide (acceptable m address len) (λ a. a) (λ a. absurd (false≢true (rw a at e)))
 
+-- it stays, or is none, or is an acceptable structure's
+pub registration-ways : (m : List ℕ) (command address len : ℕ) (r : Registration) (P : Registration → Type 0) → P r → P noRegistration
+    → (acceptable m address len ≡ true → P (registered (structureAt m address len))) → P (registrationAfter m command address len r)
+unfolding registrationAfter
+registration-ways m command address len r P same gone copied =
+    choose (isDone (verdictOf m command address len (r .phase))) P
+    (λ d. choose (eqb command 1) P (λ e. copied (done-acceptable m address len (r .phase) (rw (eqb-true command 1 e) at d))) (λ _. gone))
+    (λ _. same)
+
 -- no command makes a length above the copy's
 pub registration-short : (m : List ℕ) (command address len : ℕ) (r : Registration) → r .len ≤ copySize → registrationAfter m command address len r .len ≤ copySize
-unfolding registrationAfter
 registration-short m command address len r h =
-    choose (isDone (verdictOf m command address len (r .phase))) (λ (x : Registration). x .len ≤ copySize)
-    (λ d. choose (eqb command 1) (λ (x : Registration). x .len ≤ copySize) (λ e. copy-short (rw (eqb-true command 1 e) at d)) (λ _. omega arith))
-    (λ _. h)
-  where
-    copy-short : isDone (verdictOf m 1 address len (r .phase)) ≡ true → length (structureAt m address len) ≤ copySize
-    copy-short d = let short = acceptable-short m address len (done-acceptable m address len (r .phase) d) in simp length-take (omega arith)
+    registration-ways m command address len r (λ (x : Registration). x .len ≤ copySize) h (omega arith)
+    (λ good. let short = acceptable-short m address len good in simp length-take (omega arith))

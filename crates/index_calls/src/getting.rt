@@ -22,7 +22,7 @@ pub struct Listed {
 }
 
 // Whether a type may be asked for with a flag.
-fn is_askable(flag: u32, item_type: u32) -> bool
+pub fn is_askable(flag: u32, item_type: u32) -> bool
     ensures { λ r. ⌜ r ≡ askable flag «item_type» ⌝ }
 {
     if 1 < flag {

@@ -4,5 +4,6 @@ mod reading_record;
 
 pub use getting::Listed;
 pub use getting::get_indices;
+pub use getting::is_askable;
 pub use reading_record::no_reading;
 pub use reading_record::record_after;

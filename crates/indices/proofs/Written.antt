@@ -13,6 +13,7 @@ use Rattle.words.specs.Nul.{untilNul}
 use Rattle.words.proofs.Choice.{choose, decide, and-left, and-right}
 use Rattle.words.proofs.Numbers.{length-beBytes}
 use Rattle.words.proofs.Places.{word-there, behind}
+use Rattle.words.proofs.Zeros.{zeros-zero}
 use Rattle.inventory.specs.Inventory.{nonZero, goodCode, codeLimit}
 use Rattle.inventory.specs.Listing.{Entry, listed}
 use Rattle.indices.specs.declared.reading.Fault.the-variants.{Fine}
@@ -25,11 +26,6 @@ use Rattle.inventory.proofs.Codes.{code-in-word}
 use Rattle.inventory.proofs.Listed.{listed-sound, listed-few}
 
 -- ---- the field of a code
-
-zeros-zero : (n : ℕ) → zeros (replicate n 0) ≡ true
-unfolding zeros
-zeros-zero zero = refl
-zeros-zero (suc n) = zeros-zero n
 
 code-back : (code : List ℕ) (n : ℕ) → nonZero code ≡ true → 1 ≤ n → untilNul (code ++ replicate n 0) ≡ code
 unfolding untilNul nonZero

@@ -1,3 +1,4 @@
 pub mod Parts
 pub mod Leaves
 pub mod Plays
+pub mod Lent

@@ -5,8 +5,8 @@ use mathlib.Core.List.{List}
 use Prim.Native.Nat.{ℕ, _+_, _-_, _≤_, _<_}
 use native.Mathlib.Omega.{arith}
 use lib.Dec.{leb}
-use lib.ListN.{length, take, drop, length-drop}
-use lib.Seq.{sets, length-sets, sets-eq, take-append-seam}
+use lib.ListN.{length, take, length-drop}
+use lib.Seq.{sets, length-sets}
 use borrow.Author.Tests.{le-leb, lt-leb, eq-eqb, ne-eqb}
 use Rattle.words.proofs.Choice.{decide}
 use Rattle.records.specs.Records.{lengthOf, kindOf, whole}
@@ -17,7 +17,9 @@ use Rattle.trace.proofs.First.{compared-ways}
 use Rattle.playing.specs.declared.playing.Playing.{Playing}
 use Rattle.trace.specs.Trace.{bodyOf, goodFrame, isGood, isSettable}
 use Rattle.trace.specs.Playing.{Platform, call, State, agreed, stopped, faulted, kept, setting, compared, calling, played, step}
-use Rattle.playing.specs.Played.{waitingOf, stateOf, Steady, keptBy, faultedBy, setBy, memorySet, leftBy, calledBy, Plays, Playable}
+use Rattle.playing.specs.Lent.{Lent, storedBy, lentStep}
+use Rattle.playing.specs.Played.{waitingOf, stateOf, lentOf, Steady, keptBy, faultedBy, setBy, memorySet, leftBy, calledBy, Plays, Playable}
+use Rattle.playing.proofs.Parts.{stored-front}
 
 -- ---- a record that is cut out
 
@@ -33,17 +35,19 @@ module _ (item : List ℕ) (cut : due goodFrame item ≡ length item) where
       (λ e. rw (e, le-leb 2 (lengthOf item) (frame-bounds (lengthOf item) (kindOf item) e .0), eq-eqb (length item) (lengthOf item + 2) (cut-size e)))
       (λ e. rw e (and-false (whole item)))
 
--- bytes stored at the front of a buffer
-stored-front : (body args : List ℕ) → length body ≤ length args → take (length body) (sets args 0 body) ≡ body
-stored-front body args h = ap (take (length body)) (sets-eq body args 0 (omega arith)) ∙ take-append-seam body (drop (0 + length body) args)
-
 -- a report has no more calls than one more
 compared-few : (calls : ℕ) (recorded ours : List ℕ) → agreed (compared calls recorded ours) ≤ calls + 1
-compared-few calls recorded ours = compared-ways calls recorded ours (λ (x : Report). agreed x ≤ calls + 1) (λ _. omega arith) (λ _. omega arith)
+compared-few calls recorded ours = compared-ways calls recorded ours (λ (x : Report). agreed x ≤ calls + 1) (λ _. omega arith) (λ _ _. omega arith)
 
 module _ (p : Platform) (args memory : List ℕ) (t : Playing) (item : List ℕ) (ready : Playable args t item) where
   abbrev s : State
   s = stateOf args memory t
+
+  abbrev x : Lent
+  x = lentOf args memory t
+
+  abbrev with : State → Lent
+  with u = record { state = u; args = args }
 
   going : stopped s ≡ false
   unfolding stopped
@@ -62,22 +66,22 @@ module _ (p : Platform) (args memory : List ℕ) (t : Playing) (item : List ℕ)
   fault-steady : Steady args (faultedBy t)
   fault-steady = record { room = ready .steady .room; inside = ready .steady .inside; few = ready .steady .few; fewer = omega arith }
 
-  plays-fault : step p s item ≡ faulted s → Plays p args memory t item args memory (faultedBy t)
-  plays-fault e = record { same = fault-state ∙ sym e; steady = fault-steady; edition = refl }
+  plays-fault : lentStep p x item ≡ with (faulted s) → Plays p args memory t item args memory (faultedBy t)
+  plays-fault e = record { same = ap with fault-state ∙ sym e; steady = fault-steady; edition = refl }
 
   pub plays-last : 4294967294 < t .records → Plays p args memory t item args memory (faultedBy t)
-  unfolding step
+  unfolding step lentStep
   plays-last h = plays-fault (rw (going, lt-leb (t .records + 1) 4294967295 (omega arith)))
 
   pub plays-bad : goodFrame (lengthOf item) (kindOf item) ≡ false → Plays p args memory t item args memory (faultedBy t)
-  unfolding step
+  unfolding step lentStep
   plays-bad e = plays-fault (rw (going, cut-good item (ready .cut), e, and-false (leb (t .records + 1) 4294967295)))
 
   -- ---- a good record
 
   module _ (few : t .records ≤ 4294967294) (good : goodFrame (lengthOf item) (kindOf item) ≡ true) where
-    good-step : step p s item ≡ played p s (s .waiting) (kindOf item) (bodyOf item)
-    unfolding step
+    good-step : lentStep p x item ≡ record { state = played p s (s .waiting) (kindOf item) (bodyOf item); args = storedBy p s (s .waiting) args (kindOf item) (bodyOf item) }
+    unfolding step lentStep
     good-step = rw (going, le-leb (t .records + 1) 4294967295 (omega arith), cut-good item (ready .cut), good)
 
     body-size : length (bodyOf item) ≤ 4100
@@ -91,15 +95,15 @@ module _ (p : Platform) (args memory : List ℕ) (t : Playing) (item : List ℕ)
       waiting-is : s .waiting ≡ call (take (t .size) args)
       waiting-is = ap (λ (w : Bool). waitingOf w (t .size) args) waits
 
-      pub plays-call : (argsThen memoryThen : List ℕ) (r : Playing) → kindOf item ≡ 33 → length argsThen ≡ length args → r ≡ calledBy (leftBy p memory args t) t (bodyOf item)
-          → memoryThen ≡ leftBy p memory args t .memory → Plays p args memory t item argsThen memoryThen r
+      pub plays-call : (argsThen memoryThen : List ℕ) (r : Playing) → kindOf item ≡ 33 → r ≡ calledBy (leftBy p memory args t) t (bodyOf item)
+          → memoryThen ≡ leftBy p memory args t .memory → argsThen ≡ sets args 0 (leftBy p memory args t .args) → Plays p args memory t item argsThen memoryThen r
       unfolding calling
-      plays-call argsThen memoryThen r kind same e m =
-          rw (e, m)
+      plays-call argsThen memoryThen r kind e m a =
+          rw (e, m, a)
           (record {
             same = sym (good-step ∙ rw (waiting-is, eq-eqb (kindOf item) 33 kind));
             steady = record {
-              room = omega (arith, ready .steady .room);
+              room = omega (arith, length-sets args 0 (leftBy p memory args t .args), ready .steady .room);
               inside = omega arith;
               few = omega arith;
               fewer = omega (arith, compared-few (agreed (t .report)) (bodyOf item) (leftBy p memory args t .args), ready .steady .fewer);
@@ -130,7 +134,7 @@ module _ (p : Platform) (args memory : List ℕ) (t : Playing) (item : List ℕ)
       unfolding setting
       plays-set memoryThen r other kind m e = rw (m, e) (decide (isSettable memory (bodyOf item)) set unset)
         where
-          step-is : step p s item ≡ setting s (bodyOf item)
+          step-is : lentStep p x item ≡ with (setting s (bodyOf item))
           step-is = good-step ∙ rw (none-waits, ne-eqb (kindOf item) 32 other, eq-eqb (kindOf item) 34 kind)
 
           set : isSettable memory (bodyOf item) ≡ true → Plays p args memory t item args (memorySet memory (bodyOf item)) (setBy memory t (bodyOf item))

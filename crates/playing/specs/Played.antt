@@ -1,5 +1,4 @@
--- Where the code of a replay stands before and after a record: a struct by value, memory, and a lent buffer with the body of the 32 that waits at its
--- front. What the buffer has behind it is left free.
+-- Where the code of a replay stands before and after a record: a struct by value, memory, and a lent buffer with the body of the 32 that waits at its front.
 use Prim.Native.Nat.{ℕ, _+_, _-_, _≤_}
 use mathlib.Core.Path.{_≡_}
 use mathlib.Core.Bool.{Bool, true, false, cond}
@@ -9,12 +8,13 @@ use lib.Seq.{sets}
 use Rattle.records.specs.Cutting.{due}
 use Rattle.dump.specs.declared.registration.Registration.{Registration}
 use Rattle.calls.specs.declared.reading_record.ReadingRecord.{ReadingRecord}
-use Rattle.calls.specs.Buffer.{found, Left, callOf}
+use Rattle.calls.specs.Buffer.{Left}
 use Rattle.trace.specs.declared.report.Report.{Report}
 use Rattle.trace.specs.declared.report.Report.the-variants.{Malformed}
 use Rattle.playing.specs.declared.playing.Playing.{Playing}
 use Rattle.trace.specs.Trace.{goodFrame, addressIn, bytesIn, isSettable}
-use Rattle.trace.specs.Playing.{Platform, Waiting, none, call, State, isOver, agreed, compared, step}
+use Rattle.trace.specs.Playing.{Platform, Waiting, none, call, State, isOver, agreed, callOver, compared}
+use Rattle.playing.specs.Lent.{Lent, lentStep}
 
 abbrev pub platformOf : List ℕ → List ℕ → Playing → Platform
 platformOf journal inventory t = record { journal = journal; inventory = inventory; edition = t .edition }
@@ -26,6 +26,9 @@ waitingOf false n args = none
 
 abbrev pub stateOf : List ℕ → List ℕ → Playing → State
 stateOf args memory t = record { records = t .records; report = t .report; waiting = waitingOf (t .waits) (t .size) args; memory = memory; registration = t .registration; reading = t .reading }
+
+abbrev pub lentOf : List ℕ → List ℕ → Playing → Lent
+lentOf args memory t = record { state = stateOf args memory t; args = args }
 
 -- What a start has and every record leaves: room for any argument buffer, one that waits within it, no more calls than records.
 pub record Steady (args : List ℕ) (t : Playing) : Type 0 where
@@ -67,7 +70,7 @@ memorySet m body = cond (isSettable m body) (sets m (addressIn body) (bytesIn bo
 
 -- a 33: what the call of the 32 that waits leaves, and what comes of it
 abbrev pub leftBy : Platform → List ℕ → List ℕ → Playing → Left
-leftBy p m args t = callOf (found (take (t .size) args) m (p .journal) (p .inventory) (p .edition) (t .registration) (t .reading))
+leftBy p m args t = callOver p m (t .registration) (t .reading) (take (t .size) args)
 
 abbrev pub calledBy : Left → Playing → List ℕ → Playing
 calledBy x t body = playedOn t (compared (agreed (t .report)) body (x .args)) (x .registration) (x .reading)
@@ -76,9 +79,9 @@ calledBy x t body = playedOn t (compared (agreed (t .report)) body (x .args)) (x
 unfoldable pub dueBy : ℕ → ℕ → ℕ
 dueBy length kind = 4 + cond (goodFrame length kind) (length - 2) 0
 
--- A record is played: the replay stands as the definition says, steady, over the same edition.
+-- A record is played: the replay stands and the lent buffer is as the definition says, steady, over the same edition.
 pub record Plays (p : Platform) (args memory : List ℕ) (t : Playing) (item argsThen memoryThen : List ℕ) (r : Playing) : Type 0 where
-  pub same : stateOf argsThen memoryThen r ≡ step p (stateOf args memory t) item
+  pub same : lentOf argsThen memoryThen r ≡ lentStep p (lentOf args memory t) item
   pub steady : Steady argsThen r
   pub edition : r .edition ≡ t .edition
 

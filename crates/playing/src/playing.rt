@@ -153,6 +153,7 @@ fn run_call(
     requires { ⌜ Steady (now args) from × (from .records ≤ 4294967294) × (4 ≤ length (now item)) × (length (now item) ≤ 4104) ⌝ }
     ensures { λ r. ⌜ r ≡ calledBy (leftBy (platformOf (now (journal .entry)) (now (inventory .entry)) from) (now (memory .entry)) (now (args .entry)) from) from (bodyOf (now (item .entry))) ⌝ }
     ensures { λ _. ⌜ now (memory .exit) ≡ leftBy (platformOf (now (journal .entry)) (now (inventory .entry)) from) (now (memory .entry)) (now (args .entry)) from .memory ⌝ }
+    ensures { λ _. ⌜ now (args .exit) ≡ sets (now (args .entry)) 0 (leftBy (platformOf (now (journal .entry)) (now (inventory .entry)) from) (now (memory .entry)) (now (args .entry)) from .args) ⌝ }
 {
     let size = from.size;
     let edition = from.edition;

@@ -16,12 +16,13 @@ use Rattle.trace.specs.Trace.{goodFrame}
 use Rattle.trace.specs.Playing.{Platform, Waiting, State, isOver, stopped, blamed, faulted, unanswered, concluded, step, reader}
 use Rattle.playing.specs.Played.{waitingOf, stateOf}
 use Rattle.replay.specs.Feeding.{at, Ready, endOf}
-use Rattle.replay.specs.Ending.{EndTells, ReplayClaims}
+use Rattle.replay.specs.Claims.{EndTells, ReplayClaims}
 use Rattle.trace.proofs.Claims.{trace-claims}
 use Rattle.trace.specs.declared.report.Report.{Report}
 use Rattle.trace.specs.declared.report.Report.the-variants.{Malformed}
 use Rattle.replay.specs.declared.feeding.Replay.{Replay}
-use Rattle.trace.proofs.Reader.{faulted-stopped, unfair-step}
+use Rattle.trace.proofs.Reader.{faulted-stopped, unfair-step, concluded-stopped}
+use Rattle.playing.proofs.Lent.{ours-stands}
 use Rattle.replay.proofs.Leaves.{end-over, end-waits, end-held, end-clean}
 use Rattle.replay.proofs.Standings.{ready-start, standing-start-of, stopped-over, going, still-going}
 
@@ -30,10 +31,6 @@ use Rattle.replay.proofs.Standings.{ready-start, standing-start-of, sto
 -- a state with this report, and all else as in another
 abbrev Told : State → State → Report → Type 0
 Told x s r = (x .report ≡ r) × (x .memory ≡ s .memory) × (x .registration ≡ s .registration) × (x .reading ≡ s .reading)
-
-concluded-stopped : (s : State) → stopped s ≡ true → concluded s ≡ s
-unfolding concluded
-concluded-stopped s e = rw e
 
 concluded-on : (s : State) → stopped s ≡ false → concluded s ≡ unanswered s (s .waiting)
 unfolding concluded
@@ -105,4 +102,4 @@ pub tells : EndTells
 tells p held args memory w ready = decide (eqb (w .held) 0) (λ e. tells-none p held args memory w ready (eqb-true (w .held) 0 e)) (λ e. tells-held p held args memory w ready (eqb-false (w .held) 0 e))
 
 pub replay-claims : ReplayClaims
-replay-claims = record { of-traces = trace-claims; start-stands = λ held args memory e h a. (standing-start-of held args e memory, (ready-start held args e h a, refl)); end-tells = tells }
+replay-claims = record { of-traces = trace-claims; start-stands = λ held args memory e h a. (standing-start-of held args e memory, (ready-start held args e h a, refl)); end-tells = tells; ours-stands = ours-stands }

@@ -1,30 +1,32 @@
 -- Laws of the places that the code of a feed comes to, with no paths into it.
 use mathlib.Core.Path.{_≡_, refl, sym, ap, subst, _∙_}
 use mathlib.Core.Bool.{Bool, true, false, cond}
-use mathlib.Core.List.{List, [], _++_, append-assoc}
+use mathlib.Core.List.{List, [], _++_}
 use Prim.Native.Nat.{ℕ, _+_, _-_, _<_, _≤_, min}
 use native.Mathlib.Nat.{zero-add}
 use native.Mathlib.Omega.{arith}
 use lib.Dec.{leb}
 use lib.ListN.{length, take, drop, length-append, length-drop, take-append-drop}
-use lib.Seq.{take-all, take-add, drop-drop, drop-length, length-take-le}
+use lib.Seq.{sets, take-all, drop-drop, drop-length, length-take-le}
 use borrow.Author.Tests.{leb-true, leb-false}
 use Rattle.words.proofs.Choice.{decide}
 use Rattle.records.specs.Cutting.{due, ripe, Standing, start, fed}
 use Rattle.records.proofs.Due.{due-least, due-front, due-take, due-ripe, short-raw, nothing-raw}
-use Rattle.records.proofs.Feeding.{fed-one, fed-held, fed-stopped, fed-raw, fed-quiet}
-use Rattle.records.proofs.Whole.{fed-first}
+use Rattle.records.proofs.Feeding.{fed-one, fed-first, fed-held, fed-stopped, fed-raw, fed-quiet, fed-along}
 use Rattle.inventory.specs.declared.edition.Edition.{Edition}
 use Rattle.trace.specs.Trace.{goodFrame}
-use Rattle.trace.specs.Playing.{Platform, State, begin, isOver, stopped, step, reader}
-use Rattle.playing.specs.Played.{platformOf, stateOf, Steady, Plays, Playable}
-use Rattle.replay.specs.Feeding.{at, standingOf, Ready, Feeds, startOf}
+use Rattle.trace.specs.Playing.{Platform, State, begin, isOver, stopped, reader}
+use Rattle.playing.specs.Lent.{Lent, lentStep, lender}
+use Rattle.playing.specs.Played.{platformOf, stateOf, lentOf, Steady, Plays, Playable}
+use Rattle.replay.specs.Feeding.{at, standingOf, lentStandingOf, Ready, completed, Feeds, startOf}
 use Rattle.replay.specs.Terms.{Filled, Finishes, Passes}
 use Rattle.playing.specs.declared.playing.Playing.{Playing}
 use Rattle.replay.specs.declared.feeding.Replay.{Replay}
 use Rattle.replay.specs.declared.feeding.Finished.{Finished}
 use Rattle.replay.specs.declared.feeding.Passed.{Passed}
-use Rattle.trace.proofs.Reader.{due-most, sticky, stops, alike}
+use Rattle.trace.proofs.Reader.{due-most}
+use Rattle.playing.proofs.Lent.{lender-sticky, state-step}
+use Rattle.replay.proofs.Leaves.{front-due, drop-sets, sets-back, completed-none, completed-some, completed-behind}
 
 module _ (args memory : List ℕ) (t : Playing) where
   pub stopped-over : isOver (t .report) ≡ true → stopped (stateOf args memory t) ≡ true
@@ -96,10 +98,10 @@ module _ (b : List ℕ) (i n : ℕ) where
     pub part-playable : (args : List ℕ) (t : Playing) → Steady args t → isOver (t .report) ≡ false → Playable args t (take (i + n - i) (drop i b))
     part-playable args t s g = record { steady = s; going = g; four = omega (arith, part-long, due-least goodFrame (drop i b)); cut = part-due ∙ sym part-long }
 
-    part-step : (p : Platform) (s u : State) → u ≡ step p s (take (i + n - i) (drop i b)) → fed (reader p) (start s) (drop i b) ≡ fed (reader p) (start u) (drop (i + n) b)
+    part-step : (p : Platform) (s u : Lent) → u ≡ lentStep p s (take (i + n - i) (drop i b)) → fed (lender p) (start s) (drop i b) ≡ fed (lender p) (start u) (drop (i + n) b)
     part-step p s u e =
-        fed-first (reader p) (sticky p) (stops p) (alike p) (drop i b) s enough
-        ∙ rw (← part, ← e) (ap (fed (reader p) (start u)) (drop-drop (due goodFrame (drop i b)) i b ∙ ap (λ (m : ℕ). drop (i + m) b) (r .is)))
+        fed-first (lender p) (lender-sticky p) (drop i b) s enough
+        ∙ rw (← part, ← e) (ap (fed (lender p) (start u)) (drop-drop (due goodFrame (drop i b)) i b ∙ ap (λ (m : ℕ). drop (i + m) b) (r .is)))
 
 -- ---- whole records out of a burst
 
@@ -110,7 +112,7 @@ pub record Passing (p : Platform) (args memory bytes : List ℕ) (from : ℕ) (t
   pub memory-long : length memoryNow ≡ length memory
   pub steady : Steady argsNow u
   pub edition : u .edition ≡ t .edition
-  pub same : fed (reader p) (start (stateOf args memory t)) (drop from bytes) ≡ fed (reader p) (start (stateOf argsNow memoryNow u)) (drop i bytes)
+  pub same : fed (lender p) (start (lentOf args memory t)) (drop from bytes) ≡ fed (lender p) (start (lentOf argsNow memoryNow u)) (drop i bytes)
 
 pub pass-starts : (p : Platform) (args memory bytes : List ℕ) (from : ℕ) (t : Playing) → from ≤ length bytes → Steady args t → Passing p args memory bytes from t args memory t from
 pass-starts p args memory bytes from t l s = record { place = l; args-long = refl; memory-long = refl; steady = s; edition = refl; same = refl }
@@ -121,7 +123,7 @@ module _ {p : Platform} {args memory bytes : List ℕ} {from : ℕ} {t : Playing
     place = omega arith;
     steady = now .steady;
     edition = now .edition;
-    same = now .same ∙ fed-stopped (reader p) (sticky p) (start (stateOf argsNow memoryNow u)) (drop i bytes) (stopped-over argsNow memoryNow u e) ∙ rw (drop-length bytes);
+    same = now .same ∙ fed-stopped (lender p) (lender-sticky p) (start (lentOf argsNow memoryNow u)) (drop i bytes) (stopped-over argsNow memoryNow u e) ∙ rw (drop-length bytes);
   }
 
   pub pass-held : isOver (u .report) ≡ false → (n : ℕ) → n ≡ ripeAt (drop i bytes) (ripe goodFrame (drop i bytes)) → n ≡ 0 → Passes p args memory bytes from t argsNow memoryNow (record { playing = u; at = i })
@@ -129,7 +131,7 @@ module _ {p : Platform} {args memory bytes : List ℕ} {from : ℕ} {t : Playing
     place = now .place;
     steady = now .steady;
     edition = now .edition;
-    same = now .same ∙ fed-held (reader p) (sticky p) (stateOf argsNow memoryNow u) [] (drop i bytes) (going argsNow memoryNow u e) (ripe-not bytes i n d z);
+    same = now .same ∙ fed-held (lender p) (lender-sticky p) (lentOf argsNow memoryNow u) [] (drop i bytes) (going argsNow memoryNow u e) (ripe-not bytes i n d z);
   }
 
 module _ {journal inventory args memory bytes : List ℕ} {from : ℕ} {t : Playing} {argsNow memoryNow : List ℕ} {u : Playing} {i n : ℕ}
@@ -144,64 +146,48 @@ module _ {journal inventory args memory bytes : List ℕ} {from : ℕ} {t : Play
         memory-long = m ∙ now .memory-long;
         steady = q .steady;
         edition = q .edition ∙ now .edition;
-        same = now .same ∙ part-step bytes i n r (platformOf journal inventory t) (stateOf argsNow memoryNow u) (stateOf argsThen memoryThen v) (played .same);
+        same = now .same ∙ part-step bytes i n r (platformOf journal inventory t) (lentOf argsNow memoryNow u) (lentOf argsThen memoryThen v) (played .same);
       }
 
 -- ---- held bytes and the burst
 
 module _ (h bytes : List ℕ) where
-  front-due : (k : ℕ) → 4 ≤ length (h ++ take k bytes) → due goodFrame (h ++ take k bytes) ≡ due goodFrame (h ++ bytes)
-  front-due k l =
-      sym (due-front goodFrame (h ++ take k bytes) (drop k bytes) l)
-      ∙ ap (due goodFrame) (append-assoc h (take k bytes) (drop k bytes) ∙ ap (λ (l : List ℕ). h ++ l) (take-append-drop k bytes))
-
   under : ripe goodFrame h ≡ false → length h < due goodFrame (h ++ bytes)
   under raw = decide (leb 4 (length h))
       (λ e. omega (arith, due-front goodFrame h bytes (leb-true 4 (length h) e), short-raw goodFrame h raw))
       (λ e. omega (arith, due-least goodFrame (h ++ bytes), leb-false 4 (length h) e))
 
   module _ (k : ℕ) (q : List ℕ) (e : q ≡ h ++ take k bytes) where
-    held-all : (p : Platform) (s : State) → stopped s ≡ false → k ≡ length bytes → length h + k < due goodFrame (h ++ bytes) → fed (reader p) (at s h) bytes ≡ at s q
-    held-all p s g m l = fed-held (reader p) (sticky p) s h bytes g (omega (arith, length-append h bytes)) ∙ ap (at s) (sym (e ∙ ap (λ (l : List ℕ). h ++ l) (take-all k bytes (omega arith))))
+    held-all : (p : Platform) (s : Lent) → stopped (s .state) ≡ false → k ≡ length bytes → length h + k < due goodFrame (h ++ bytes) → fed (lender p) (at s h) bytes ≡ at s q
+    held-all p s g m l = fed-held (lender p) (lender-sticky p) s h bytes g (omega (arith, length-append h bytes)) ∙ ap (at s) (sym (e ∙ ap (λ (l : List ℕ). h ++ l) (take-all k bytes (omega arith))))
 
     module _ (m : k ≤ length bytes) (l : length h + k ≡ due goodFrame (h ++ bytes)) where
       long : length (h ++ take k bytes) ≡ due goodFrame (h ++ bytes)
       long = omega (arith, length-append h (take k bytes), length-take-le k bytes m)
 
       just : due goodFrame (h ++ take k bytes) ≡ length (h ++ take k bytes)
-      just = front-due k (omega (arith, long, due-least goodFrame (h ++ bytes))) ∙ sym long
+      just = front-due h bytes k (omega (arith, long, due-least goodFrame (h ++ bytes))) ∙ sym long
 
       piece-due : due goodFrame q ≡ length q
       piece-due = rw e just
 
-      held-done : (p : Platform) (s u : State) → ripe goodFrame h ≡ false → u ≡ step p s q → fed (reader p) (at s h) bytes ≡ fed (reader p) (start u) (drop k bytes)
+      held-done : (p : Platform) (s u : Lent) → ripe goodFrame h ≡ false → u ≡ lentStep p s q → fed (lender p) (at s h) bytes ≡ fed (lender p) (start u) (drop k bytes)
       held-done p s u raw f =
-          ap (fed (reader p) (at s h)) (sym (take-append-drop k bytes))
-          ∙ fed-one (reader p) (sticky p) s h (take k bytes) (drop k bytes) (omega (arith, under raw, length-take-le k bytes m)) just
+          ap (fed (lender p) (at s h)) (sym (take-append-drop k bytes))
+          ∙ fed-one (lender p) (lender-sticky p) s h (take k bytes) (drop k bytes) (omega (arith, under raw, length-take-le k bytes m)) just
           ∙ rw (f, e)
 
 -- ---- the held record finished
 
--- the front of the held record: bytes of the burst went behind the held ones, until there were four or the burst ended
-pub record Front (held : List ℕ) (w : Replay) (bytes one : List ℕ) (n : ℕ) : Type 0 where
+-- the held record has what is due to it, or all of the burst
+pub record Gathered (held : List ℕ) (w : Replay) (bytes two : List ℕ) (k : ℕ) : Type 0 where
   pub some : w .held ≡ 0 → ⊥
-  pub room : 4104 ≤ length one
-  pub few : n ≤ 4 - w .held
-  pub place : n ≤ length bytes
-  pub inside : w .held + n ≤ length one
-  pub all : w .held + n < 4 → n ≡ length bytes
-  pub front : take (w .held + n) one ≡ take (w .held) held ++ take n bytes
-
--- and all of it, until there was what is due or the burst ended
-pub record Gathered (held : List ℕ) (w : Replay) (bytes two : List ℕ) (n d m : ℕ) : Type 0 where
-  pub some : w .held ≡ 0 → ⊥
-  pub room : 4104 ≤ length two
-  pub is : d ≡ due goodFrame (take (w .held) held ++ bytes)
-  pub small : d ≤ 4104
-  pub within : w .held + n + m ≤ d
-  pub place : n + m ≤ length bytes
-  pub all : w .held + n + m < d → n + m ≡ length bytes
-  pub front : take (w .held + n + m) two ≡ take (w .held) held ++ take (n + m) bytes
+  pub inside : w .held + k ≤ length two
+  pub place : k ≤ length bytes
+  pub within : w .held + k ≤ due goodFrame (take (w .held) held ++ bytes)
+  pub all : w .held + k < due goodFrame (take (w .held) held ++ bytes) → k ≡ length bytes
+  pub whole : two ≡ completed held (w .held) bytes
+  pub front : take (w .held + k) two ≡ take (w .held) held ++ take k bytes
 
 least-of : (a b n : ℕ) → n ≡ min a b → (n ≤ a) × (n ≤ b)
 least-of a b n e = (omega arith, omega arith)
@@ -209,12 +195,15 @@ least-of a b n e = (omega arith, omega arith)
 rest-of : (a b n : ℕ) → n ≡ min a b → n < a → n ≡ b
 rest-of a b n e l = omega arith
 
+raw-small : (h : List ℕ) → ripe goodFrame h ≡ false → length h < 4104
+raw-small h e = omega (arith, short-raw goodFrame h e, due-most h)
+
 module _ {held args : List ℕ} {w : Replay} (ready : Ready held args w) where
   held-long : length (take (w .held) held) ≡ w .held
   held-long = length-take-le (w .held) held (ready .inside)
 
   held-few : w .held < 4104
-  held-few = omega (arith, held-long, short-raw goodFrame (take (w .held) held) (ready .raw), due-most (take (w .held) held))
+  held-few = omega (arith, held-long, raw-small (take (w .held) held) (ready .raw))
 
   pub still-going : (w .held ≡ 0 → ⊥) → isOver (w .playing .report) ≡ false
   still-going z = go (isOver (w .playing .report)) refl
@@ -223,124 +212,125 @@ module _ {held args : List ℕ} {w : Replay} (ready : Ready held args w) where
       go true e = absurd (z (ready .quiet e))
       go false e = refl
 
-  pub front-of : (bytes one : List ℕ) (n : ℕ) → (w .held ≡ 0 → ⊥) → length one ≡ length held → Filled held (w .held) bytes 0 4 one n → Front held w bytes one n
-  front-of bytes one n z l f =
-      let least = least-of (4 - w .held) (length bytes - 0) n (f .amount) in
+  abbrev Due : List ℕ → ℕ
+  Due bytes = due goodFrame (take (w .held) held ++ bytes)
+
+  pub gathered-of : (bytes two : List ℕ) (k : ℕ) → (w .held ≡ 0 → ⊥) → length two ≡ length held → Filled held (w .held) bytes 0 (Due bytes) two k → Gathered held w bytes two k
+  gathered-of bytes two k z l f =
+      let least = least-of (Due bytes - w .held) (length bytes - 0) k (f .amount) in
+      let less = under (take (w .held) held) bytes (ready .raw) in
       record {
         some = z;
-        room = omega (arith, ready .room);
-        few = least .0;
-        place = omega arith;
-        inside = omega (arith, least .0, held-few, ready .room);
-        all = λ k. omega (arith, rest-of (4 - w .held) (length bytes - 0) n (f .amount) (omega arith));
+        inside = omega (arith, least .0, less, held-long, due-most (take (w .held) held ++ bytes), ready .room);
+        place = omega (arith, least .1);
+        within = omega (arith, least .0, less, held-long);
+        all = λ q. omega (arith, rest-of (Due bytes - w .held) (length bytes - 0) k (f .amount) (omega arith));
+        whole = completed-some held (w .held) bytes z k two (omega (arith, f .amount)) (f .whole);
         front = f .front;
       }
 
-  module _ {bytes one : List ℕ} {n : ℕ} (f : Front held w bytes one n) where
-    front-long : length (take (w .held) held ++ take n bytes) ≡ w .held + n
-    front-long = omega (arith, length-append (take (w .held) held) (take n bytes), held-long, length-take-le n bytes (f .place))
+  module _ {bytes two : List ℕ} {k : ℕ} (g : Gathered held w bytes two k) (n : ℕ) (e : n ≡ ripeAt (take (w .held + k) two) (ripe goodFrame (take (w .held + k) two))) where
+    abbrev Record : List ℕ
+    Record = take (w .held + k) two
 
-    due-is : (d : ℕ) → 4 ≤ w .held + n → d ≡ due goodFrame one → d ≡ due goodFrame (take (w .held) held ++ bytes)
-    due-is d four e =
-        let l : 4 ≤ length (take (w .held + n) one) = rw (f .front) (omega (arith, front-long)) in
-        e ∙ ap (due goodFrame) (sym (take-append-drop (w .held + n) one)) ∙ due-front goodFrame (take (w .held + n) one) (drop (w .held + n) one) l
-        ∙ ap (due goodFrame) (f .front) ∙ front-due (take (w .held) held) bytes n (omega (arith, front-long))
+    record-long : length Record ≡ w .held + k
+    record-long = length-take-le (w .held + k) two (g .inside)
 
-    pub gathered-of : (two : List ℕ) (d m : ℕ) → 4 ≤ w .held + n → d ≡ due goodFrame one → length two ≡ length one → Filled one (w .held + n) bytes n d two m → Gathered held w bytes two n d m
-    gathered-of two d m four e l g =
-        let is = due-is d four e in
-        let least = least-of (d - (w .held + n)) (length bytes - n) m (g .amount) in
-        let most : w .held + n ≤ d = omega (arith, f .few, under (take (w .held) held) bytes (ready .raw), held-long, is, due-least goodFrame one) in
-        record {
-          some = f .some;
-          room = omega (arith, f .room);
-          is = is;
-          small = omega (arith, due-most one);
-          within = omega (arith, least .0, most);
-          place = omega (arith, least .1, f .place);
-          all = λ k. omega (arith, rest-of (d - (w .held + n)) (length bytes - n) m (g .amount) (omega arith), f .place);
-          front = g .front ∙ ap (λ (l : List ℕ). l ++ take m (drop n bytes)) (f .front) ∙ append-assoc (take (w .held) held) (take n bytes) (take m (drop n bytes))
-              ∙ ap (λ (l : List ℕ). take (w .held) held ++ l) (sym (take-add n m bytes));
-        }
+    -- all of it is there, or not
+    sum : (n ≡ 0 → ⊥) → length (take (w .held) held) + k ≡ Due bytes
+    sum z =
+        let r = ripe-is Record 0 n (omega arith) e z in
+        let l : 4 ≤ length (take (w .held) held ++ take k bytes) = rw (← g .front) (omega (arith, r .some, r .fits)) in
+        omega (arith, r .is, r .fits, record-long, held-long, g .within, ap (due goodFrame) (g .front), front-due (take (w .held) held) bytes k l)
 
-  module _ {bytes two : List ℕ} {n d m : ℕ} (g : Gathered held w bytes two n d m) (l : d ≤ w .held + n + m) where
-    done : take d two ≡ take (w .held) held ++ take (n + m) bytes
-    done = let k : d ≡ w .held + n + m = omega (arith, g .within) in ap (λ (x : ℕ). take x two) k ∙ g .front
+    cut-due : length (take (w .held) held) + k ≡ Due bytes → due goodFrame Record ≡ length Record
+    cut-due l = piece-due (take (w .held) held) bytes k Record (g .front) (g .place) l
 
-    sum : length (take (w .held) held) + (n + m) ≡ due goodFrame (take (w .held) held ++ bytes)
-    sum = omega (arith, held-long, g .within, g .is)
+    less : n ≡ 0 → w .held + k < Due bytes
+    less z = decide (leb (Due bytes) (w .held + k))
+        (λ t. absurd (omega (arith, ripe-not Record 0 n e z, cut-due (omega (arith, leb-true (Due bytes) (w .held + k) t, g .within, held-long)))))
+        (λ t. leb-false (Due bytes) (w .held + k) t)
 
-    record-long : length (take d two) ≡ d
-    record-long = length-take-le d two (omega (arith, g .small, g .room))
-
-    pub gathered-playable : Playable args (w .playing) (take d two)
-    gathered-playable = record {
+    pub gathered-playable : (n ≡ 0 → ⊥) → Playable args (w .playing) Record
+    gathered-playable z = record {
       steady = ready .steady;
       going = still-going (g .some);
-      four = omega (arith, record-long, g .is, due-least goodFrame (take (w .held) held ++ bytes));
-      cut = piece-due (take (w .held) held) bytes (n + m) (take d two) done (g .place) sum;
+      four = omega (arith, record-long, sum z, held-long, due-least goodFrame (take (w .held) held ++ bytes));
+      cut = cut-due (sum z);
     }
 
   -- what a finish comes to
 
   module _ (p : Platform) (memory bytes : List ℕ) where
     pub finish-none : w .held ≡ 0 → Finishes p held args memory w bytes held args memory (record { playing = w .playing; held = 0; at = 0 })
-    finish-none z = record { place = omega arith; inside = omega arith; steady = ready .steady; edition = refl; still = λ l. absurd (omega arith); past = λ _. rw z }
+    finish-none z = record { place = omega arith; inside = omega arith; whole = sym (completed-none held (w .held) bytes z); steady = ready .steady; edition = refl; still = λ l. absurd (omega arith); past = λ _. rw z }
 
-    pub finish-short : {one : List ℕ} {n : ℕ} → Front held w bytes one n → w .held + n < 4 → Finishes p held args memory w bytes one args memory (record { playing = w .playing; held = w .held + n; at = n })
-    finish-short {one} {n} f l = record {
-      place = f .place;
-      inside = f .inside;
-      steady = ready .steady;
-      edition = refl;
-      still = λ _. held-all (take (w .held) held) bytes n _ (f .front) p (stateOf args memory (w .playing)) (going args memory (w .playing) (still-going (f .some))) (f .all l) (omega (arith, held-long, due-least goodFrame (take (w .held) held ++ bytes)));
-      past = λ e. absurd (f .some (omega arith));
-    }
-
-    module _ {two : List ℕ} {n d m : ℕ} (g : Gathered held w bytes two n d m) where
-      pub finish-inside : w .held + n + m < d → Finishes p held args memory w bytes two args memory (record { playing = w .playing; held = w .held + n + m; at = n + m })
-      finish-inside l = record {
+    module _ {two : List ℕ} {k : ℕ} (g : Gathered held w bytes two k) (n : ℕ) (e : n ≡ ripeAt (take (w .held + k) two) (ripe goodFrame (take (w .held + k) two))) where
+      pub finish-inside : n ≡ 0 → Finishes p held args memory w bytes two args memory (record { playing = w .playing; held = w .held + k; at = k })
+      finish-inside z = record {
         place = g .place;
-        inside = omega (arith, g .within, g .small, g .room);
+        inside = g .inside;
+        whole = g .whole;
         steady = ready .steady;
         edition = refl;
-        still = λ _. held-all (take (w .held) held) bytes (n + m) _ (g .front) p (stateOf args memory (w .playing)) (going args memory (w .playing) (still-going (g .some))) (g .all l) (omega (arith, held-long, g .is));
+        still = λ _. held-all (take (w .held) held) bytes k _ (g .front) p (lentOf args memory (w .playing)) (going args memory (w .playing) (still-going (g .some))) (g .all (less g n e z)) (omega (arith, held-long, less g n e z));
         past = λ e. absurd (g .some (omega arith));
       }
 
-      pub finish-done : d ≤ w .held + n + m → (argsThen memoryThen : List ℕ) (u : Playing) → Plays p args memory (w .playing) (take d two) argsThen memoryThen u → Finishes p held args memory w bytes two argsThen memoryThen (record { playing = u; held = 0; at = n + m })
-      finish-done l argsThen memoryThen u q = record {
+      pub finish-done : (n ≡ 0 → ⊥) → (argsThen memoryThen : List ℕ) (u : Playing) → Plays p args memory (w .playing) (take (w .held + k) two) argsThen memoryThen u → Finishes p held args memory w bytes two argsThen memoryThen (record { playing = u; held = 0; at = k })
+      finish-done z argsThen memoryThen u q = record {
         place = g .place;
         inside = omega arith;
+        whole = g .whole;
         steady = q .steady;
         edition = q .edition;
         still = λ l. absurd (omega arith);
-        past = λ _. held-done (take (w .held) held) bytes (n + m) (take d two) (done g l) (g .place) (sum g l) p (stateOf args memory (w .playing)) (stateOf argsThen memoryThen u) (ready .raw) (q .same);
+        past = λ _. held-done (take (w .held) held) bytes k (take (w .held + k) two) (g .front) (g .place) (sum g n e z) p (lentOf args memory (w .playing)) (lentOf argsThen memoryThen u) (ready .raw) (q .same);
       }
 
     -- ---- the burst
 
-    abbrev Now : Standing State
-    Now = fed (reader p) (standingOf held args memory w) bytes
+    abbrev Now : Standing Lent
+    Now = fed (lender p) (lentStandingOf held args memory w) bytes
 
-    ready-after : (heldThen argsThen memoryThen : List ℕ) (r : Replay) → length heldThen ≡ length held → Steady argsThen (r .playing) → r .held ≤ length heldThen → standingOf heldThen argsThen memoryThen r ≡ Now → Ready heldThen argsThen r
-    ready-after heldThen argsThen memoryThen r k s l e = record {
-      steady = s;
-      room = omega (arith, ready .room);
-      inside = l;
-      raw = ap (λ (x : Standing State). ripe goodFrame (x .held)) e ∙ fed-raw (reader p) (standingOf held args memory w) bytes (ready .raw);
-      quiet = λ q.
-          let over : stopped (Now .state) ≡ true = ap (λ (x : Standing State). stopped (x .state)) (sym e) ∙ stopped-over argsThen memoryThen (r .playing) q in
-          omega (arith, length-take-le (r .held) heldThen l, ap (λ (x : List ℕ). length x) (ap (λ (x : Standing State). x .held) e ∙ fed-quiet (reader p) (standingOf held args memory w) bytes over));
-    }
+    same-then : (x : Standing Lent) → x ≡ Now → at (x .state .state) (x .held) ≡ fed (reader p) (standingOf held args memory w) bytes
+    same-then x e = ap (λ (y : Standing Lent). at (y .state .state) (y .held)) e ∙ sym (fed-along (lender p) (reader p) (λ (y : Lent). y .state) refl (state-step p) (λ _. refl) (lentStandingOf held args memory w) bytes)
+
+    raw-then : (h : List ℕ) → h ≡ Now .held → ripe goodFrame h ≡ false
+    raw-then h e = ap (ripe goodFrame) e ∙ fed-raw (lender p) (lentStandingOf held args memory w) bytes (ready .raw)
+
+    over-then : isOver (w .playing .report) ≡ true → Now ≡ start (lentOf args memory (w .playing))
+    over-then e = fed-stopped (lender p) (lender-sticky p) (lentStandingOf held args memory w) bytes (stopped-over args memory (w .playing) e)
+
+    feeds : (heldThen argsThen memoryThen : List ℕ) (r : Replay) → length heldThen ≡ length held → Steady argsThen (r .playing) → r .held ≤ length heldThen → r .playing .edition ≡ w .playing .edition
+        → heldThen ≡ sets (completed held (w .held) bytes) 0 (take (r .held) heldThen) → lentStandingOf heldThen argsThen memoryThen r ≡ Now → Feeds p held args memory w bytes heldThen argsThen memoryThen r
+    feeds heldThen argsThen memoryThen r k s l d o e =
+        let held-is : take (r .held) heldThen ≡ Now .held = ap (λ (x : Standing Lent). x .held) e in
+        let raw = raw-then (take (r .held) heldThen) held-is in
+        record {
+          same = same-then _ e;
+          lent = ap (λ (x : Standing Lent). x .state .args) e;
+          whole = o ∙ ap (λ (x : Standing State). sets (completed held (w .held) bytes) 0 (x .held)) (same-then _ e);
+          behind = ap (drop 4104) o ∙ drop-sets (take (r .held) heldThen) (completed held (w .held) bytes) 0 4104 (omega (arith, raw-small (take (r .held) heldThen) raw)) ∙ completed-behind held (w .held) bytes held-few;
+          kept = λ q.
+              let stop = e ∙ over-then q in
+              (o ∙ ap (λ (x : Standing Lent). sets (completed held (w .held) bytes) 0 (x .held)) stop ∙ completed-none held (w .held) bytes (ready .quiet q), ap (λ (x : Standing Lent). x .state .args) stop);
+          ready = record {
+            steady = s;
+            room = omega (arith, ready .room);
+            inside = l;
+            raw = raw;
+            quiet = λ q.
+                let over : stopped (Now .state .state) ≡ true = ap (λ (x : Standing Lent). stopped (x .state .state)) (sym e) ∙ stopped-over argsThen memoryThen (r .playing) q in
+                omega (arith, length-take-le (r .held) heldThen l, ap (λ (x : List ℕ). length x) (held-is ∙ fed-quiet (lender p) (lentStandingOf held args memory w) bytes over));
+          };
+          edition = d;
+        }
 
     pub feed-still : (one argsThen memoryThen : List ℕ) (f : Finished) → length one ≡ length held → Finishes p held args memory w bytes one argsThen memoryThen f → 0 < f .held
         → Feeds p held args memory w bytes one argsThen memoryThen (record { playing = f .playing; held = f .held })
-    feed-still one argsThen memoryThen f k d l = record {
-      same = sym (d .still l);
-      ready = ready-after one argsThen memoryThen (record { playing = f .playing; held = f .held }) k (d .steady) (d .inside) (sym (d .still l));
-      edition = d .edition;
-    }
+    feed-still one argsThen memoryThen f k d l = feeds one argsThen memoryThen (record { playing = f .playing; held = f .held }) k (d .steady) (d .inside) (d .edition)
+        (sets-back one (f .held) (d .inside) ∙ ap (λ (x : List ℕ). sets x 0 (take (f .held) one)) (d .whole)) (sym (d .still l))
 
   module _ (journal inventory memory bytes : List ℕ) where
     abbrev Here : Platform
@@ -351,21 +341,18 @@ module _ {held args : List ℕ} {w : Replay} (ready : Ready held args w) where
       passed : Passes Here argsThen memoryThen bytes (f .at) (f .playing) argsLast memoryLast r
       passed = over-edition (λ (p : Platform). Passes p argsThen memoryThen bytes (f .at) (f .playing) argsLast memoryLast r) journal inventory (f .playing .edition) (w .playing .edition) (d .edition) q
 
-      over : fed (reader Here) (standingOf held args memory w) bytes ≡ at (stateOf argsLast memoryLast (r .playing)) (drop (r .at) bytes)
+      over : fed (lender Here) (lentStandingOf held args memory w) bytes ≡ at (lentOf argsLast memoryLast (r .playing)) (drop (r .at) bytes)
       over = d .past z ∙ passed .same
 
       rest-small : length bytes - r .at < 4104
       rest-small =
-          let raw : ripe goodFrame (drop (r .at) bytes) ≡ false = ap (λ (x : Standing State). ripe goodFrame (x .held)) (sym over) ∙ fed-raw (reader Here) (standingOf held args memory w) bytes (ready .raw) in
-          omega (arith, short-raw goodFrame (drop (r .at) bytes) raw, due-most (drop (r .at) bytes), length-drop (r .at) bytes)
+          let raw = raw-then Here memory bytes (drop (r .at) bytes) (ap (λ (x : Standing Lent). x .held) (sym over)) in
+          omega (arith, raw-small (drop (r .at) bytes) raw, length-drop (r .at) bytes)
 
       pub feed-past : (two : List ℕ) (n : ℕ) → length two ≡ length one → Filled one 0 bytes (r .at) (length one) two n → Feeds Here held args memory w bytes two argsLast memoryLast (record { playing = r .playing; held = n })
       feed-past two n s g =
           let m : n ≡ length bytes - r .at = omega (arith, g .amount, rest-small, ready .room) in
-          let t : take n two ≡ drop (r .at) bytes = rw zero-add at (g .front) ∙ take-all n (drop (r .at) bytes) (omega (arith, length-drop (r .at) bytes)) in
-          let e : standingOf two argsLast memoryLast (record { playing = r .playing; held = n }) ≡ fed (reader Here) (standingOf held args memory w) bytes = ap (at (stateOf argsLast memoryLast (r .playing))) t ∙ sym over in
-          record {
-            same = e;
-            ready = ready-after Here memory bytes two argsLast memoryLast (record { playing = r .playing; held = n }) (s ∙ k) (q .steady) (omega (arith, rest-small, ready .room)) e;
-            edition = q .edition ∙ d .edition;
-          }
+          let front : take n two ≡ take n (drop (r .at) bytes) = rw zero-add at (g .front) in
+          let t : take n two ≡ drop (r .at) bytes = front ∙ take-all n (drop (r .at) bytes) (omega (arith, length-drop (r .at) bytes)) in
+          feeds Here memory bytes two argsLast memoryLast (record { playing = r .playing; held = n }) (s ∙ k) (q .steady) (omega (arith, rest-small, ready .room)) (q .edition ∙ d .edition)
+          (g .whole ∙ ap (λ (x : List ℕ). sets x 0 (take n (drop (r .at) bytes))) (d .whole) ∙ ap (sets (completed held (w .held) bytes) 0) (sym front)) (ap (at (lentOf argsLast memoryLast (r .playing))) t ∙ sym over)

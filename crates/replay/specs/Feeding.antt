@@ -1,12 +1,13 @@
 -- Where the code of a replay stands between bursts: its struct by value, memory, and two lent buffers, one with the bytes of an unfinished record at its
--- front, one with the body of the 32 that waits. What they have behind these is left free.
-use Prim.Native.Nat.{ℕ, _+_, _≤_}
+-- front, one with the body of the 32 that waits. Both are told byte for byte.
+use Prim.Native.Nat.{ℕ, _+_, _-_, _≤_}
 use mathlib.Core.Path.{_≡_}
 use mathlib.Core.Bool.{Bool, true, false, cond}
-use mathlib.Core.List.{List}
+use mathlib.Core.List.{List, _++_}
 use lib.Dec.{eqb}
-use lib.ListN.{length, take}
-use Rattle.records.specs.Cutting.{ripe, Standing, fed}
+use lib.ListN.{length, take, drop}
+use lib.Seq.{sets}
+use Rattle.records.specs.Cutting.{due, ripe, Standing, fed}
 use Rattle.inventory.specs.declared.edition.Edition.{Edition}
 use Rattle.dump.specs.Registration.{noRegistration}
 use Rattle.calls.specs.ReadingRecord.{noReading}
@@ -15,13 +16,18 @@ use Rattle.trace.specs.declared.report.Report.the-variants.{Agreed, Differs, Ma
 use Rattle.replay.specs.declared.feeding.Replay.{Replay}
 use Rattle.trace.specs.Trace.{goodFrame}
 use Rattle.trace.specs.Playing.{Platform, State, isOver, reader}
-use Rattle.playing.specs.Played.{stateOf, Steady}
+use Rattle.playing.specs.Lent.{Lent, lender}
+use Rattle.playing.specs.Played.{stateOf, lentOf, Steady}
 
-abbrev pub at : State → List ℕ → Standing State
-at s held = record { state = s; held = held }
+module _ {S : Type 0} where
+  abbrev pub at : S → List ℕ → Standing S
+  at s held = record { state = s; held = held }
 
 abbrev pub standingOf : List ℕ → List ℕ → List ℕ → Replay → Standing State
 standingOf held args memory w = at (stateOf args memory (w .playing)) (take (w .held) held)
+
+abbrev pub lentStandingOf : List ℕ → List ℕ → List ℕ → Replay → Standing Lent
+lentStandingOf held args memory w = at (lentOf args memory (w .playing)) (take (w .held) held)
 
 -- What a start has and every burst leaves: a steady replay, and held bytes with room for any record, that make none yet and are none once it has stopped.
 pub record Ready (held args : List ℕ) (w : Replay) : Type 0 where
@@ -31,9 +37,18 @@ pub record Ready (held args : List ℕ) (w : Replay) : Type 0 where
   pub raw : ripe goodFrame (take (w .held) held) ≡ false
   pub quiet : isOver (w .playing .report) ≡ true → w .held ≡ 0
 
--- A burst is fed: the replay stands as the reader of bursts says, and ready for the next.
+-- The buffer of held bytes once a record that is held, if one is, has what is due to it, or all of the burst.
+unfoldable pub completed : List ℕ → ℕ → List ℕ → List ℕ
+completed held n bytes = cond (eqb n 0) held (sets held n (take (due goodFrame (take n held ++ bytes) - n) bytes))
+
+-- A burst is fed: the replay stands as the reader of bursts says, with every byte of the two lent buffers, and ready for the next. The buffer of held
+-- bytes has what is held now over the completed record; its bytes past 4,104 are never touched, and after a stop nothing is.
 pub record Feeds (p : Platform) (held args memory : List ℕ) (w : Replay) (bytes heldThen argsThen memoryThen : List ℕ) (r : Replay) : Type 0 where
   pub same : standingOf heldThen argsThen memoryThen r ≡ fed (reader p) (standingOf held args memory w) bytes
+  pub lent : argsThen ≡ fed (lender p) (lentStandingOf held args memory w) bytes .state .args
+  pub whole : heldThen ≡ sets (completed held (w .held) bytes) 0 (fed (reader p) (standingOf held args memory w) bytes .held)
+  pub behind : drop 4104 heldThen ≡ drop 4104 held
+  pub kept : isOver (w .playing .report) ≡ true → (heldThen ≡ held) × (argsThen ≡ args)
   pub ready : Ready heldThen argsThen r
   pub edition : r .playing .edition ≡ w .playing .edition
 

@@ -2,12 +2,12 @@
 ghost use mathlib.Core.Path.{_≡_};
 ghost use Prim.Native.Nat.{_≤_};
 ghost use lib.ListN.{length};
-ghost use Rattle.replay.specs.Ending.{ReplayClaims};
+ghost use Rattle.replay.specs.Claims.{ReplayClaims};
 ghost use Rattle.playing.specs.Played.{platformOf, Steady};
 ghost use Rattle.replay.specs.Feeding.{Ready, Feeds, startOf, endOf};
 ghost use Rattle.replay.specs.Terms.{Finishes, Passes};
-use crate::filling::due_at;
 use crate::filling::fill;
+use crate::filling::gather;
 use crate::filling::ripe_at;
 use inventory::Edition;
 use playing::Playing;
@@ -51,7 +51,7 @@ pub fn start(edition: Edition) -> Replay
     Replay { playing, held: 0 }
 }
 
-// The held record, if there is one: first its front, which tells how many bytes are due, then those.
+// The held record, if there is one: it is played once it has all that is due, else it stays held.
 fn finish(
     held: &mut [u8],
     args: &mut [u8],
@@ -73,27 +73,16 @@ fn finish(
             at: 0,
         };
     }
-    let front = fill(held, had, bytes, 0, 4);
-    let four = had + front;
-    if four < 4 {
-        return Finished {
-            playing,
-            held: four,
-            at: front,
-        };
-    }
-    let due = due_at(held, 0);
-    let more = fill(held, four, bytes, front, due);
-    let all = four + more;
-    let at = front + more;
-    if all < due {
+    let at = gather(held, had, bytes);
+    let all = had + at;
+    if ripe_at(&held[..all], 0) == 0 {
         return Finished {
             playing,
             held: all,
             at,
         };
     }
-    let next = play(args, memory, journal, inventory, playing, &held[..due]);
+    let next = play(args, memory, journal, inventory, playing, &held[..all]);
     Finished {
         playing: next,
         held: 0,

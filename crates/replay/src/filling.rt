@@ -2,7 +2,8 @@
 ghost use mathlib.Core.Path.{_≡_};
 ghost use mathlib.Core.Bool.{cond};
 ghost use Prim.Native.Nat.{_+_, _-_, _≤_, min};
-ghost use lib.ListN.{length, drop};
+ghost use mathlib.Core.List.{_++_};
+ghost use lib.ListN.{length, take, drop};
 ghost use Rattle.records.specs.Cutting.{due, ripe};
 ghost use Rattle.trace.specs.Trace.{goodFrame};
 ghost use Rattle.replay.specs.Terms.{Filled};
@@ -52,4 +53,19 @@ pub fn fill(buffer: &mut [u8], held: usize, bytes: &[u8], at: usize, upto: usize
     let n = missing(held, upto, bytes.len() - at);
     words::store_bytes(buffer, held, bytes, at, n);
     n
+}
+
+// Bytes of a burst go behind the held ones of a record: first its front, which tells how many are due, then those. Gives how many went.
+pub fn gather(buffer: &mut [u8], held: usize, bytes: &[u8]) -> usize
+    requires { ⌜ (held ≤ length (now buffer)) × (4104 ≤ length (now buffer)) ⌝ }
+    ensures { λ r. ⌜ Filled (now (buffer .entry)) held (now (bytes .entry)) 0 (due goodFrame (take held (now (buffer .entry)) ++ now (bytes .entry))) (now (buffer .exit)) r ⌝ }
+{
+    let front = fill(buffer, held, bytes, 0, 4);
+    let four = held + front;
+    if four < 4 {
+        return front;
+    }
+    let n = due_at(buffer, 0);
+    let more = fill(buffer, four, bytes, front, n);
+    front + more
 }

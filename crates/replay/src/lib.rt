@@ -6,3 +6,4 @@ pub use feeding::Replay;
 pub use feeding::end;
 pub use feeding::feed;
 pub use feeding::start;
+pub use filling::ripe_at;

@@ -19,9 +19,9 @@ use Rattle.records.proofs.Steps.{records-step, bytes-take}
 use Rattle.records.proofs.Feeding.{run-stopped}
 use Rattle.trace.specs.declared.report.Report.{Report}
 use Rattle.trace.specs.declared.report.Report.the-variants.{Agreed, Differs}
-use Rattle.trace.specs.Trace.{isBefore, isAfter, isSetting, bodyOf, goodFrame, isGood, isSettable, addressIn, bytesIn}
+use Rattle.trace.specs.Trace.{isBefore, isAfter, isSetting, bodyOf, isGood, isSettable, addressIn, bytesIn}
 use Rattle.trace.specs.Playing.{Platform, none, call, State, isOver, agreed, stopped, faulted, kept, setting, calling, step, concluded, reader, replayOf}
-use Rattle.trace.proofs.Reader.{frame-bounds, sticky, faulted-stopped, ways}
+use Rattle.trace.proofs.Reader.{framed, body-short, sticky, faulted-stopped, ways}
 use Rattle.trace.specs.Recording.{leBytes, recordOf, Deed, sets-memory, makes-call, Machine, fresh, leftBy, after, traceOf, recordsIn, callsIn, Fits, AllFit, AgreedIsOurs}
 use Rattle.trace.proofs.Recording.{at, size-kept, none-left}
 use Rattle.trace.proofs.First.{compared-ways}
@@ -49,22 +49,12 @@ bytes-drop n l bytes i = rw (getD-drop n l i 0) (bytes (n + i))
 -- ---- a record of bytes
 
 module _ (r : List ℕ) (bytes : Bytes r) (good : isGood r ≡ true) where
-  framed : (2 ≤ lengthOf r) × (length r ≡ lengthOf r + 2)
-  unfolding isGood whole
-  framed =
-      let w = and-left _ (goodFrame (lengthOf r) (kindOf r)) good in
-      (leb-true 2 (lengthOf r) (and-left _ _ w), eqb-true (length r) (lengthOf r + 2) (and-right (leb 2 (lengthOf r)) _ w))
-
-  pub body-short : length (bodyOf r) ≤ 4100
-  unfolding isGood
-  body-short = omega (arith, length-drop 4 r, framed .1, frame-bounds (lengthOf r) (kindOf r) (and-right (whole r) _ good) .1)
-
   pub record-back : recordOf (kindOf r) (bodyOf r) ≡ r
   unfolding recordOf lengthOf kindOf
   record-back =
-      let size : length (bodyOf r) + 2 ≡ le 2 r 0 = omega (arith, length-drop 4 r, framed) in
-      let first : leBytes 2 (length (bodyOf r) + 2) ≡ take 2 r = ap (leBytes 2) size ∙ le-back 2 r bytes (omega (arith, framed)) in
-      let second : leBytes 2 (le 2 r 2) ≡ take 2 (drop 2 r) = ap (leBytes 2) (sym (le-drop 2 2 r 0)) ∙ le-back 2 (drop 2 r) (bytes-drop 2 r bytes) (omega (arith, framed, length-drop 2 r)) in
+      let size : length (bodyOf r) + 2 ≡ le 2 r 0 = omega (arith, length-drop 4 r, framed r good) in
+      let first : leBytes 2 (length (bodyOf r) + 2) ≡ take 2 r = ap (leBytes 2) size ∙ le-back 2 r bytes (omega (arith, framed r good)) in
+      let second : leBytes 2 (le 2 r 2) ≡ take 2 (drop 2 r) = ap (leBytes 2) (sym (le-drop 2 2 r 0)) ∙ le-back 2 (drop 2 r) (bytes-drop 2 r bytes) (omega (arith, framed r good, length-drop 2 r)) in
       ap₂ _++_ first (ap (λ (l : List ℕ). l ++ drop 4 r) second ∙ ap (λ (l : List ℕ). take 2 (drop 2 r) ++ l) (sym (drop-drop 2 2 r)) ∙ take-append-drop 2 (drop 2 r)) ∙ take-append-drop 2 r
 
 -- the body of a 34
@@ -187,7 +177,7 @@ module _ (p : Platform) (calls : ℕ) where
 
         on-call : n + 2 ≤ 4294967295 → isGood r ≡ true → kindOf r ≡ 33 → Goes (calling p (at p (n + 1) c (call args) s) args (bodyOf r))
         unfolding calling
-        on-call few good kind = compared-ways c (bodyOf r) ours (λ (x : Report). Goes (then (n + 1 + 1) x)) (agrees few good kind) (λ j. no-fault (then (n + 1 + 1) (Differs (c + 1) j)) (over-is (n + 1 + 1) (c + 1) j))
+        on-call few good kind = compared-ways c (bodyOf r) ours (λ (x : Report). Goes (then (n + 1 + 1) x)) (agrees few good kind) (λ j _. no-fault (then (n + 1 + 1) (Differs (c + 1) j)) (over-is (n + 1 + 1) (c + 1) j))
 
         answered : Ends p calls (at p (n + 1) c (call args) s) (records b) → Result
         unfolding run stopped
@@ -226,7 +216,7 @@ module _ (p : Platform) (calls : ℕ) where
       -- a 32: its 33 is behind it
       on-before : isGood r₁ ≡ true → kindOf r₁ ≡ 32 → Goes₁ (at p (n + 1) c (call (bodyOf r₁)) s)
       on-before good kind e =
-          let short = body-short r₁ (first-bytes p calls b some bytes) good in
+          let short = body-short r₁ good in
           let made : b ≡ recordOf 32 (bodyOf r₁) ++ behind₁ = split p calls b some bytes good ∙ rw kind in
           let there = ⊎-elim (λ z. absurd (waits-not p calls (n + 1) c (bodyOf r₁) s (none-behind behind₁ (at p (n + 1) c (call (bodyOf r₁)) s) z e))) (λ l. answered (bodyOf r₁) short behind₁ less behind-bytes l e) (some-or-none behind₁) in
           record { deeds = there .deeds; fit = there .fit; few = there .few; counted = there .counted; made = made ∙ there .made }
@@ -238,7 +228,7 @@ module _ (p : Platform) (calls : ℕ) where
           let bytes-of = bytes-drop 4 r₁ (first-bytes p calls b some bytes) in
           let low = leb-true 5 (length body) (and-left _ _ t) in
           let high = leb-true (addressIn body + (length body - 4)) (length (s .memory)) (and-right (leb 5 (length body)) _ t) in
-          (omega (arith, le-below body bytes-of 4 0), omega (arith, length-drop 4 body), omega (arith, length-drop 4 body, body-short r₁ (first-bytes p calls b some bytes) good), omega (arith, length-drop 4 body))
+          (omega (arith, le-below body bytes-of 4 0), omega (arith, length-drop 4 body), omega (arith, length-drop 4 body, body-short r₁ good), omega (arith, length-drop 4 body))
 
       set : n + 1 ≤ 4294967295 → isGood r₁ ≡ true → kindOf r₁ ≡ 34 → isSettable (s .memory) body ≡ true → Goes₁ (at p (n + 1) c none (after p s (sets-memory (addressIn body) (bytesIn body))))
       set few good kind t e =

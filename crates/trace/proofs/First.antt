@@ -58,13 +58,13 @@ differ-at recorded ours e = record {
 }
 
 -- the ways of a comparison
-pub compared-ways : (c : ℕ) (recorded ours : List ℕ) (P : Report → Type 0) → (recorded ≡ ours → P (Agreed (c + 1))) → ((k : ℕ) → P (Differs (c + 1) k)) → P (compared c recorded ours)
+pub compared-ways : (c : ℕ) (recorded ours : List ℕ) (P : Report → Type 0) → (recorded ≡ ours → P (Agreed (c + 1))) → ((k : ℕ) → DifferAt recorded ours k → P (Differs (c + 1) k)) → P (compared c recorded ours)
 unfolding compared
 compared-ways c recorded ours P same other =
     let n = common recorded ours in
     choose (eqb n (length recorded) && eqb n (length ours)) P
     (λ t. same (all-common recorded ours (eqb-true n (length recorded) (and-left _ _ t)) (eqb-true n (length ours) (and-right (eqb n (length recorded)) _ t))))
-    (λ _. other n)
+    (λ t. other n (differ-at recorded ours t))
 
 -- ---- one record
 
@@ -111,19 +111,17 @@ module _ (p : Platform) (n k : ℕ) where
     by-fault e = absurd (not-malformed e)
 
     by-call : (args : List ℕ) → s .waiting ≡ call args → isGood r ≡ true → kindOf r ≡ 33 → Gone (calling p s args (bodyOf r))
-    unfolding calling compared
+    unfolding calling
     by-call args w g a =
-        let ours = called p s args .args in
-        let same = common (bodyOf r) ours in
-        choose (eqb same (length (bodyOf r)) && eqb same (length ours)) (λ (x : Report). x ≡ Differs n k → Astray p s r c n k) {x = Agreed (agreed (s .report) + 1)} {y = Differs (agreed (s .report) + 1) same}
+        compared-ways (agreed (s .report)) (bodyOf r) (called p s args .args) (λ (x : Report). x ≡ Differs n k → Astray p s r c n k)
         (λ _ e. absurd (not-agreed e))
-        (λ t e. record {
+        (λ same d e. record {
           args = args;
           waits = w;
           good = g;
           after = a;
           counted = sym (ap number-in e) ∙ ap (λ (x : Report). agreed x + 1) going;
-          differ = rw (← ap offset-in e) (differ-at (bodyOf r) ours t);
+          differ = rw (← ap offset-in e) d;
         })
 
     by-setting : Gone (setting s (bodyOf r))
@@ -191,7 +189,7 @@ module _ (p : Platform) (n k : ℕ) where
       by more (Differs a b) f = here (as-it-was (over-by (step p s r) (Differs a b) f))
       by more (Malformed a) f = absurd (not-malformed (sym f ∙ as-it-was (over-by (step p s r) (Malformed a) f)))
 
-fault-not : (s : State) {n k : ℕ} → faulted s .report ≡ Differs n k → ⊥
+pub fault-not : (s : State) {n k : ℕ} → faulted s .report ≡ Differs n k → ⊥
 unfolding faulted
 fault-not s e = not-malformed e
 

@@ -1,6 +1,8 @@
 pub mod Reader
-pub mod Recording
 pub mod First
+pub mod Recording
 pub mod TraceReadings
+pub mod SessionReadings
 pub mod Converse
+pub mod Came
 pub mod Claims

@@ -5,18 +5,30 @@ use mathlib.Core.List.{List}
 use Prim.Native.Nat.{ℕ, _+_, _-_, _≤_}
 use native.Mathlib.Omega.{arith}
 use lib.Dec.{leb}
-use borrow.Author.Tests.{leb-true}
+use lib.ListN.{length, length-drop}
+use borrow.Author.Tests.{leb-true, eqb-true}
 use Rattle.words.proofs.Choice.{choose, decide, and-left, and-right}
-use Rattle.records.specs.Records.{lengthOf, kindOf}
+use Rattle.records.specs.Records.{lengthOf, kindOf, whole}
 use Rattle.records.specs.Cutting.{due, Sticky, Stops, Alike, fair}
 use Rattle.trace.specs.Trace.{bodyOf, goodFrame, isGood}
-use Rattle.trace.specs.Playing.{Platform, State, stopped, faulted, played, step, reader}
+use Rattle.trace.specs.Playing.{Platform, State, stopped, faulted, played, step, concluded, reader}
 
 -- ---- lengths and kinds
 
 pub frame-bounds : (length kind : ℕ) → goodFrame length kind ≡ true → (2 ≤ length) × (length ≤ 4102)
 unfolding goodFrame
 frame-bounds length kind e = let front = and-left _ (leb 32 kind && leb kind 34) e in (leb-true 2 length (and-left _ _ front), leb-true length 4102 (and-right (leb 2 length) _ front))
+
+module _ (r : List ℕ) (good : isGood r ≡ true) where
+  pub framed : (2 ≤ lengthOf r) × (length r ≡ lengthOf r + 2)
+  unfolding isGood whole
+  framed =
+      let w = and-left _ (goodFrame (lengthOf r) (kindOf r)) good in
+      (leb-true 2 (lengthOf r) (and-left _ _ w), eqb-true (length r) (lengthOf r + 2) (and-right (leb 2 (lengthOf r)) _ w))
+
+  pub body-short : length (bodyOf r) ≤ 4100
+  unfolding isGood
+  body-short = omega (arith, length-drop 4 r, framed .1, frame-bounds (lengthOf r) (kindOf r) (and-right (whole r) _ good) .1)
 
 -- no record is longer than the buffer that holds it
 pub due-most : (r : List ℕ) → due goodFrame r ≤ 4104
@@ -32,6 +44,10 @@ due-most r = go (goodFrame (lengthOf r) (kindOf r)) refl
 pub faulted-stopped : (s : State) → stopped (faulted s) ≡ true
 unfolding stopped faulted
 faulted-stopped s = refl
+
+pub concluded-stopped : (s : State) → stopped s ≡ true → concluded s ≡ s
+unfolding concluded
+concluded-stopped s e = rw e
 
 module _ (p : Platform) where
   fair-good : (r : List ℕ) → fair (reader p) r ≡ isGood r

@@ -1,7 +1,7 @@
 -- The trace that our own calls make replays with all calls agreeing.
-use mathlib.Core.Path.{_≡_, refl, ap, _∙_}
+use mathlib.Core.Path.{_≡_, refl, sym, ap, _∙_}
 use mathlib.Core.Bool.{true}
-use mathlib.Core.List.{List, [], _∷_, _++_, append-assoc}
+use mathlib.Core.List.{List, [], _∷_, _++_, append-assoc, append-nil}
 use Prim.Native.Nat.{ℕ, _+_, _-_, _≤_, _<_}
 use native.Mathlib.Omega.{arith}
 use native.Mathlib.Nat.{zero-add}
@@ -14,10 +14,15 @@ use Rattle.records.specs.Cutting.{run}
 use Rattle.records.proofs.Steps.{records-step, records-end}
 use Rattle.calls.specs.Buffer.{found}
 use Rattle.calls.proofs.Confined.{demand1}
-use Rattle.trace.specs.declared.report.Report.the-variants.{Agreed}
+use Rattle.trace.specs.declared.report.Report.{Report}
+use Rattle.trace.specs.declared.report.Report.the-variants.{Agreed, Differs}
 use Rattle.trace.specs.Trace.{bodyOf, goodFrame, isGood, isSettable}
-use Rattle.trace.specs.Playing.{Platform, Waiting, none, call, State, stopped, kept, setting, common, compared, calling, played, step, concluded, replayOf}
-use Rattle.trace.specs.Recording.{leBytes, recordOf, Deed, sets-memory, makes-call, Machine, fresh, leftBy, after, afterAll, traceOf, recordsIn, callsIn, Fits, AllFit, OwnTraceAgrees}
+use Rattle.trace.specs.Playing.{Platform, Waiting, none, call, State, begin, isOver, stopped, reader, kept, setting, common, compared, calling, played, step, concluded, replayOf}
+use Rattle.trace.specs.Recording.{leBytes, recordOf, Deed, sets-memory, makes-call, Machine, fresh, leftBy, after, afterAll, traceOf, recordsIn, callsIn, Fits, AllFit, OwnTraceAgrees, DifferenceTold}
+use Rattle.trace.specs.First.{DifferAt}
+use Rattle.records.proofs.Feeding.{run-stopped}
+use Rattle.trace.proofs.Reader.{sticky, concluded-stopped}
+use Rattle.trace.proofs.First.{compared-ways}
 
 -- ---- a record
 
@@ -63,6 +68,12 @@ module _ (kind : ℕ) (body : List ℕ) (low : 32 ≤ kind) (high : kind ≤ 34)
 
     records-first : records (r ++ rest) ≡ r ∷ records rest
     records-first = records-step (r ++ rest) 0 (omega (arith, own-size, length-append r rest)) ∙ rw (zero-add, front-is, behind-is)
+
+-- the two records of a call
+pair-first : (args recorded rest : List ℕ) → length args ≤ 4100 → length recorded ≤ 4100 → records (recordOf 32 args ++ (recordOf 33 recorded ++ rest)) ≡ recordOf 32 args ∷ recordOf 33 recorded ∷ records rest
+pair-first args recorded rest a r =
+    records-first 32 args (omega arith) (omega arith) a (recordOf 33 recorded ++ rest)
+    ∙ ap (λ (l : List (List ℕ)). recordOf 32 args ∷ l) (records-first 33 recorded (omega arith) (omega arith) r rest)
 
 -- ---- the replay of one
 
@@ -113,13 +124,20 @@ module _ (p : Platform) where
         plays n c none s 34 (leBytes 4 a ++ bs) (omega arith) (omega arith) (omega (arith, h .2, body-size a bs)) few
         ∙ rw (settable a bs (s .memory) h, address-is a bs (h .0), bytes-are a bs)
 
+    -- a call with any recorded buffer
+    pub pair-plays : (args recorded : List ℕ) → length args ≤ 4100 → length recorded ≤ 4100 → n + 2 ≤ 4294967295
+        → step p (step p (at n c none s) (recordOf 32 args)) (recordOf 33 recorded) ≡ calling p (at (n + 1) c (call args) s) args recorded
+    unfolding kept
+    pair-plays args recorded h r few =
+        ap (λ (x : State). step p x (recordOf 33 recorded)) (plays n c none s 32 args (omega arith) (omega arith) h (omega arith))
+        ∙ plays (n + 1) c (call args) s 33 recorded (omega arith) (omega arith) r (omega arith)
+
     call-plays : (args : List ℕ) → length args ≤ 4100 → n + 2 ≤ 4294967295
         → step p (step p (at n c none s) (recordOf 32 args)) (recordOf 33 (leftBy p s args .args)) ≡ at (n + 2) (c + 1) none (after p s (makes-call args))
-    unfolding kept calling
+    unfolding calling
     call-plays args h few =
         let same : length (leftBy p s args .args) ≡ length args = demand1 (found args (s .memory) (p .journal) (p .inventory) (p .edition) (s .registration) (s .reading)) .args-length in
-        ap (λ (x : State). step p x (recordOf 33 (leftBy p s args .args))) (plays n c none s 32 args (omega arith) (omega arith) h (omega arith))
-        ∙ plays (n + 1) c (call args) s 33 (leftBy p s args .args) (omega arith) (omega arith) (omega (arith, same)) (omega arith)
+        pair-plays args (leftBy p s args .args) h (omega (arith, same)) few
         ∙ rw (compared-self c (leftBy p s args .args)) (ap (λ (k : ℕ). at k (c + 1) none (after p s (makes-call args))) (omega arith))
 
   -- ---- all of them
@@ -134,39 +152,78 @@ module _ (p : Platform) where
   reached : (n k c d : ℕ) → n ≡ k → c ≡ d → (s : Machine) → at n c none s ≡ at k d none s
   reached n k c d e f s = rw (e, f)
 
-  all-play : (n c : ℕ) (s : Machine) (ds : List Deed) → AllFit (length (s .memory)) ds → n + recordsIn ds ≤ 4294967295
-      → run (step p) (at n c none s) (records (traceOf p s ds)) ≡ at (n + recordsIn ds) (c + callsIn ds) none (afterAll p s ds)
+  -- with anything behind them
+  pub all-play : (n c : ℕ) (s : Machine) (ds : List Deed) (rest : List ℕ) → AllFit (length (s .memory)) ds → n + recordsIn ds ≤ 4294967295
+      → run (step p) (at n c none s) (records (traceOf p s ds ++ rest)) ≡ run (step p) (at (n + recordsIn ds) (c + callsIn ds) none (afterAll p s ds)) (records rest)
   unfolding traceOf recordsIn callsIn run
-  all-play n c s [] h few = ap (run (step p) (at n c none s)) none-left ∙ reached n (n + 0) c (c + 0) (omega arith) (omega arith) s
-  all-play n c s (sets-memory a bs ∷ ds) h few =
+  all-play n c s [] rest h few = ap (λ (x : State). run (step p) x (records rest)) (reached n (n + 0) c (c + 0) (omega arith) (omega arith) s)
+  all-play n c s (sets-memory a bs ∷ ds) rest h few =
       let then = after p s (sets-memory a bs) in
       let body : length (leBytes 4 a ++ bs) ≤ 4100 = omega (arith, h .0 .2, body-size a bs) in
-      ap (run (step p) (at n c none s)) (records-first 34 (leBytes 4 a ++ bs) (omega arith) (omega arith) body (traceOf p then ds))
-      ∙ ap (λ (x : State). run (step p) x (records (traceOf p then ds))) (set-plays n c s a bs (h .0) (omega arith))
-      ∙ all-play (n + 1) c then ds (rw (size-kept s (sets-memory a bs)) (h .1)) (omega arith)
-      ∙ reached (n + 1 + recordsIn ds) (n + (1 + recordsIn ds)) (c + callsIn ds) (c + callsIn ds) (omega arith) refl (afterAll p then ds)
-  all-play n c s (makes-call args ∷ ds) h few =
+      let r = recordOf 34 (leBytes 4 a ++ bs) in
+      ap (λ (l : List ℕ). run (step p) (at n c none s) (records l)) (append-assoc r (traceOf p then ds) rest)
+      ∙ ap (run (step p) (at n c none s)) (records-first 34 (leBytes 4 a ++ bs) (omega arith) (omega arith) body (traceOf p then ds ++ rest))
+      ∙ ap (λ (x : State). run (step p) x (records (traceOf p then ds ++ rest))) (set-plays n c s a bs (h .0) (omega arith))
+      ∙ all-play (n + 1) c then ds rest (rw (size-kept s (sets-memory a bs)) (h .1)) (omega arith)
+      ∙ ap (λ (x : State). run (step p) x (records rest)) (reached (n + 1 + recordsIn ds) (n + (1 + recordsIn ds)) (c + callsIn ds) (c + callsIn ds) (omega arith) refl (afterAll p then ds))
+  all-play n c s (makes-call args ∷ ds) rest h few =
       let then = after p s (makes-call args) in
       let ours = leftBy p s args .args in
       let same : length ours ≡ length args = demand1 (found args (s .memory) (p .journal) (p .inventory) (p .edition) (s .registration) (s .reading)) .args-length in
-      let both : records ((recordOf 32 args ++ recordOf 33 ours) ++ traceOf p then ds) ≡ recordOf 32 args ∷ recordOf 33 ours ∷ records (traceOf p then ds) =
-      ap records (append-assoc (recordOf 32 args) (recordOf 33 ours) (traceOf p then ds))
-      ∙ records-first 32 args (omega arith) (omega arith) (h .0) (recordOf 33 ours ++ traceOf p then ds)
-      ∙ ap (λ (l : List (List ℕ)). recordOf 32 args ∷ l) (records-first 33 ours (omega arith) (omega arith) (omega (arith, same, h .0)) (traceOf p then ds)) in
-      ap (run (step p) (at n c none s)) both
-      ∙ ap (λ (x : State). run (step p) x (records (traceOf p then ds))) (call-plays n c s args (h .0) (omega arith))
-      ∙ all-play (n + 2) (c + 1) then ds (rw (size-kept s (makes-call args)) (h .1)) (omega arith)
-      ∙ reached (n + 2 + recordsIn ds) (n + (2 + recordsIn ds)) (c + 1 + callsIn ds) (c + (1 + callsIn ds)) (omega arith) (omega arith) (afterAll p then ds)
+      ap (λ (l : List ℕ). run (step p) (at n c none s) (records l)) (append-assoc (recordOf 32 args ++ recordOf 33 ours) (traceOf p then ds) rest ∙ append-assoc (recordOf 32 args) (recordOf 33 ours) (traceOf p then ds ++ rest))
+      ∙ ap (run (step p) (at n c none s)) (pair-first args ours (traceOf p then ds ++ rest) (h .0) (omega (arith, same, h .0)))
+      ∙ ap (λ (x : State). run (step p) x (records (traceOf p then ds ++ rest))) (call-plays n c s args (h .0) (omega arith))
+      ∙ all-play (n + 2) (c + 1) then ds rest (rw (size-kept s (makes-call args)) (h .1)) (omega arith)
+      ∙ ap (λ (x : State). run (step p) x (records rest)) (reached (n + 2 + recordsIn ds) (n + (2 + recordsIn ds)) (c + 1 + callsIn ds) (c + (1 + callsIn ds)) (omega arith) (omega arith) (afterAll p then ds))
 
 -- ---- the whole trace
 
 pub own-trace-agrees : OwnTraceAgrees
-unfolding replayOf concluded stopped
+unfolding replayOf run concluded stopped
 own-trace-agrees p m ds fits few =
-    let all : replayOf p m (traceOf p (fresh m) ds) ≡ at p (0 + recordsIn ds) (0 + callsIn ds) none (afterAll p (fresh m) ds) = ap concluded (all-play p 0 0 (fresh m) ds fits (omega arith)) in
+    let all : replayOf p m (traceOf p (fresh m) ds) ≡ at p (0 + recordsIn ds) (0 + callsIn ds) none (afterAll p (fresh m) ds) =
+    ap (λ (l : List ℕ). replayOf p m l) (sym (append-nil (traceOf p (fresh m) ds)))
+    ∙ ap concluded (all-play p 0 0 (fresh m) ds [] fits (omega arith) ∙ ap (run (step p) (at p (0 + recordsIn ds) (0 + callsIn ds) none (afterAll p (fresh m) ds))) (none-left p)) in
     record {
       report = ap (λ (x : State). x .report) all ∙ ap Agreed (zero-add (callsIn ds));
       memory = ap (λ (x : State). x .memory) all;
       registration = ap (λ (x : State). x .registration) all;
       reading = ap (λ (x : State). x .reading) all;
     }
+
+-- a call that goes astray behind them
+pub difference-told : DifferenceTold
+unfolding replayOf calling run stopped
+difference-told p m ds args recorded rest fits few a r other =
+    compared-ways calls recorded ours (λ (x : Report). compared calls recorded ours ≡ x → (offset : ℕ) × (DifferAt recorded ours offset × (replayOf p m trace .report ≡ Differs (callsIn ds + 1) offset)))
+    (λ same _. absurd (other same)) (λ k d e. (k, (d, ends k e))) refl
+  where
+    s : Machine
+    s = afterAll p (fresh m) ds
+
+    calls : ℕ
+    calls = 0 + callsIn ds
+
+    ours : List ℕ
+    ours = leftBy p s args .args
+
+    trace : List ℕ
+    trace = traceOf p (fresh m) ds ++ (recordOf 32 args ++ (recordOf 33 recorded ++ rest))
+
+    n : ℕ
+    n = 0 + recordsIn ds
+
+    then : State
+    then = calling p (at p (n + 1) calls (call args) s) args recorded
+
+    comes : run (step p) (begin m) (records trace) ≡ run (step p) then (records rest)
+    comes =
+        all-play p 0 0 (fresh m) ds (recordOf 32 args ++ (recordOf 33 recorded ++ rest)) fits (omega arith)
+        ∙ ap (run (step p) (at p n calls none s)) (pair-first args recorded rest a r)
+        ∙ ap (λ (x : State). run (step p) x (records rest)) (pair-plays p n calls s args recorded a r (omega arith))
+
+    ends : (k : ℕ) → compared calls recorded ours ≡ Differs (calls + 1) k → replayOf p m trace .report ≡ Differs (callsIn ds + 1) k
+    ends k e =
+        let over : stopped then ≡ true = ap isOver e in
+        ap (λ (x : State). concluded x .report) (comes ∙ run-stopped (reader p) (sticky p) then (records rest) over)
+        ∙ ap (λ (x : State). x .report) (concluded-stopped then over) ∙ e ∙ ap (λ (c : ℕ). Differs (c + 1) k) (zero-add (callsIn ds))

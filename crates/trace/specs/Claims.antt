@@ -4,13 +4,16 @@ use mathlib.Core.Path.{_≡_}
 use mathlib.Core.Bool.{true, false}
 use mathlib.Core.List.{List}
 use Prim.Native.Nat.{ℕ, _+_}
-use Rattle.records.specs.Cutting.{start, fed, fedAll, ended, joined}
+use lib.ListN.{length}
+use Rattle.records.specs.Cutting.{run, start, fed, fedAll, ended, joined}
 use Rattle.trace.specs.declared.report.Report.the-variants.{Agreed, Differs, Malformed}
 use Rattle.trace.specs.Trace.{isGood}
 use Rattle.trace.specs.Playing.{Platform, call, State, begin, stopped, blamed, called, compared, step, concluded, replayOf, reader}
-use Rattle.trace.specs.Recording.{OwnTraceAgrees, AgreedIsOurs}
+use Rattle.trace.specs.Recording.{OwnTraceAgrees, AgreedIsOurs, DifferenceTold}
 use Rattle.trace.specs.First.{FirstDifference}
 use Rattle.trace.specs.TraceReadings.{TraceReadings}
+use Rattle.trace.specs.SessionReadings.{SessionReadings}
+use Rattle.trace.specs.Came.{AllCame}
 
 -- Bursts, however they are cut and some of them empty, leave what their bytes leave as one burst.
 abbrev pub AnyCutting : Type 0
@@ -47,6 +50,10 @@ AgreedSame = (calls number : ℕ) (recorded ours : List ℕ) → compared calls 
 abbrev pub StopsForGood : Type 0
 StopsForGood = (p : Platform) (s : State) (b : List ℕ) → stopped s ≡ true → fed (reader p) (start s) b ≡ start s
 
+-- Every record before a stop is counted, so that the number of a malformed one is its place in the trace, from 1.
+abbrev pub RecordsCounted : Type 0
+RecordsCounted = (p : Platform) (m : List ℕ) (rs : List (List ℕ)) → stopped (run (step p) (begin m) rs) ≡ false → run (step p) (begin m) rs .records ≡ length rs
+
 pub record TraceClaims : Type 0 where
   pub any-cutting : AnyCutting
   pub over-records : OverRecords
@@ -55,7 +62,11 @@ pub record TraceClaims : Type 0 where
   pub difference-keeps : DifferenceKeeps
   pub agreed-same : AgreedSame
   pub stops-for-good : StopsForGood
+  pub records-counted : RecordsCounted
   pub own-trace-agrees : OwnTraceAgrees
+  pub difference-told : DifferenceTold
   pub agreed-is-ours : AgreedIsOurs
   pub first-difference : FirstDifference
   pub trace-readings : TraceReadings
+  pub session-readings : SessionReadings
+  pub all-came : AllCame

@@ -1,6 +1,8 @@
 pub mod Trace
 pub mod Playing
-pub mod Recording
 pub mod First
+pub mod Recording
 pub mod TraceReadings
+pub mod SessionReadings
+pub mod Came
 pub mod Claims

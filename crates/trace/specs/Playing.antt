@@ -50,6 +50,7 @@ isOver (Malformed n) = true
 unfoldable pub stopped : State → Bool
 stopped s = isOver (s .report)
 
+-- how many calls agreed while nothing has stopped the replay
 abbrev pub agreed : Report → ℕ
 agreed (Agreed calls) = calls
 agreed (Differs n at) = 0
@@ -69,7 +70,7 @@ faulted s = record { records = s .records; report = Malformed (blamed (s .record
 unfoldable pub kept : State → List ℕ → State
 kept s body = record { records = s .records + 1; report = s .report; waiting = call body; memory = s .memory; registration = s .registration; reading = s .reading }
 
--- a 34 sets memory; "a bad 34 sets no byte at all"
+-- a 34 sets memory; a bad one sets no byte at all
 unfoldable pub setting : State → List ℕ → State
 setting s body =
     cond (isSettable (s .memory) body)
@@ -89,9 +90,13 @@ compared calls recorded ours =
     let same = common recorded ours in
     cond (eqb same (length recorded) && eqb same (length ours)) (Agreed (calls + 1)) (Differs (calls + 1) same)
 
--- what the call of an argument buffer leaves where a replay stands
+-- what the call of an argument buffer leaves, over memory, registration and reading record
+abbrev pub callOver : Platform → List ℕ → Registration → ReadingRecord → List ℕ → Left
+callOver p memory registration reading args = callOf (found args memory (p .journal) (p .inventory) (p .edition) registration reading)
+
+-- and where a replay stands
 abbrev pub called : Platform → State → List ℕ → Left
-called p s args = callOf (found args (s .memory) (p .journal) (p .inventory) (p .edition) (s .registration) (s .reading))
+called p s args = callOver p (s .memory) (s .registration) (s .reading) args
 
 -- a 32 and its 33 are a call, run on a copy of the 32's body
 unfoldable pub calling : Platform → State → List ℕ → List ℕ → State

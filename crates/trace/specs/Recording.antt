@@ -9,9 +9,10 @@ use Rattle.dump.specs.declared.registration.Registration.{Registration}
 use Rattle.dump.specs.Registration.{noRegistration}
 use Rattle.calls.specs.declared.reading_record.ReadingRecord.{ReadingRecord}
 use Rattle.calls.specs.ReadingRecord.{noReading}
-use Rattle.calls.specs.Buffer.{found, Left, callOf}
-use Rattle.trace.specs.declared.report.Report.the-variants.{Agreed}
-use Rattle.trace.specs.Playing.{Platform, replayOf}
+use Rattle.calls.specs.Buffer.{Left}
+use Rattle.trace.specs.declared.report.Report.the-variants.{Agreed, Differs}
+use Rattle.trace.specs.Playing.{Platform, callOver, replayOf}
+use Rattle.trace.specs.First.{DifferAt}
 
 -- a number in so many bytes, little-endian
 unfoldable pub leBytes : ℕ → ℕ → List ℕ
@@ -37,7 +38,7 @@ abbrev pub fresh : List ℕ → Machine
 fresh m = record { memory = m; registration = noRegistration; reading = noReading }
 
 abbrev pub leftBy : Platform → Machine → List ℕ → Left
-leftBy p s args = callOf (found args (s .memory) (p .journal) (p .inventory) (p .edition) (s .registration) (s .reading))
+leftBy p s args = callOver p (s .memory) (s .registration) (s .reading) args
 
 abbrev pub after : Platform → Machine → Deed → Machine
 after p s (sets-memory a bs) = record { memory = sets (s .memory) a bs; registration = s .registration; reading = s .reading }
@@ -96,3 +97,11 @@ pub record Ours (p : Platform) (m trace : List ℕ) (calls : ℕ) : Type 0 where
 
 abbrev pub AgreedIsOurs : Type 0
 AgreedIsOurs = (p : Platform) (m trace : List ℕ) (calls : ℕ) → Bytes trace → replayOf p m trace .report ≡ Agreed calls → Ours p m trace calls
+
+-- And a trace that goes astray: behind whatever our own calls made comes a call whose recorded buffer is not ours, with anything behind it. The difference is told.
+abbrev pub DifferenceTold : Type 0
+DifferenceTold =
+    (p : Platform) (m : List ℕ) (ds : List Deed) (args recorded rest : List ℕ) → AllFit (length m) ds → recordsIn ds + 2 ≤ 4294967295 → length args ≤ 4100 → length recorded ≤ 4100
+    → let ours = leftBy p (afterAll p (fresh m) ds) args .args in
+    (recorded ≡ ours → ⊥)
+    → (offset : ℕ) × (DifferAt recorded ours offset × (replayOf p m (traceOf p (fresh m) ds ++ (recordOf 32 args ++ (recordOf 33 recorded ++ rest))) .report ≡ Differs (callsIn ds + 1) offset))

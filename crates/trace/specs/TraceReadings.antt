@@ -1,4 +1,4 @@
--- Readings of a replay on both sides of its lines (document 02, M-110), cited by the contracts of `feed` and `end`. Each case is a trace and its report,
+-- Readings of a replay on both sides of its lines (document 02, M-110), cited by the contracts of `start`, `feed` and `end`. Each case is a trace and its report,
 -- over an empty journal and inventory and a memory of zeros, mostly of eight bytes.
 use Prim.Native.Nat.{ℕ}
 use mathlib.Core.Bool.{Bool, false, _&&_}
@@ -90,6 +90,9 @@ cases =
     ∷ tells (before (7 ∷ 8 ∷ []) ++ after (7 ∷ 8 ∷ [])) (Agreed 1)
     ∷ tells (before (unknown 7) ++ after (unknown (minus 3) ++ (0 ∷ []))) (Differs 1 16)
     ∷ tells (before (unknown 7) ++ after (take 15 (unknown (minus 3)))) (Differs 1 15)
+    ∷ tells (before (unknown 7) ++ after []) (Differs 1 0)
+    ∷ tells (before [] ++ after (unknown 7)) (Differs 1 0)
+    ∷ tells (before (unknown 7) ++ after (unknown (minus 3) ++ unknown 7)) (Differs 1 16)
     -- a 32 without a good 33 right after it: its own number, whatever follows
     ∷ tells (before []) (Malformed 1)
     ∷ tells (good ++ before []) (Malformed 3)
@@ -100,6 +103,11 @@ cases =
     ∷ tells (before [] ++ (2 ∷ [])) (Malformed 1)
     ∷ tells (before [] ++ (1 ∷ 0 ∷ 33 ∷ 0 ∷ [])) (Malformed 1)
     ∷ tells (before [] ++ after (replicate 4101 0)) (Malformed 1)
+    ∷ tells (before (unknown 7)) (Malformed 1)
+    ∷ tells (good ++ before (unknown 7)) (Malformed 3)
+    ∷ tells (before (unknown 7) ++ (two ++ after (unknown 7))) (Malformed 1)
+    ∷ tells (before (unknown 7) ++ before (unknown 7)) (Malformed 1)
+    ∷ tells (before (unknown 7) ++ (2 ∷ [])) (Malformed 1)
     -- any other 33, other kinds, a length under 2
     ∷ tells (after []) (Malformed 1)
     ∷ tells (good ++ after []) (Malformed 3)
@@ -119,7 +127,6 @@ cases =
     -- bodies of 4,100 bytes and 4,101, the second judged by its length
     ∷ tells (before (replicate 4100 0) ++ after (replicate 4100 0)) (Agreed 1)
     ∷ tells (before (replicate 4101 0)) (Malformed 1)
-    ∷ tells (setting (replicate 4100 0)) (Malformed 1)
     ∷ alike (replayed 4096 (setting (replicate 4100 0)) .report) (Agreed 0)
     ∷ alike (replayed 5000 (setting (replicate 4101 0)) .report) (Malformed 1)
     -- a 34 of 4 bytes and of 5; its bytes end at the end of memory, and one past it
@@ -131,6 +138,7 @@ cases =
     ∷ tells (setting (0 ∷ 0 ∷ 0 ∷ 1 ∷ 9 ∷ [])) (Malformed 1)
     ∷ tells (setting []) (Malformed 1)
     ∷ tells (setting (0 ∷ 0 ∷ 0 ∷ [])) (Malformed 1)
+    ∷ tells (setting (replicate 4100 0)) (Malformed 1)
     ∷ tells (setting (255 ∷ 255 ∷ 255 ∷ 255 ∷ 9 ∷ 9 ∷ [])) (Malformed 1)
     -- a 34 counts as a record, and not as a call
     ∷ tells (two ++ after []) (Malformed 2)

@@ -1,15 +1,20 @@
 -- The test of a range for zero, one byte after the other.
-use mathlib.Core.Path.{_≡_, sym, ap, _∙_}
+use mathlib.Core.Path.{_≡_, refl, sym, ap, _∙_}
 use mathlib.Core.Bool.{true, false, _&&_}
 use mathlib.Core.List.{List}
-use Prim.Native.Nat.{ℕ, suc, _+_, _<_, _≤_}
+use Prim.Native.Nat.{ℕ, zero, suc, _+_, _<_, _≤_}
 use native.Mathlib.Numerals.{add-one}
 use native.Mathlib.Omega.{arith}
 use lib.Dec.{eqb}
-use lib.ListN.{length, getD}
+use lib.ListN.{length, getD, replicate}
 use lib.Seq.{slice, slice-cons, slice-empty}
 use borrow.Author.Tests.{eq-eqb, ne-eqb}
 use Rattle.words.specs.Numbers.{zeros}
+
+pub zeros-zero : (n : ℕ) → zeros (replicate n 0) ≡ true
+unfolding zeros
+zeros-zero zero = refl
+zeros-zero (suc n) = zeros-zero n
 
 -- A test that has come to a place finds there what it finds from its start.
 pub record Blank (s : List ℕ) (from to i : ℕ) : Type 0 where

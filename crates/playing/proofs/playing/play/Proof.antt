@@ -45,7 +45,7 @@ returns-3 c =
 returns-4 : tie.Need-returns-4
 returns-4 c =
     let s = c .before .before .before .before .before .before .before .before .before .before .before .before .before .before .before .before .before .before .before .before in
-    plays-call (platformOf (now (s .args .journal)) (now (s .args .inventory)) (s .args .from)) (now (s .args .args)) (now (s .args .memory)) (s .args .from) (now (s .args .item)) (s .pre) (few (c .before .before .before .before .before .before .before .before .before .before)) (good (c .before .before .before .before .before .before .before .before .before .before)) (c .before .before .before .before .before .before .before .before .before .if3 .taken) _ _ _ (sym (kind-is (c .before .before .before .before .before .before .before .before .before .before)) ∙ c .before .before .before .before .before .before .before .if4 .left) (c .before .before .before .before .run-call .kept .0) (c .before .before .before .before .run-call .ensures .0) (c .before .before .before .before .run-call .ensures .1)
+    plays-call (platformOf (now (s .args .journal)) (now (s .args .inventory)) (s .args .from)) (now (s .args .args)) (now (s .args .memory)) (s .args .from) (now (s .args .item)) (s .pre) (few (c .before .before .before .before .before .before .before .before .before .before)) (good (c .before .before .before .before .before .before .before .before .before .before)) (c .before .before .before .before .before .before .before .before .before .if3 .taken) _ _ _ (sym (kind-is (c .before .before .before .before .before .before .before .before .before .before)) ∙ c .before .before .before .before .before .before .before .if4 .left) (c .before .before .before .before .run-call .ensures .0) (c .before .before .before .before .run-call .ensures .1 .0) (c .before .before .before .before .run-call .ensures .1 .1)
 
 returns-5 : tie.Need-returns-5
 returns-5 c =

@@ -6,7 +6,7 @@ use lib.ListN.{length, length-drop}
 use lib.Seq.{length-take-le}
 use borrow.Author.Needs.{needs}
 use denote.Ref.{now}
-use Rattle.playing.proofs.Parts.{back-inside, back-front, behind}
+use Rattle.playing.proofs.Parts.{back-inside, back-front, back-stored, behind}
 use Rattle.playing.proofs.playing.run_call.Statement.{statement}
 use Rattle.playing.proofs.playing.run_call.Tie as tie
 
@@ -33,10 +33,11 @@ compare-requires c κs = let s = c .before .before .before .before .before .befo
 returns : tie.Need-returns
 returns c =
     let s = c .before .before .before .before .before .before .before .before .before .before .before .before .before .before .before .before .before .before .before .before .before .before .before in
-    let told = c .before .before .before .before .before .before .before .before .before .before .before .before .call-step .ensures .0 in
-    let ours = back-front (s .args .from .size) (now (s .args .args)) (inside s) (c .before .before .before .before .before .before .before .before .before .before .before .before .call-step .last .0) (c .before .before .before .before .before .before .before .before .before .before .before .before .call-step .kept .0) in
+    let made = c .before .before .before .before .before .before .before .before .before .before .before .before .call-step in
+    let ours = back-front (s .args .from .size) (now (s .args .args)) (inside s) (made .last .0) (made .kept .0) in
+    let stored = back-stored (s .args .from .size) (now (s .args .args)) (inside s) (made .last .0) (made .kept .0) in
     let report = rw (behind 4 (now (s .args .item)), ours, c .before .before .before .before .before .before .before .calls-in .ensures) at (c .before .before .before .before .compare .ensures) in
-    rw (← told, c .play-on .ensures, report) (refl, refl)
+    rw (← made .ensures .0, c .play-on .ensures, report) (refl, (refl, stored))
 
 pub run-call-spec : {M : Type 1} → statement M
 run-call-spec =

@@ -19,7 +19,7 @@ same-length : tie.Need-same-length
 same-length c = search needs
 
 returns : tie.Need-returns
-returns c = record { amount = c .before .before .before .before .missing .ensures; front = filled-front (now (c .before .before .before .before .before .before .before .args .buffer)) (c .before .before .before .before .before .before .before .args .held) (now (c .before .before .before .before .before .before .before .args .bytes)) (c .before .before .before .before .before .before .before .args .at) (c .before .before .before .before .missing .result) _ (omega arith) (omega arith) (c .before .before .store-bytes .ensures) }
+returns c = record { amount = c .before .before .before .before .missing .ensures; whole = c .before .before .store-bytes .ensures; front = filled-front (now (c .before .before .before .before .before .before .before .args .buffer)) (c .before .before .before .before .before .before .before .args .held) (now (c .before .before .before .before .before .before .before .args .bytes)) (c .before .before .before .before .before .before .before .args .at) (c .before .before .before .before .missing .result) _ (omega arith) (omega arith) (c .before .before .store-bytes .ensures) }
 
 pub fill-spec : {M : Type 1} → statement M
 fill-spec =
