@@ -87,6 +87,9 @@ build() {
     fail "$3 could not be built; what rt said stands above, and in target/draugsten-build.log"
 }
 
-build_archive() {
-    build staticlib "$1" "target/staticlib/lib$1.a"
+build_archives() {
+    local crate
+    for crate; do
+        build staticlib "$crate" "target/staticlib/lib$crate.a"
+    done
 }

@@ -1,0 +1,5 @@
+pub mod States
+pub mod WholeTrace
+pub mod Witness
+pub mod Readings
+pub mod Claims
