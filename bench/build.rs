@@ -1,4 +1,4 @@
-//! Links the archives that `rt staticlib bench` and `rt staticlib draugsten` write at the repository's root.
+//! Links the archives that `rt staticlib` writes at the repository's root.
 
 use std::env;
 
@@ -16,6 +16,6 @@ fn archives() -> &'static [&'static str] {
     if env::var_os("CARGO_FEATURE_STAND_IN").is_some() {
         &["bench"]
     } else {
-        &["draugsten", "bench"]
+        &["draugsten", "draugsten_replay", "bench"]
     }
 }

@@ -1,4 +1,4 @@
-//! Links the library under test from ../target/staticlib.
+//! Links the archives under test from ../target/staticlib.
 
 use std::env;
 use std::path::PathBuf;
@@ -11,6 +11,8 @@ fn main() {
     let crate_folder = env::var_os("CARGO_MANIFEST_DIR").expect("cargo names the crate's folder");
     let folder = PathBuf::from(crate_folder).join("../target/staticlib");
     println!("cargo:rustc-link-search=native={}", folder.display());
-    println!("cargo:rustc-link-lib=static=draugsten");
-    println!("cargo:rerun-if-changed={}", folder.join("libdraugsten.a").display());
+    for archive in ["draugsten", "draugsten_replay"] {
+        println!("cargo:rustc-link-lib=static={archive}");
+        println!("cargo:rerun-if-changed={}", folder.join(format!("lib{archive}.a")).display());
+    }
 }

@@ -1,6 +1,7 @@
 /*
  * Draugsten: the RTAS calls ibm,update-nodes, ibm,get-indices, ibm,configure-kernel-dump and ibm,update-properties on the
- * platform's side, and readers of the work areas that all but the dump fill. Link libdraugsten.a, which is for x86-64.
+ * platform's side, the replay of a recorded session of them, and readers of the work areas that all but the dump fill. Link
+ * libdraugsten.a, and libdraugsten_replay.a for the functions of the replay; both are for x86-64, and neither needs the other.
  *
  * For every function:
  * - It takes any contents and any lengths, and returns.
@@ -10,7 +11,7 @@
  * - There is no global state, and nothing is kept or allocated. Calls are reentrant and may run at the same time in
  *   several threads, where none writes a buffer that another one uses.
  *
- * For firmware, of the archive as it is built (tests/link holds it to this):
+ * For firmware, of each archive as it is built (tests/link holds it to this):
  * - It needs two symbols, memcpy and memset, and nothing else of a C library.
  * - It is code and constants for any x86-64, position independent, with the System V calling convention. It uses the
  *   registers xmm0 to xmm15 as SSE2 has them, no AVX and no x87. It may write up to 128 bytes below the stack pointer (the
@@ -46,6 +47,9 @@ extern "C" {
 #define DRAUGSTEN_NAME_LIMIT 31                 /* bytes of a property's name, without its NUL */
 #define DRAUGSTEN_VALUE_LIMIT 32768             /* bytes of a property's value */
 #define DRAUGSTEN_PROPERTY_ELEMENTS 5           /* elements of `out` that draugsten_read_properties writes for one */
+#define DRAUGSTEN_TRACE_BODY_LIMIT 4100         /* bytes of the body of a trace's record */
+#define DRAUGSTEN_TRACE_RECORD_LIMIT (4 + DRAUGSTEN_TRACE_BODY_LIMIT) /* of the whole record: 4,104 */
+#define DRAUGSTEN_TRACE_RECORDS_LIMIT 4294967295u /* records of a trace */
 
 /*
  * Bytes of stack that a function takes, with its return address and what it writes below the stack pointer, but without
@@ -56,6 +60,9 @@ extern "C" {
 #define DRAUGSTEN_STACK_NO_REGISTRATION 128
 #define DRAUGSTEN_STACK_NO_READING 128
 #define DRAUGSTEN_STACK_EDIT 128
+#define DRAUGSTEN_STACK_REPLAY_START 128
+#define DRAUGSTEN_STACK_REPLAY_FEED 10240
+#define DRAUGSTEN_STACK_REPLAY_END 1024
 #define DRAUGSTEN_STACK_READ_NODES 256
 #define DRAUGSTEN_STACK_READ_INDICES 256
 #define DRAUGSTEN_STACK_READ_PROPERTIES 256
@@ -217,6 +224,102 @@ struct draugsten_answer draugsten_call(uint8_t *args, size_t args_length, uint8_
                                        const uint8_t *journal, size_t journal_length, const uint8_t *inventory,
                                        size_t inventory_length, uint32_t edition,
                                        struct draugsten_registration registration, struct draugsten_reading reading);
+
+/* ---- replays */
+
+/*
+ * A trace is the recorded session of a partition: records, little-endian, length (2 bytes, counts what follows), kind (2)
+ * and body. A body has at most 4,100 bytes, and a trace at most 4,294,967,295 records. A replay makes the calls of a trace
+ * again, over a journal, an inventory with its edition, and memory, from no registration and no reading in progress on, and
+ * tells the first call whose recorded buffer is not the one that our call leaves.
+ */
+enum draugsten_trace_kind {
+    DRAUGSTEN_TRACE_BEFORE = 32,                /* an argument buffer before the call; its 33 follows at once */
+    DRAUGSTEN_TRACE_AFTER = 33,                 /* the same buffer after the call, as it was recorded */
+    DRAUGSTEN_TRACE_MEMORY = 34                 /* an address (4), and the bytes that memory gets there, one or more */
+};
+
+/*
+ * What a replay came to. Malformed are: any other kind, a length under 2, a body above 4,100 bytes, a record that the end
+ * cuts off, a 32 with anything but a good 33 right behind it (the number is the 32's, and its call is not made), any other
+ * 33, a 34 without a byte to set or with bytes past the end of memory (it sets none), and a record past the last number.
+ */
+enum draugsten_verdict {
+    DRAUGSTEN_VERDICT_AGREED = 0,               /* all calls so far agreed */
+    DRAUGSTEN_VERDICT_DIFFERS = 1,              /* a call's recorded buffer and ours differ, in length or in a byte */
+    DRAUGSTEN_VERDICT_MALFORMED = 2             /* a record is malformed */
+};
+
+struct draugsten_report {
+    uint32_t verdict;                           /* enum draugsten_verdict */
+    uint32_t offset;                            /* the first byte that differs, or the shorter buffer's length; else 0 */
+    uint64_t number;                            /* how many calls agreed; or which call, or which record, from 1 on */
+};
+
+/*
+ * Whether a replay is taken. The checks come in this order: 15; 14. With any number but 0 nothing changes. An end takes no
+ * buffer, and never gives 15.
+ */
+enum draugsten_replay_number {
+    DRAUGSTEN_REPLAY_TAKEN = 0,
+    DRAUGSTEN_REPLAY_NO_STATE = 14,             /* a replay, or a front of `held`, that no start and no feed gives */
+    DRAUGSTEN_REPLAY_NO_ROOM = 15               /* `held` has under 4,104 bytes, or `args` under 4,100 */
+};
+
+/* Where a replay stands. Keep it as it is handed back. */
+struct draugsten_replay {
+    uint64_t records;                           /* records taken */
+    struct draugsten_report report;             /* what it came to so far */
+    size_t held;                                /* bytes of an unfinished record, at the front of `held` */
+    uint32_t waiting;                           /* 0, or 1 + the size of the 32's body that waits, at the front of `args` */
+    uint32_t edition;                           /* of the inventory */
+    struct draugsten_registration registration; /* as the last call left it */
+    struct draugsten_reading reading;           /* as the last call left it */
+};
+
+/* What a feed gives. */
+struct draugsten_fed {
+    uint32_t number;                            /* enum draugsten_replay_number */
+    struct draugsten_replay replay;             /* the one to give the next feed; as it was, where it is not taken */
+};
+
+/* What an end gives. */
+struct draugsten_ended {
+    uint32_t number;                            /* DRAUGSTEN_REPLAY_TAKEN or DRAUGSTEN_REPLAY_NO_STATE */
+    struct draugsten_report report;             /* of a trace that ends here; with 14 verdict 2, offset 0, number 0 */
+};
+
+/* The replay that a trace starts with, over an inventory of this edition. */
+struct draugsten_replay draugsten_replay_start(uint32_t edition);
+
+/*
+ * Feeds a replay the next bytes of its trace. They may break off anywhere, and there may be none of them: however a trace
+ * is cut, its replay comes to the same. So a trace of any length is replayed in the space of these buffers. A difference
+ * or a malformed record stops a replay: a later feed gives it back as it was, and changes no byte of `held`, `args` or
+ * memory.
+ *
+ * held       4,104 bytes or more, for a record that is not finished. Written: its bytes, from the front on, as many as
+ *            `held` of the replay says. Those between them and 4,104 are scratch: a feed may leave anything there, and
+ *            the next one looks at none of them. Never: the bytes past the first 4,104.
+ * args       4,100 bytes or more, for the argument buffer of a call. Written. After a difference its front, as many bytes
+ *            as the 32 of that call has, is our buffer as our call left it.
+ *            Between the feeds of a trace nobody else writes these two; before the first they may hold anything.
+ * memory     The partition's memory, from address 0 on. Written by the 34s, and by the calls as draugsten_call writes it.
+ *            What was done before a stop stays, also what the call did that differs.
+ * journal, inventory  As draugsten_call takes them, the same for each feed of a trace.
+ * replay     As draugsten_replay_start gave it, or the last feed of this trace.
+ * bytes      The next bytes of the trace.
+ */
+struct draugsten_fed draugsten_replay_feed(uint8_t *held, size_t held_length, uint8_t *args, size_t args_length,
+                                           uint8_t *memory, size_t memory_length, const uint8_t *journal,
+                                           size_t journal_length, const uint8_t *inventory, size_t inventory_length,
+                                           struct draugsten_replay replay, const uint8_t *bytes, size_t length);
+
+/*
+ * What the replay of a trace that ends here comes to: a record that is not finished, and a 32 that waits for its 33, are
+ * malformed by the end alone. It changes nothing, and a later feed goes on.
+ */
+struct draugsten_ended draugsten_replay_end(struct draugsten_replay replay);
 
 /* ---- readers */
 

@@ -22,11 +22,15 @@ enum {
     LONG_VALUE = 5000,                                      /* which is divided */
     NODES_SIZE = 34,                                        /* of the journal's records of nodes */
     LONG_RECORD = NODES_SIZE + 12 + 11,                     /* where that of the long value begins */
-    RETURN_ADDRESS = 8
+    RETURN_ADDRESS = 8,
+    SHORT_AREA_SIZE = 16,                                   /* of the short code alone */
+    TRACE_SIZE = 1024
 };
 
 static uint8_t stack[STACK] __attribute__((aligned(16)));
 static uint8_t memory[0x4000], args[40];
+static uint8_t held[DRAUGSTEN_TRACE_RECORD_LIMIT], trace_args[DRAUGSTEN_TRACE_BODY_LIMIT], trace[TRACE_SIZE];
+static size_t trace_length;
 static uint32_t words[64];
 static uint64_t numbers[64];
 static int faults;
@@ -57,6 +61,9 @@ static __typeof__(draugsten_no_registration) *no_registration;
 static __typeof__(draugsten_no_reading) *no_reading;
 static __typeof__(draugsten_edit) *edit;
 static __typeof__(draugsten_call) *call;
+static __typeof__(draugsten_replay_start) *replay_start;
+static __typeof__(draugsten_replay_feed) *replay_feed;
+static __typeof__(draugsten_replay_end) *replay_end;
 static __typeof__(draugsten_read_nodes) *read_nodes;
 static __typeof__(draugsten_read_indices) *read_indices;
 static __typeof__(draugsten_read_properties) *read_properties;
@@ -68,6 +75,9 @@ static void choose(int library)
     no_reading = library ? draugsten_no_reading : (__typeof__(no_reading))nothing;
     edit = library ? draugsten_edit : (__typeof__(edit))nothing;
     call = library ? draugsten_call : (__typeof__(call))nothing;
+    replay_start = library ? draugsten_replay_start : (__typeof__(replay_start))nothing;
+    replay_feed = library ? draugsten_replay_feed : (__typeof__(replay_feed))nothing;
+    replay_end = library ? draugsten_replay_end : (__typeof__(replay_end))nothing;
     read_nodes = library ? draugsten_read_nodes : (__typeof__(read_nodes))nothing;
     read_indices = library ? draugsten_read_indices : (__typeof__(read_indices))nothing;
     read_properties = library ? draugsten_read_properties : (__typeof__(read_properties))nothing;
@@ -90,12 +100,24 @@ static const uint32_t calls[CALLS][10] = {
     {DRAUGSTEN_TOKEN_CONFIGURE_KERNEL_DUMP, 3, 1, DRAUGSTEN_COMMAND_REGISTER, 0, 80},
 };
 
+/* The words of the calls of a trace, all answered: the reading begins in an area that holds one code, and goes on. */
+static const uint32_t trace_calls[CALLS][10] = {
+    {DRAUGSTEN_TOKEN_UPDATE_NODES, 2, 1, NODE_AREA, 1},
+    {DRAUGSTEN_TOKEN_GET_INDICES, 5, 2, 1, 7, INDEX_AREA, SHORT_AREA_SIZE, 1},
+    {DRAUGSTEN_TOKEN_GET_INDICES, 5, 2, 1, 7, INDEX_AREA, INDEX_AREA_SIZE, 2},
+    {DRAUGSTEN_TOKEN_UPDATE_PROPERTIES, 2, 1, PROPERTY_AREA, 1},
+    {DRAUGSTEN_TOKEN_CONFIGURE_KERNEL_DUMP, 3, 1, DRAUGSTEN_COMMAND_REGISTER, 0, 80},
+};
+
 static const struct draugsten_reading in_progress = {1, 7, 2, EDITION};
 static struct draugsten_registration registration;
 static struct draugsten_reading reading;
 static struct draugsten_edited edited;
 static struct draugsten_answer answer;
 static int answered;
+static struct draugsten_replay replay;
+static struct draugsten_fed fed;
+static struct draugsten_ended ended;
 static struct draugsten_node_reading node_reading;
 static struct draugsten_index_reading index_reading;
 static struct draugsten_property_reading property_reading;
@@ -123,17 +145,38 @@ static int is_answered(const uint8_t *status)
     return answer.number == DRAUGSTEN_NUMBER_STATUS && status[0] == 0 && status[3] <= DRAUGSTEN_STATUS_CALL_AGAIN;
 }
 
+static void put_args(const uint32_t *from)
+{
+    for (int byte = 0; byte < 40; byte++)
+        args[byte] = (uint8_t)(from[byte / 4] >> (24 - 8 * (byte % 4)));
+}
+
 static void calling(void)
 {
     memset(memory + PROPERTY_AREA + 4, 0, 12); /* the session's start */
     answered = 0;
     for (int i = 0; i < CALLS; i++) {
-        for (int byte = 0; byte < 40; byte++)
-            args[byte] = (uint8_t)(calls[i][byte / 4] >> (24 - 8 * (byte % 4)));
+        put_args(calls[i]);
         answer = call(args, sizeof args, memory, sizeof memory, journal, sizeof journal, inventory, sizeof inventory,
                       EDITION, registration, in_progress);
         answered += is_answered(args + 12 + 4 * calls[i][1]);
     }
+}
+
+static void starting_replay(void)
+{
+    replay = replay_start(EDITION);
+}
+
+static void feeding(void)
+{
+    fed = replay_feed(held, sizeof held, trace_args, sizeof trace_args, memory, sizeof memory, journal, sizeof journal,
+                      inventory, sizeof inventory, replay, trace, trace_length);
+}
+
+static void ending(void)
+{
+    ended = replay_end(fed.replay);
 }
 
 static void reading_nodes(void)
@@ -201,16 +244,56 @@ static void prepare(void)
     memset(inventory + 17 + 14, 'U', DRAUGSTEN_CODE_LIMIT);
 }
 
+static void put_record(uint8_t kind, const uint8_t *body, size_t size)
+{
+    uint8_t head[4] = {(uint8_t)((2 + size) % 256), (uint8_t)((2 + size) / 256), kind, 0};
+    memcpy(trace + trace_length, head, 4);
+    memcpy(trace + trace_length + 4, body, size);
+    trace_length += 4 + size;
+}
+
+/* The trace of the calls, as the library answers them, with the start of the property session in front. The last record is
+ * not finished. */
+static void make_trace(void)
+{
+    static const uint8_t start[20] = {PROPERTY_AREA % 256, PROPERTY_AREA / 256, 0, 0, 0, 0, 0, NODE};
+    struct draugsten_registration next = draugsten_no_registration();
+    struct draugsten_reading at = draugsten_no_reading();
+    put_record(DRAUGSTEN_TRACE_MEMORY, start, sizeof start);
+    memcpy(memory + PROPERTY_AREA, start + 4, sizeof start - 4);
+    for (int i = 0; i < CALLS; i++) {
+        put_args(trace_calls[i]);
+        put_record(DRAUGSTEN_TRACE_BEFORE, args, sizeof args);
+        answer = draugsten_call(args, sizeof args, memory, sizeof memory, journal, sizeof journal, inventory,
+                                sizeof inventory, EDITION, next, at);
+        put_record(DRAUGSTEN_TRACE_AFTER, args, sizeof args);
+        faults += !is_answered(args + 12 + 4 * trace_calls[i][1]);
+        next = answer.registration;
+        at = answer.reading;
+    }
+    put_record(DRAUGSTEN_TRACE_MEMORY, start, sizeof start);
+    trace_length--;
+}
+
 int main(void)
 {
     prepare();
+    make_trace();
     measure("draugsten_no_registration", starting_registration, DRAUGSTEN_STACK_NO_REGISTRATION);
     measure("draugsten_no_reading", starting_reading, DRAUGSTEN_STACK_NO_READING);
     measure("draugsten_edit", editing, DRAUGSTEN_STACK_EDIT);
+    measure("draugsten_replay_start", starting_replay, DRAUGSTEN_STACK_REPLAY_START);
+    measure("draugsten_replay_feed", feeding, DRAUGSTEN_STACK_REPLAY_FEED);
+    measure("draugsten_replay_end", ending, DRAUGSTEN_STACK_REPLAY_END);
     measure("draugsten_call", calling, DRAUGSTEN_STACK_CALL);
     measure("draugsten_read_nodes", reading_nodes, DRAUGSTEN_STACK_READ_NODES);
     measure("draugsten_read_indices", reading_indices, DRAUGSTEN_STACK_READ_INDICES);
     measure("draugsten_read_properties", reading_properties, DRAUGSTEN_STACK_READ_PROPERTIES);
+    if (fed.replay.report.number != CALLS || fed.replay.registration.length != 80 || fed.replay.held != 23 ||
+        ended.report.verdict != DRAUGSTEN_VERDICT_MALFORMED || ended.report.number != 2 + 2 * CALLS) {
+        puts("stack: a replay did not do its work");
+        faults++;
+    }
     if (reading.number != 1 || edited.edition != EDITION + 1 || answered != CALLS || answer.registration.length != 80 ||
         node_reading.entries != 3 || index_reading.entries != 2 || property_reading.entries != 3) {
         puts("stack: a call or a reading did not do its work");

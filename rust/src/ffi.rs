@@ -13,6 +13,7 @@ pub struct Registration {
 
 /// Every value is a reading record.
 #[repr(C)]
+#[derive(Clone, Copy)]
 pub struct Reading {
     pub flag: u32,
     pub type_number: u32,
@@ -31,6 +32,40 @@ pub struct Answer {
 pub struct Edited {
     pub taken: u32,
     pub edition: u32,
+}
+
+/// Verdict 0, calls so far that agreed; 1, the call that differs, with the offset; 2, the record that is malformed.
+#[repr(C)]
+#[derive(Clone, Copy)]
+pub struct Report {
+    pub verdict: u32,
+    pub offset: u32,
+    pub number: u64,
+}
+
+/// Only what a start or a feed gives is a replay.
+#[repr(C)]
+#[derive(Clone, Copy)]
+pub struct Replay {
+    pub records: u64,
+    pub report: Report,
+    pub held: usize,
+    pub waiting: u32,
+    pub edition: u32,
+    pub registration: Registration,
+    pub reading: Reading,
+}
+
+#[repr(C)]
+pub struct Fed {
+    pub number: u32,
+    pub replay: Replay,
+}
+
+#[repr(C)]
+pub struct Ended {
+    pub number: u32,
+    pub report: Report,
 }
 
 #[repr(C)]
@@ -77,6 +112,26 @@ extern "C" {
         registration: Registration,
         reading: Reading,
     ) -> Answer;
+
+    fn draugsten_replay_start(edition: u32) -> Replay;
+
+    fn draugsten_replay_feed(
+        held: *mut u8,
+        held_length: usize,
+        args: *mut u8,
+        args_length: usize,
+        memory: *mut u8,
+        memory_length: usize,
+        journal: *const u8,
+        journal_length: usize,
+        inventory: *const u8,
+        inventory_length: usize,
+        replay: Replay,
+        bytes: *const u8,
+        length: usize,
+    ) -> Fed;
+
+    fn draugsten_replay_end(replay: Replay) -> Ended;
 
     fn draugsten_read_nodes(
         area: *const u8,
@@ -137,6 +192,46 @@ pub fn call(
             reading,
         )
     }
+}
+
+pub fn replay_start(edition: u32) -> Replay {
+    // SAFETY: it takes any number, and there is no global state.
+    unsafe { draugsten_replay_start(edition) }
+}
+
+pub fn replay_feed(
+    held: &mut [u8],
+    args: &mut [u8],
+    memory: &mut [u8],
+    journal: &[u8],
+    inventory: &[u8],
+    replay: Replay,
+    bytes: &[u8],
+) -> Fed {
+    // SAFETY: each pointer is a slice's, so it is not null and goes with its length; the three buffers that are written
+    // are borrowed by `&mut`, so no other buffer overlaps them.
+    unsafe {
+        draugsten_replay_feed(
+            held.as_mut_ptr(),
+            held.len(),
+            args.as_mut_ptr(),
+            args.len(),
+            memory.as_mut_ptr(),
+            memory.len(),
+            journal.as_ptr(),
+            journal.len(),
+            inventory.as_ptr(),
+            inventory.len(),
+            replay,
+            bytes.as_ptr(),
+            bytes.len(),
+        )
+    }
+}
+
+pub fn replay_end(replay: Replay) -> Ended {
+    // SAFETY: it takes any replay, and there is no global state.
+    unsafe { draugsten_replay_end(replay) }
 }
 
 /// Three words of `out` for each operation: opcode, first operand, second operand or 0.

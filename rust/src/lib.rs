@@ -1,5 +1,6 @@
-//! Safe Rust over `libdraugsten.a`: the RTAS calls ibm,update-nodes, ibm,get-indices, ibm,configure-kernel-dump and
-//! ibm,update-properties on the platform's side, and readers of the work areas that all but the dump fill.
+//! Safe Rust over `libdraugsten.a` and `libdraugsten_replay.a`: the RTAS calls ibm,update-nodes, ibm,get-indices,
+//! ibm,configure-kernel-dump and ibm,update-properties on the platform's side, readers of the work areas that all but the
+//! dump fill, the recording of a session of calls, and its replay, which is the second archive.
 //! `include/draugsten.h` has what each buffer holds and which bytes are written.
 //!
 //! ```
@@ -27,10 +28,15 @@ mod ffi;
 mod properties;
 mod reading;
 mod reading_record;
+mod recorder;
 mod registration;
+mod replay;
+pub mod trace;
 
 pub use calling::{call, Answer, Fault};
 pub use properties::{read_properties, Descriptor, Property, PropertyArea, NAME_LIMIT, VALUE_LIMIT};
 pub use reading::{read_indices, read_nodes, read_state, Entry, Operation, Reason, Refusal, CODE_LIMIT, FIELD_LIMIT};
 pub use reading_record::{Edition, ReadingRecord};
+pub use recorder::{RecordError, Recorded, Recorder};
 pub use registration::{Phase, Registration, STRUCTURE_LIMIT};
+pub use replay::{Difference, Replay, Report};

@@ -27,7 +27,7 @@ pub struct Registration {
 impl Registration {
     /// The registration that a partition starts with.
     pub fn none() -> Registration {
-        Registration { flat: ffi::no_registration() }
+        Registration::of(ffi::no_registration())
     }
 
     /// A registration of its three parts: the phase's number, the length of the copied structure, and the copy. So a
@@ -74,6 +74,10 @@ impl Registration {
     /// The copied dump structure; empty where nothing is registered.
     pub fn structure(&self) -> &[u8] {
         &self.flat.copy[..self.flat.length]
+    }
+
+    pub(crate) fn of(flat: ffi::Registration) -> Registration {
+        Registration { flat }
     }
 
     pub(crate) fn flat(&self) -> ffi::Registration {

@@ -1,5 +1,6 @@
 //! Every number that the header names has a name in the crate.
 
+use draugsten::trace::{self, Kind, BODY_LIMIT};
 use draugsten::{
     args, Answer, Fault, Phase, Reason, CODE_LIMIT, FIELD_LIMIT, NAME_LIMIT, STRUCTURE_LIMIT, VALUE_LIMIT,
 };
@@ -27,8 +28,10 @@ fn limits() {
     assert_eq!(numbers("DRAUGSTEN_STRUCTURE_LIMIT"), [("", STRUCTURE_LIMIT as i32)]);
     assert_eq!(numbers("DRAUGSTEN_NAME_LIMIT"), [("", NAME_LIMIT as i32)]);
     assert_eq!(numbers("DRAUGSTEN_VALUE_LIMIT"), [("", VALUE_LIMIT as i32)]);
-    // The header makes these of the code's limit.
-    assert_eq!((FIELD_LIMIT, args::SUFFICIENT_SIZE), (1024, 1036));
+    assert_eq!(numbers("DRAUGSTEN_TRACE_BODY_LIMIT"), [("", BODY_LIMIT as i32)]);
+    // The header makes these of the limits of a code and of a body.
+    assert_eq!((FIELD_LIMIT, args::SUFFICIENT_SIZE, trace::RECORD_LIMIT), (1024, 1036, 4104));
+    assert!(HEADER.contains(&format!("#define DRAUGSTEN_TRACE_RECORDS_LIMIT {}u ", trace::RECORDS_LIMIT)));
 }
 
 #[test]
@@ -55,6 +58,20 @@ fn numbers_of_calls() {
         ("NO_REGISTRATION", Fault::NoRegistration as i32),
     ];
     assert_eq!(numbers("DRAUGSTEN_NUMBER_"), expected);
+}
+
+#[test]
+fn kinds_of_a_trace() {
+    let expected = [("BEFORE", Kind::Before as i32), ("AFTER", Kind::After as i32), ("MEMORY", Kind::Memory as i32)];
+    let kinds = numbers("DRAUGSTEN_TRACE_").into_iter().filter(|(name, _)| !name.ends_with("LIMIT"));
+    assert_eq!(kinds.collect::<Vec<_>>(), expected);
+}
+
+/// The crate has the verdicts as `Report`; its replays are always taken.
+#[test]
+fn numbers_of_replays() {
+    assert_eq!(numbers("DRAUGSTEN_VERDICT_"), [("AGREED", 0), ("DIFFERS", 1), ("MALFORMED", 2)]);
+    assert_eq!(numbers("DRAUGSTEN_REPLAY_"), [("TAKEN", 0), ("NO_STATE", 14), ("NO_ROOM", 15)]);
 }
 
 #[test]

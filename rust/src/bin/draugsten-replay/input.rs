@@ -1,0 +1,144 @@
+//! The files that a replay is given.
+
+use crate::options::{Memory, MEMORY_LIMIT};
+use std::fs::File;
+use std::hint::black_box;
+use std::io::{self, ErrorKind, Read, Seek};
+use std::os::fd::AsFd;
+use std::path::Path;
+
+/// A journal and an inventory have at most so many bytes. Longer ones are malformed, whatever they hold.
+const RECORDS_LIMIT: u64 = 1_048_576;
+
+/// A journal or an inventory; an empty one, where there is no file. Of a file that is too long, enough to be too long.
+pub fn read_records(what: &str, path: Option<&Path>) -> Result<Vec<u8>, String> {
+    let Some(path) = path else { return Ok(vec![]) };
+    read(path).map_err(|error| failed(&named(what, path), &error))
+}
+
+fn read(path: &Path) -> io::Result<Vec<u8>> {
+    let mut bytes = vec![];
+    File::open(path)?.take(RECORDS_LIMIT + 1).read_to_end(&mut bytes)?;
+    Ok(bytes)
+}
+
+pub fn read_memory(memory: &Memory) -> Result<Vec<u8>, String> {
+    match memory {
+        Memory::File(path) => read_image(path, MEMORY_LIMIT),
+        Memory::Zeros(size) => {
+            zeros(*size).ok_or(format!("{size} bytes of memory cannot be had here; give a smaller --memory-size"))
+        }
+    }
+}
+
+/// All of memory from a file, of so many bytes at the most.
+fn read_image(path: &Path, most: u64) -> Result<Vec<u8>, String> {
+    let name = named("memory", path);
+    let image = read_within(path, most).map_err(|error| failed(&name, &error))?;
+    image.ok_or(format!(
+        "{name} has more than {most} bytes; give its first {most}, behind which no call and no record reaches"
+    ))
+}
+
+/// The bytes of a file; none where it has more than the most. One that tells its size is not read for that.
+fn read_within(path: &Path, most: u64) -> io::Result<Option<Vec<u8>>> {
+    let file = File::open(path)?;
+    let size = file.metadata()?.len();
+    if size > most {
+        return Ok(None);
+    }
+    let mut bytes: Vec<u8> = vec![];
+    bytes.try_reserve_exact(size as usize).map_err(|_| ErrorKind::OutOfMemory)?;
+    file.take(most + 1).read_to_end(&mut bytes)?;
+    Ok((bytes.len() as u64 <= most).then_some(bytes))
+}
+
+/// So many zero bytes, which take no room before they are used.
+pub fn zeros(size: u64) -> Option<Vec<u8>> {
+    let size = usize::try_from(size).ok()?;
+    let mut attempt: Vec<u8> = vec![];
+    attempt.try_reserve_exact(size).ok()?;
+    black_box(attempt);
+    Some(vec![0; size])
+}
+
+/// A trace, from a file or from standard input.
+pub struct Trace {
+    name: String,
+    file: File,
+}
+
+impl Trace {
+    pub fn open(path: Option<&Path>) -> Result<Trace, String> {
+        let name = path.map_or(String::from("standard input, the trace,"), |path| named("trace", path));
+        let file = match path {
+            Some(path) => File::open(path),
+            None => io::stdin().as_fd().try_clone_to_owned().map(File::from),
+        };
+        match file {
+            Ok(file) => Ok(Trace { name, file }),
+            Err(error) => Err(failed(&name, &error)),
+        }
+    }
+
+    pub fn file(&mut self) -> &mut File {
+        &mut self.file
+    }
+
+    /// The bytes still to be read, where that is known.
+    pub fn size(&mut self) -> Option<u64> {
+        let length = self.file.metadata().ok().filter(|data| data.is_file())?.len();
+        length.checked_sub(self.file.stream_position().ok()?)
+    }
+
+    /// Why it cannot be read, behind so many bytes.
+    pub fn failed(&self, error: &io::Error, bytes: u64) -> String {
+        let place = if bytes == 0 { String::new() } else { format!(" behind byte {bytes}") };
+        failed(&format!("{}{place}", self.name), error)
+    }
+}
+
+fn named(what: &str, path: &Path) -> String {
+    format!("the {what} {}", path.display())
+}
+
+/// What cannot be read, why, and what helps.
+fn failed(name: &str, error: &io::Error) -> String {
+    let help = match error.kind() {
+        ErrorKind::NotFound => "check the name",
+        ErrorKind::PermissionDenied => "ask for the right to read it",
+        ErrorKind::IsADirectory => "name a file",
+        ErrorKind::OutOfMemory => "it needs a machine with more memory",
+        _ => "see that it is open, and can be read to its end",
+    };
+    format!("{name} cannot be read: {error}; {help}")
+}
+
+#[cfg(test)]
+mod tests {
+    use super::{read_image, read_records, RECORDS_LIMIT};
+    use std::path::Path;
+
+    const HEADER: &str = include_str!("../../../../include/draugsten.h");
+
+    #[test]
+    fn memory_is_read_up_to_its_limit() {
+        let file = Path::new(concat!(env!("CARGO_MANIFEST_DIR"), "/src/bin/draugsten-replay/usage.txt"));
+        let bytes = std::fs::read(file).unwrap();
+        let size = bytes.len() as u64;
+        assert_eq!(read_image(file, size).as_ref(), Ok(&bytes));
+        assert_eq!(read_image(file, size + 1).as_ref(), Ok(&bytes));
+        assert!(read_image(file, size - 1).unwrap_err().contains(&format!("has more than {} bytes", size - 1)));
+        // A device tells no size.
+        let message = "the memory /dev/zero has more than 99 bytes; give its first 99, behind which no call and no record reaches";
+        assert_eq!(read_image(Path::new("/dev/zero"), 99), Err(String::from(message)));
+        assert_eq!(read_image(Path::new("/dev/null"), 0), Ok(vec![]));
+    }
+
+    #[test]
+    fn of_records_one_byte_too_many_is_read() {
+        assert!(HEADER.contains(&format!("#define DRAUGSTEN_RECORDS_LIMIT {RECORDS_LIMIT} ")));
+        let read = read_records("journal", Some(Path::new("/dev/zero"))).unwrap();
+        assert_eq!(read.len() as u64, RECORDS_LIMIT + 1);
+    }
+}

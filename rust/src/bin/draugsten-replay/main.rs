@@ -1,0 +1,102 @@
+//! Replays a recorded session, and tells the first call that went astray.
+
+mod calls;
+mod difference;
+mod flaw;
+mod input;
+mod options;
+mod progress;
+mod sources;
+#[cfg(test)]
+mod tests;
+
+use draugsten::{Edition, Replay, Report};
+use input::Trace;
+use options::Options;
+use progress::Progress;
+use std::fmt::Display;
+use std::io::{self, Read, Write};
+use std::process::ExitCode;
+
+/// The exit statuses beside 0, where all calls agreed.
+const NOT_DONE: u8 = 1;
+const WRONG_USAGE: u8 = 2;
+const ASTRAY: u8 = 3;
+
+/// The bytes of a trace between two looks at the progress.
+const PART: u64 = 262_144;
+
+fn main() -> ExitCode {
+    let asked = options::parse(std::env::args_os().skip(1));
+    match asked.and_then(|options| options.map(sources::check).transpose()) {
+        Ok(Some(options)) => end(run(&options)),
+        Ok(None) => end(write(options::USAGE).map(|()| true)),
+        Err(message) => {
+            say(format_args!("{message}\n{}", options::USAGE.trim_end()));
+            ExitCode::from(WRONG_USAGE)
+        }
+    }
+}
+
+/// The exit status of what was done, and what to say where it was not.
+fn end(done: Result<bool, String>) -> ExitCode {
+    match done {
+        Ok(true) => ExitCode::SUCCESS,
+        Ok(false) => ExitCode::from(ASTRAY),
+        Err(message) => {
+            say(message);
+            ExitCode::from(NOT_DONE)
+        }
+    }
+}
+
+/// Standard error is the last place to say something at: where that fails, it stays unsaid.
+fn say(message: impl Display) {
+    _ = writeln!(io::stderr(), "draugsten-replay: {message}");
+}
+
+/// Whether all calls agreed; or what could not be done, and what helps.
+fn run(options: &Options) -> Result<bool, String> {
+    let journal = input::read_records("journal", options.journal.as_deref())?;
+    let inventory = input::read_records("inventory", options.inventory.as_deref())?;
+    let mut memory = input::read_memory(&options.memory)?;
+    let mut trace = Trace::open(options.trace.as_deref())?;
+    let mut replay = Replay::new(&mut memory, &journal, &inventory, Edition(options.edition));
+    let report = play(&mut replay, &mut trace)?;
+    write(&tell(report, &replay, options))?;
+    Ok(matches!(report, Report::Agreed { .. }))
+}
+
+/// Replays a trace to its end, or to where it stops.
+fn play(replay: &mut Replay<'_>, trace: &mut Trace) -> Result<Report, String> {
+    let mut progress = Progress::new(trace.size());
+    loop {
+        let mut part = trace.file().take(PART);
+        let report = replay.read(&mut part);
+        let size = PART - part.limit();
+        progress.pass(size, replay.records());
+        let report = report.map_err(|error| trace.failed(&error, progress.bytes()))?;
+        if replay.is_stopped() || size < PART {
+            return Ok(report);
+        }
+    }
+}
+
+/// The verdict, and below it what the call or the record is that it names.
+fn tell(report: Report, replay: &Replay<'_>, options: &Options) -> String {
+    let mut lines = vec![report.to_string()];
+    match report {
+        Report::Agreed { .. } => {}
+        Report::Differs { call, offset } => lines.extend(difference::tell(replay, call, offset, options)),
+        Report::Malformed { record } => lines.push(flaw::tell(replay, record)),
+    }
+    lines.join("\n") + "\n"
+}
+
+fn write(text: &str) -> Result<(), String> {
+    let mut output = io::stdout().lock();
+    let written = output.write_all(text.as_bytes()).and_then(|()| output.flush());
+    written.map_err(|error| {
+        format!("standard output cannot be written whole: {error}; make room, or write to another file")
+    })
+}

@@ -1,0 +1,8 @@
+//! Recorded sessions and their replay, through the safe interface.
+
+mod faults;
+mod random;
+mod records;
+mod session;
+mod sessions;
+mod traces;
