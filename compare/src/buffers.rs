@@ -84,7 +84,7 @@ const GUARD: usize = 48;
 const GUARD_BYTE: u8 = 0xa5;
 
 /// A buffer that is lent to a call, between guard bytes that nobody may write.
-#[derive(PartialEq, Eq)]
+#[derive(Clone, PartialEq, Eq)]
 pub struct Lent {
     bytes: Vec<u8>,
 }
@@ -105,6 +105,17 @@ impl Lent {
     pub fn content_mut(&mut self) -> &mut [u8] {
         let end = self.bytes.len() - GUARD;
         &mut self.bytes[GUARD..end]
+    }
+
+    /// Nobody wrote a guard byte.
+    pub fn is_guarded(&self) -> bool {
+        let (before, behind) = (&self.bytes[..GUARD], &self.bytes[self.bytes.len() - GUARD..]);
+        before.iter().chain(behind).all(|&byte| byte == GUARD_BYTE)
+    }
+
+    /// A buffer of its first bytes alone.
+    pub fn front(&self, length: usize) -> Lent {
+        Lent::new(&self.content()[..length])
     }
 
     /// Where two buffers of one length first differ, in words, and the bytes of both from there on.

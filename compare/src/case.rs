@@ -1,6 +1,6 @@
 //! The cases that are compared.
 
-use crate::library::{ReadingRecord, Registration};
+use crate::library::{ReadingRecord, Registration, Replay};
 use crate::subject::Platform;
 use crate::text;
 
@@ -92,6 +92,40 @@ impl Listing {
     }
 }
 
+/// What a replay is given beside its trace. `held` and `args` may hold anything at first.
+#[derive(Clone)]
+pub struct Given {
+    pub memory: Vec<u8>,
+    pub journal: Vec<u8>,
+    pub inventory: Vec<u8>,
+    pub held: Vec<u8>,
+    pub args: Vec<u8>,
+}
+
+/// A burst of so many bytes, and whether the replay is asked behind it what it comes to.
+#[derive(Clone, Copy)]
+pub struct Burst {
+    pub length: usize,
+    pub end: bool,
+}
+
+/// A trace, replayed in bursts. They may be more or fewer than it has bytes; what they leave of it comes in one more.
+#[derive(Clone)]
+pub struct TraceCase {
+    pub given: Given,
+    pub edition: u32,
+    pub trace: Vec<u8>,
+    pub bursts: Vec<Burst>,
+}
+
+/// One feed of a replay that stands anywhere, also where no replay can.
+#[derive(Clone)]
+pub struct StateCase {
+    pub given: Given,
+    pub replay: Replay,
+    pub burst: Vec<u8>,
+}
+
 #[derive(Clone)]
 #[allow(clippy::large_enum_variant)]
 pub enum Case {
@@ -105,6 +139,8 @@ pub enum Case {
     ReadIndices(ReadCase),
     ReadProperties(ReadCase),
     Session(SessionCase),
+    Trace(TraceCase),
+    State(StateCase),
 }
 
 impl CallCase {
@@ -144,7 +180,48 @@ impl Case {
                 format!("property area, out {}\n", read.out) + &text::buffer("area", &read.area)
             }
             Case::Session(session) => session.text(),
+            Case::Trace(trace) => trace.text(),
+            Case::State(state) => state.text(),
         }
+    }
+}
+
+impl Given {
+    fn text(&self) -> String {
+        let mut text = text::buffer("memory", &self.memory);
+        text += &text::records("journal", &self.journal);
+        text += &text::records("inventory", &self.inventory);
+        text + &format!("  held of {} bytes, args of {}\n", self.held.len(), self.args.len())
+    }
+}
+
+impl TraceCase {
+    fn text(&self) -> String {
+        let bursts: Vec<String> = self.bursts.iter().take(MOST_BURSTS).map(Burst::text).collect();
+        let more = if self.bursts.len() > MOST_BURSTS { " .." } else { "" };
+        let mut text = format!("replay of a trace, edition {:#x}, bursts: {}{more}\n", self.edition, bursts.join(" "));
+        text += &text::records("trace", &self.trace);
+        text + &self.given.text()
+    }
+}
+
+/// So many bursts are told.
+const MOST_BURSTS: usize = 40;
+
+impl Burst {
+    fn text(&self) -> String {
+        format!("{}{}", self.length, if self.end { " (end?)" } else { "" })
+    }
+}
+
+impl StateCase {
+    fn text(&self) -> String {
+        let mut text = format!("feed of a replay: {}\n", self.replay.text());
+        text += &text::records("burst", &self.burst);
+        text += &text::buffer("copy", &self.replay.registration.copy);
+        text += &text::buffer("held", &self.given.held);
+        text += &text::buffer("args", &self.given.args);
+        text + &self.given.text()
     }
 }
 

@@ -4,6 +4,7 @@ use crate::buffers::{word_at, Lent};
 use crate::case::{CallCase, Case, ReadCase};
 use crate::coverage::Coverage;
 use crate::library::{Reading, ReadingRecord, Registration};
+use crate::replay;
 use crate::session;
 use crate::subject::{Answered, Subject};
 use crate::text::hex;
@@ -65,13 +66,13 @@ pub fn run_call_on_both(sides: Sides, case: &CallCase) -> CallPair {
 }
 
 /// The first byte in which two buffers differ, in words.
-fn buffer_difference(sides: Sides, name: &str, paper: &Lent, tested: &Lent) -> Option<String> {
+pub fn buffer_difference(sides: Sides, name: &str, paper: &Lent, tested: &Lent) -> Option<String> {
     let (place, left, right) = paper.first_difference(tested)?;
     let (paper_name, tested_name) = (sides.paper.name(), sides.tested.name());
     Some(format!("{name} differs from {place} on\n  {paper_name}: {}\n  {tested_name}: {}\n", hex(left), hex(right)))
 }
 
-fn registration_difference(sides: Sides, paper: &Registration, tested: &Registration) -> Option<String> {
+pub fn registration_difference(sides: Sides, paper: &Registration, tested: &Registration) -> Option<String> {
     if paper == tested {
         return None;
     }
@@ -82,7 +83,7 @@ fn registration_difference(sides: Sides, paper: &Registration, tested: &Registra
     Some(text + &copies.unwrap_or_default())
 }
 
-fn reading_difference(sides: Sides, paper: &ReadingRecord, tested: &ReadingRecord) -> Option<String> {
+pub fn reading_difference(sides: Sides, paper: &ReadingRecord, tested: &ReadingRecord) -> Option<String> {
     let side = |subject: &dyn Subject, record: &ReadingRecord| format!("  {}: {}\n", subject.name(), record.text());
     (paper != tested)
         .then(|| String::from("the reading record differs\n") + &side(sides.paper, paper) + &side(sides.tested, tested))
@@ -197,6 +198,8 @@ pub fn difference(sides: Sides, case: &Case, coverage: &mut Coverage) -> Option<
             read_difference(sides, &paper, &tested)
         }
         Case::Session(case) => session::difference(sides, case, coverage),
+        Case::Trace(case) => replay::difference(sides, case, coverage),
+        Case::State(case) => replay::states::difference(sides, case, coverage),
     }
 }
 

@@ -1,7 +1,7 @@
 //! The C interface of the library under test. All that the comparison knows of the interface stands in this file.
 
 #[cfg(not(feature = "without-library"))]
-use crate::subject::{Answered, Platform, Subject};
+use crate::subject::{Answered, Ended, Fed, Feeding, Platform, Subject};
 
 /// The registration as it is compared: phase 0 none, 1 registered, 2 active. A phase above 2 or a length above 512
 /// is no registration.
@@ -49,6 +49,36 @@ pub struct Reading {
     pub entries: u64,
 }
 
+/// What a replay came to: verdict 0 agreed, 1 differs, 2 malformed.
+#[derive(Clone, Copy, PartialEq, Eq, Debug)]
+pub struct Report {
+    pub verdict: u32,
+    pub offset: u32,
+    pub number: u64,
+}
+
+/// Where a replay stands.
+#[derive(Clone, Copy, PartialEq, Eq, Debug)]
+pub struct Replay {
+    pub records: u64,
+    pub report: Report,
+    pub held: u64,
+    pub waiting: u32,
+    pub edition: u32,
+    pub registration: Registration,
+    pub reading: ReadingRecord,
+}
+
+impl Replay {
+    pub fn text(&self) -> String {
+        let Replay { records, report, held, waiting, edition, registration, reading } = self;
+        let Registration { phase, length, .. } = registration;
+        let (counts, reading) = (format!("{records} records, held {held}, waiting {waiting}"), reading.text());
+        let registration = format!("registration of phase {phase} and length {length}");
+        format!("{counts}, {report:?}, edition {edition:#x}, {registration}, reading record: {reading}")
+    }
+}
+
 /// The number of a call over something that is no registration; it changes nothing.
 pub const NO_REGISTRATION: u32 = 13;
 
@@ -82,6 +112,36 @@ mod c {
         pub number: u32,
         pub registration: Registration,
         pub reading: Reading,
+    }
+
+    #[repr(C)]
+    pub struct Report {
+        pub verdict: u32,
+        pub offset: u32,
+        pub number: u64,
+    }
+
+    #[repr(C)]
+    pub struct Replay {
+        pub records: u64,
+        pub report: Report,
+        pub held: usize,
+        pub waiting: u32,
+        pub edition: u32,
+        pub registration: Registration,
+        pub reading: Reading,
+    }
+
+    #[repr(C)]
+    pub struct Fed {
+        pub number: u32,
+        pub replay: Replay,
+    }
+
+    #[repr(C)]
+    pub struct Ended {
+        pub number: u32,
+        pub report: Report,
     }
 
     #[repr(C)]
@@ -126,6 +186,26 @@ mod c {
         pub fn draugsten_no_reading() -> Reading;
 
         pub fn draugsten_edit(edition: u32) -> Edit;
+
+        pub fn draugsten_replay_start(edition: u32) -> Replay;
+
+        pub fn draugsten_replay_feed(
+            held: *mut u8,
+            held_len: usize,
+            args: *mut u8,
+            args_len: usize,
+            memory: *mut u8,
+            memory_len: usize,
+            journal: *const u8,
+            journal_len: usize,
+            inventory: *const u8,
+            inventory_len: usize,
+            replay: Replay,
+            bytes: *const u8,
+            len: usize,
+        ) -> Fed;
+
+        pub fn draugsten_replay_end(replay: Replay) -> Ended;
 
         /// Three words of `out` for each entry: opcode, first operand, second operand or 0. `out_len` counts words.
         pub fn draugsten_read_nodes(
@@ -180,6 +260,44 @@ impl From<c::Reading> for ReadingRecord {
     }
 }
 
+#[cfg(not(feature = "without-library"))]
+impl From<c::Report> for Report {
+    fn from(c::Report { verdict, offset, number }: c::Report) -> Report {
+        Report { verdict, offset, number }
+    }
+}
+
+#[cfg(not(feature = "without-library"))]
+impl From<Replay> for c::Replay {
+    fn from(replay: Replay) -> c::Replay {
+        let Report { verdict, offset, number } = replay.report;
+        c::Replay {
+            records: replay.records,
+            report: c::Report { verdict, offset, number },
+            held: replay.held as usize,
+            waiting: replay.waiting,
+            edition: replay.edition,
+            registration: replay.registration.into(),
+            reading: replay.reading.into(),
+        }
+    }
+}
+
+#[cfg(not(feature = "without-library"))]
+impl From<c::Replay> for Replay {
+    fn from(replay: c::Replay) -> Replay {
+        Replay {
+            records: replay.records,
+            report: replay.report.into(),
+            held: replay.held as u64,
+            waiting: replay.waiting,
+            edition: replay.edition,
+            registration: replay.registration.into(),
+            reading: replay.reading.into(),
+        }
+    }
+}
+
 /// The library under test.
 #[cfg(not(feature = "without-library"))]
 pub struct Library;
@@ -221,6 +339,40 @@ impl Subject for Library {
         // SAFETY: the function takes a number alone.
         let c::Edit { taken, edition } = unsafe { c::draugsten_edit(edition) };
         Edit { taken, edition }
+    }
+
+    fn replay_start(&self, edition: u32) -> Replay {
+        // SAFETY: the function takes a number alone.
+        unsafe { c::draugsten_replay_start(edition) }.into()
+    }
+
+    fn replay_feed(&self, feeding: Feeding, replay: &Replay, bytes: &[u8]) -> Fed {
+        let Feeding { held, args, memory, journal, inventory } = feeding;
+        // SAFETY: each pointer comes with the length of the slice that it was taken from.
+        let fed = unsafe {
+            c::draugsten_replay_feed(
+                held.as_mut_ptr(),
+                held.len(),
+                args.as_mut_ptr(),
+                args.len(),
+                memory.as_mut_ptr(),
+                memory.len(),
+                journal.as_ptr(),
+                journal.len(),
+                inventory.as_ptr(),
+                inventory.len(),
+                (*replay).into(),
+                bytes.as_ptr(),
+                bytes.len(),
+            )
+        };
+        Fed { number: fed.number, replay: fed.replay.into(), rule: "" }
+    }
+
+    fn replay_end(&self, replay: &Replay) -> Ended {
+        // SAFETY: the function takes a replay alone.
+        let ended = unsafe { c::draugsten_replay_end((*replay).into()) };
+        Ended { number: ended.number, report: ended.report.into() }
     }
 
     fn read_nodes(&self, area: &[u8], scope: u32, out: &mut [u32]) -> Reading {

@@ -10,6 +10,7 @@ mod generate;
 mod library;
 mod options;
 mod random;
+mod replay;
 mod session;
 mod shrink;
 mod subject;
@@ -29,7 +30,11 @@ const DIFFERENT: u8 = 3;
 
 fn main() -> ExitCode {
     let options = match options::parse(std::env::args().skip(1)) {
-        Ok(options) => options,
+        Ok(Some(options)) => options,
+        Ok(None) => {
+            print!("{}", options::USAGE);
+            return ExitCode::SUCCESS;
+        }
         Err(message) => {
             eprint!("draugsten-compare: {message}\n{}", options::USAGE);
             return ExitCode::from(2);
@@ -39,7 +44,7 @@ fn main() -> ExitCode {
     println!("draugsten-compare: document 01 written out ({}) against {}", sides.paper.name(), sides.tested.name());
     println!(
         "compared: every answer, and every byte of the argument buffer, of memory, of the registration, of the reading \
-        record and of out"
+        record and of out; what a replay comes to, and which states of one are refused"
     );
     crash::install();
     if options.fixed && options.only.is_none() && !run_fixed(sides) {

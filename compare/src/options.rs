@@ -9,8 +9,8 @@ pub struct Options {
     pub fixed: bool,
 }
 
-/// The options, or what is wrong with them.
-pub fn parse(arguments: impl Iterator<Item = String>) -> Result<Options, String> {
+/// The options, none where help is asked for, or what is wrong with them.
+pub fn parse(arguments: impl Iterator<Item = String>) -> Result<Option<Options>, String> {
     let mut options = Options { cases: 200_000, seed: 1, only: None, fixed: true };
     let mut arguments = arguments;
     while let Some(name) = arguments.next() {
@@ -19,10 +19,11 @@ pub fn parse(arguments: impl Iterator<Item = String>) -> Result<Options, String>
             "--seed" => options.seed = number(&name, arguments.next())?,
             "--only" => options.only = Some(number(&name, arguments.next())?),
             "--random-only" => options.fixed = false,
+            "--help" | "-h" => return Ok(None),
             _ => return Err(format!("unknown argument {name}")),
         }
     }
-    Ok(options)
+    Ok(Some(options))
 }
 
 fn number(name: &str, value: Option<String>) -> Result<u64, String> {
@@ -34,15 +35,23 @@ fn number(name: &str, value: Option<String>) -> Result<u64, String> {
 mod tests {
     use super::parse;
 
-    fn of(line: &str) -> Result<super::Options, String> {
+    fn of(line: &str) -> Result<Option<super::Options>, String> {
         parse(line.split_whitespace().map(String::from))
     }
 
     #[test]
     fn options_are_read() {
-        let options = of("--cases 5 --seed 7 --only 3 --random-only").unwrap();
+        let options = of("--cases 5 --seed 7 --only 3 --random-only").unwrap().unwrap();
         assert_eq!((options.cases, options.seed, options.only, options.fixed), (5, 7, Some(3), false));
-        assert_eq!(of("").unwrap().cases, 200_000);
+        assert_eq!(of("").unwrap().unwrap().cases, 200_000);
+    }
+
+    #[test]
+    fn help_stands_in_the_place_of_an_option() {
+        assert!(of("--cases 5 --help").unwrap().is_none());
+        assert!(of("-h --what").unwrap().is_none());
+        assert!(of("--cases --help").is_err());
+        assert!(of("--what -h").is_err());
     }
 
     #[test]

@@ -1,7 +1,7 @@
 //! Makes a case with a difference smaller, as long as the difference stays.
 
 use crate::buffers::record_places;
-use crate::case::{Asked, CallCase, Case, Listing, ReadCase, SessionCase};
+use crate::case::{Asked, CallCase, Case, Given, Listing, ReadCase, SessionCase, StateCase, TraceCase};
 use crate::library::ReadingRecord;
 use std::time::{Duration, Instant};
 
@@ -15,14 +15,15 @@ enum Part {
     Copy,
     Area,
     Session,
+    Trace,
 }
 
-const ALL: [Part; 7] =
-    [Part::Journal, Part::Inventory, Part::Session, Part::Memory, Part::Area, Part::Arguments, Part::Copy];
+const ALL: [Part; 8] =
+    [Part::Trace, Part::Journal, Part::Inventory, Part::Session, Part::Memory, Part::Area, Part::Arguments, Part::Copy];
 /// All but the copy, which has 512 bytes always.
-const OF_ANY_LENGTH: [Part; 6] =
-    [Part::Journal, Part::Inventory, Part::Session, Part::Memory, Part::Area, Part::Arguments];
-const OF_RECORDS: [Part; 3] = [Part::Journal, Part::Inventory, Part::Session];
+const OF_ANY_LENGTH: [Part; 7] =
+    [Part::Trace, Part::Journal, Part::Inventory, Part::Session, Part::Memory, Part::Area, Part::Arguments];
+const OF_RECORDS: [Part; 4] = [Part::Trace, Part::Journal, Part::Inventory, Part::Session];
 const MOST_TIME: Duration = Duration::from_secs(10);
 
 fn bytes_of(case: &Case, part: Part) -> &[u8] {
@@ -34,6 +35,18 @@ fn bytes_of(case: &Case, part: Part) -> &[u8] {
         (Case::Call(call), Part::Copy) => &call.registration.copy,
         (Case::ReadNodes { read, .. } | Case::ReadIndices(read) | Case::ReadProperties(read), Part::Area) => &read.area,
         (Case::Session(session), Part::Session) => &session.records,
+        (Case::Trace(case), Part::Trace) => &case.trace,
+        (Case::State(case), Part::Trace) => &case.burst,
+        (Case::Trace(TraceCase { given, .. }) | Case::State(StateCase { given, .. }), _) => given_bytes(given, part),
+        _ => &[],
+    }
+}
+
+fn given_bytes(given: &Given, part: Part) -> &[u8] {
+    match part {
+        Part::Journal => &given.journal,
+        Part::Inventory => &given.inventory,
+        Part::Memory => &given.memory,
         _ => &[],
     }
 }
@@ -51,13 +64,27 @@ fn with_bytes(case: &Case, part: Part, bytes: Vec<u8>) -> Case {
             read.area = bytes
         }
         (Case::Session(session), Part::Session) => session.records = bytes,
+        (Case::Trace(case), Part::Trace) => case.trace = bytes,
+        (Case::State(case), Part::Trace) => case.burst = bytes,
+        (Case::Trace(TraceCase { given, .. }) | Case::State(StateCase { given, .. }), _) => give(given, part, bytes),
         _ => {}
     }
     changed
 }
 
+fn give(given: &mut Given, part: Part, bytes: Vec<u8>) {
+    match part {
+        Part::Journal => given.journal = bytes,
+        Part::Inventory => given.inventory = bytes,
+        Part::Memory => given.memory = bytes,
+        _ => {}
+    }
+}
+
 /// Changes of what is no buffer, each of one sort of case; of several of one thing the simplest is the last.
-const SIMPLER: [fn(&mut Case); 11] = [
+const SIMPLER: [fn(&mut Case); 13] = [
+    |case| of_trace(case, |trace| trace.bursts.iter_mut().for_each(|burst| burst.end = false)),
+    |case| of_trace(case, |trace| trace.bursts.clear()),
     |case| of_session(case, |session| session.plain = true),
     |case| of_listing(case, |listing| listing.edition = 0),
     |case| of_listing(case, |listing| listing.disturbances = listing.disturbances.min(1)),
@@ -74,6 +101,12 @@ const SIMPLER: [fn(&mut Case); 11] = [
 fn of_session(case: &mut Case, change: impl Fn(&mut SessionCase)) {
     if let Case::Session(session) = case {
         change(session);
+    }
+}
+
+fn of_trace(case: &mut Case, change: impl Fn(&mut TraceCase)) {
+    if let Case::Trace(trace) = case {
+        change(trace);
     }
 }
 
@@ -205,8 +238,8 @@ mod tests {
     use crate::compare::{self, Sides};
     use crate::coverage::Coverage;
     use crate::generate;
-    use crate::library::{Edit, Reading};
-    use crate::subject::{Answered, Paper, Platform, Subject};
+    use crate::library::{Edit, Reading, Replay};
+    use crate::subject::{Answered, Ended, Fed, Feeding, Paper, Platform, Subject};
 
     /// Gives number 9 where the journal holds a delete of node type 6, and clears the record where its number is 0.
     struct Faulty;
@@ -233,6 +266,18 @@ mod tests {
 
         fn edit(&self, edition: u32) -> Edit {
             Paper.edit(edition)
+        }
+
+        fn replay_start(&self, edition: u32) -> Replay {
+            Paper.replay_start(edition)
+        }
+
+        fn replay_feed(&self, feeding: Feeding, replay: &Replay, bytes: &[u8]) -> Fed {
+            Paper.replay_feed(feeding, replay, bytes)
+        }
+
+        fn replay_end(&self, replay: &Replay) -> Ended {
+            Paper.replay_end(replay)
         }
 
         fn read_nodes(&self, area: &[u8], scope: u32, out: &mut [u32]) -> Reading {

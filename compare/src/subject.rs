@@ -1,6 +1,6 @@
 //! The two sides of the comparison behind one trait.
 
-use crate::library::{Edit, Reading, ReadingRecord, Registration, NO_REGISTRATION};
+use crate::library::{Edit, Reading, ReadingRecord, Registration, Replay, Report, NO_REGISTRATION};
 use crate::paper;
 
 /// With no library at hand the other side is a second copy of the paper's implementation.
@@ -26,7 +26,30 @@ pub struct Answered {
     pub rule: &'static str,
 }
 
-/// One side: the calls and the readers as the library's C interface has them.
+/// What a feed of a replay is given beside the replay and the burst.
+pub struct Feeding<'a> {
+    pub held: &'a mut [u8],
+    pub args: &'a mut [u8],
+    pub memory: &'a mut [u8],
+    pub journal: &'a [u8],
+    pub inventory: &'a [u8],
+}
+
+/// What a feed gives back. The rule that refused the replay is told by the paper's side only.
+pub struct Fed {
+    pub number: u32,
+    pub replay: Replay,
+    pub rule: &'static str,
+}
+
+/// What the end of a trace gives back.
+#[derive(Clone, Copy, PartialEq, Eq, Debug)]
+pub struct Ended {
+    pub number: u32,
+    pub report: Report,
+}
+
+/// One side: the calls, the replay and the readers as the library's C interface has them.
 pub trait Subject {
     fn name(&self) -> &'static str;
 
@@ -37,6 +60,15 @@ pub trait Subject {
 
     /// An edit of an inventory of this edition.
     fn edit(&self, edition: u32) -> Edit;
+
+    /// The replay of a trace that begins.
+    fn replay_start(&self, edition: u32) -> Replay;
+
+    /// The next bytes of a replay's trace.
+    fn replay_feed(&self, feeding: Feeding, replay: &Replay, bytes: &[u8]) -> Fed;
+
+    /// What a replay comes to whose trace ends here.
+    fn replay_end(&self, replay: &Replay) -> Ended;
 
     /// With entries, writes three words for each that fits in `out`, and nothing else.
     fn read_nodes(&self, area: &[u8], scope: u32, out: &mut [u32]) -> Reading;
@@ -55,19 +87,81 @@ fn put_entries<T: Copy, const ELEMENTS: usize>(out: &mut [T], entries: impl Iter
     }
 }
 
+/// A report of verdict, offset and number; the first two are known to fit a word.
+fn report((verdict, offset, number): (u64, u64, u64)) -> Report {
+    Report { verdict: verdict as u32, offset: offset as u32, number }
+}
+
 fn refused_reading(refusal: u32, offset: u64) -> Reading {
     Reading { refusal, phandle_or_zero: 0, state_or_zero: 0, offset, entries: 0 }
 }
 
 /// Puts an implementation of the paper behind the trait.
 macro_rules! paper_subject {
-    ($subject:ident, $rules:ident, $record:ident, $name:literal) => {
+    ($subject:ident, $rules:ident, $name:literal) => {
         pub struct $subject;
 
-        fn $record(record: $rules::ReadingRecord) -> ReadingRecord {
-            let [flag, kind, number, edition] =
-                [record.flag, record.kind, record.number, record.edition].map(|field| field as u32);
-            ReadingRecord { flag, kind, number, edition }
+        /// What crosses between the interface and the paper.
+        impl $subject {
+            fn record(record: &$rules::ReadingRecord) -> ReadingRecord {
+                let [flag, kind, number, edition] =
+                    [record.flag, record.kind, record.number, record.edition].map(|field| field as u32);
+                ReadingRecord { flag, kind, number, edition }
+            }
+
+            fn record_given(given: &ReadingRecord) -> $rules::ReadingRecord {
+                let [flag, kind, number, edition] =
+                    [given.flag, given.kind, given.number, given.edition].map(u64::from);
+                $rules::ReadingRecord { flag, kind, number, edition }
+            }
+
+            fn registration(registration: &$rules::Registration) -> Registration {
+                let phase = match registration.phase {
+                    $rules::Phase::None => 0,
+                    $rules::Phase::Registered => 1,
+                    $rules::Phase::Active => 2,
+                };
+                Registration { phase, length: registration.length, copy: registration.copy }
+            }
+
+            /// Nothing where it is no registration.
+            fn registration_given(given: &Registration) -> Option<$rules::Registration> {
+                let phase = match given.phase {
+                    0 if given.length <= 512 => $rules::Phase::None,
+                    1 if given.length <= 512 => $rules::Phase::Registered,
+                    2 if given.length <= 512 => $rules::Phase::Active,
+                    _ => return None,
+                };
+                Some($rules::Registration { phase, length: given.length, copy: given.copy })
+            }
+
+            /// The replay of a state that has a registration.
+            fn replay(state: &$rules::replay_states::State) -> Replay {
+                let registration = state.registration.as_ref().expect("a replay that is taken has a registration");
+                Replay {
+                    records: state.records,
+                    report: report((state.verdict, state.offset, state.number)),
+                    held: state.held,
+                    waiting: state.waiting as u32,
+                    edition: state.edition as u32,
+                    registration: Self::registration(registration),
+                    reading: Self::record(&state.reading),
+                }
+            }
+
+            fn replay_given(given: &Replay) -> $rules::replay_states::State {
+                $rules::replay_states::State {
+                    records: given.records,
+                    verdict: u64::from(given.report.verdict),
+                    offset: u64::from(given.report.offset),
+                    number: given.report.number,
+                    held: given.held,
+                    waiting: u64::from(given.waiting),
+                    edition: u64::from(given.edition),
+                    registration: Self::registration_given(&given.registration),
+                    reading: Self::record_given(&given.reading),
+                }
+            }
         }
 
         impl Subject for $subject {
@@ -77,47 +171,51 @@ macro_rules! paper_subject {
 
             fn call(&self, args: &mut [u8], memory: &mut [u8], platform: &Platform) -> Answered {
                 let Platform { journal, inventory, edition, registration: given, reading } = *platform;
-                let phase = match given.phase {
-                    0 if given.length <= 512 => $rules::Phase::None,
-                    1 if given.length <= 512 => $rules::Phase::Registered,
-                    2 if given.length <= 512 => $rules::Phase::Active,
-                    _ => {
-                        let rule = "no registration";
-                        return Answered { number: NO_REGISTRATION, registration: given, reading, rule };
-                    }
+                let Some(registration) = Self::registration_given(&given) else {
+                    let rule = "no registration";
+                    return Answered { number: NO_REGISTRATION, registration: given, reading, rule };
                 };
                 let platform = $rules::Platform {
                     journal,
                     inventory,
                     edition: u64::from(edition),
-                    registration: $rules::Registration { phase, length: given.length, copy: given.copy },
-                    reading: $rules::ReadingRecord {
-                        flag: u64::from(reading.flag),
-                        kind: u64::from(reading.kind),
-                        number: u64::from(reading.number),
-                        edition: u64::from(reading.edition),
-                    },
+                    registration,
+                    reading: Self::record_given(&reading),
                 };
                 let told = $rules::call(args, memory, &platform);
-                let phase = match told.registration.phase {
-                    $rules::Phase::None => 0,
-                    $rules::Phase::Registered => 1,
-                    $rules::Phase::Active => 2,
-                };
-                let registration =
-                    Registration { phase, length: told.registration.length, copy: told.registration.copy };
-                let reading = $record(told.reading);
+                let (registration, reading) = (Self::registration(&told.registration), Self::record(&told.reading));
                 Answered { number: told.number, registration, reading, rule: told.rule }
             }
 
             fn no_reading(&self) -> ReadingRecord {
-                $record($rules::NO_READING)
+                Self::record(&$rules::NO_READING)
             }
 
             fn edit(&self, edition: u32) -> Edit {
                 match $rules::reading_record::edit(u64::from(edition)) {
                     Some(next) => Edit { taken: 1, edition: next as u32 },
                     None => Edit { taken: 0, edition },
+                }
+            }
+
+            fn replay_start(&self, edition: u32) -> Replay {
+                Self::replay(&$rules::replay_states::start(u64::from(edition)))
+            }
+
+            fn replay_feed(&self, feeding: Feeding, replay: &Replay, bytes: &[u8]) -> Fed {
+                let Feeding { held, args, memory, journal, inventory } = feeding;
+                let mut lent = $rules::replay_states::Lent { held, args, memory };
+                let over = $rules::replay::Over { journal, inventory, edition: u64::from(replay.edition) };
+                match $rules::replay_states::feed(&mut lent, &over, &Self::replay_given(replay), bytes) {
+                    Ok(state) => Fed { number: 0, replay: Self::replay(&state), rule: "" },
+                    Err(refused) => Fed { number: refused.number, replay: *replay, rule: refused.rule },
+                }
+            }
+
+            fn replay_end(&self, replay: &Replay) -> Ended {
+                match $rules::replay_states::end(&Self::replay_given(replay)) {
+                    Ok(told) => Ended { number: 0, report: report(told) },
+                    Err(refused) => Ended { number: refused.number, report: report((2, 0, 0)) },
                 }
             }
 
@@ -161,10 +259,10 @@ macro_rules! paper_subject {
     };
 }
 
-paper_subject!(Paper, paper, paper_record, "paper");
+paper_subject!(Paper, paper, "paper");
 
 #[cfg(feature = "without-library")]
-paper_subject!(Second, second, second_record, "second copy");
+paper_subject!(Second, second, "second copy");
 
 /// The side that is compared with the paper's.
 #[cfg(feature = "without-library")]

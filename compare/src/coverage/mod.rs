@@ -8,11 +8,12 @@ mod nodes;
 mod properties;
 mod property_areas;
 mod reading_records;
+mod replays;
 
 use crate::buffers::{record_places, word_at};
-use crate::case::{Asked, CallCase, ReadCase};
+use crate::case::{Asked, CallCase, ReadCase, StateCase, TraceCase};
 use crate::compare::CallResult;
-use crate::library::Reading;
+use crate::library::{Reading, Report};
 use crate::session::Counts;
 use combinations::Combinations;
 
@@ -141,6 +142,10 @@ pub struct Coverage {
     property_areas: Table,
     property_area_lines: Table,
     sessions: Table,
+    traces: Table,
+    trace_lines: Table,
+    states: Table,
+    state_lines: Table,
     combinations: Combinations,
 }
 
@@ -166,6 +171,10 @@ impl Coverage {
             property_areas: Table::new("property areas read", property_areas::REFUSALS.iter().map(|row| row.1)),
             property_area_lines: Table::of_lines("property areas, lines", property_areas::LINES),
             sessions: Table::new("sessions", SESSION_ROWS.into_iter()),
+            traces: Table::new("traces replayed", replays::RULES.into_iter().take(replays::TRACE_RULES)),
+            trace_lines: Table::of_lines("traces, lines", replays::LINES),
+            states: Table::new("replays fed that stand anywhere", replays::STATES.into_iter()),
+            state_lines: Table::of_lines("such replays, lines", replays::STATE_LINES),
             combinations: Combinations::new(),
         }
     }
@@ -266,6 +275,19 @@ impl Coverage {
         }
     }
 
+    /// The replay of a trace.
+    pub fn trace(&mut self, case: &TraceCase, report: Report) {
+        let facts = replays::facts(case, report);
+        self.traces.add(facts.rule(), 1);
+        self.trace_lines.count_lines(replays::LINES, &facts);
+    }
+
+    /// A feed of a replay that stands anywhere: its number, the rule that refuses it, and what it came to.
+    pub fn state(&mut self, case: &StateCase, number: u32, rule: &'static str, report: Report) {
+        self.states.add(replays::state_row(case, rule), 1);
+        self.state_lines.count_lines(replays::STATE_LINES, &replays::state_facts(case, number, report));
+    }
+
     /// A session of get-indices, by what came between its calls.
     fn disturbed_session(&mut self, counts: &Counts) {
         let in_one_edition = counts.edits == 0 && counts.refused > 0;
@@ -284,7 +306,7 @@ impl Coverage {
         self.sessions.add(SESSION_ROWS[5], u64::from(answered >= 5));
     }
 
-    fn tables(&self) -> [&Table; 18] {
+    fn tables(&self) -> [&Table; 22] {
         [
             &self.buffer,
             &self.node_rules,
@@ -304,6 +326,10 @@ impl Coverage {
             &self.property_areas,
             &self.property_area_lines,
             &self.sessions,
+            &self.traces,
+            &self.trace_lines,
+            &self.states,
+            &self.state_lines,
         ]
     }
 

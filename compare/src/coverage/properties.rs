@@ -258,7 +258,7 @@ pub const LINES: &[Line<Facts>] = &[
     ("journal refused, kind 5 without NUL", |f| bad_name(f, 5, |nul| nul.is_none())),
     ("journal refused, kind 6 without NUL", |f| bad_name(f, 6, |nul| nul.is_none())),
     ("journal refused, kind 6 of length 39, name of 32 bytes", |f| {
-        bad(f, 6, 39) && f.bad_record.last() == Some(&0) && f.bad_record[39] != 0
+        bad(f, 6, 39) && f.bad_record.last() == Some(&0) && f.bad_record.get(39).is_some_and(|&byte| byte != 0)
     }),
     ("journal refused, kind 6, a NUL more", |f| behind_name(f) == Some(0)),
     ("journal refused, kind 6, a byte more", |f| behind_name(f) > Some(0)),

@@ -2,10 +2,10 @@
 //! shared by all of them; around both ends of the first 4 GiB every byte is compared, the rest is not looked at.
 
 use super::{EDITION, NONE, READING};
-use crate::buffers::{arguments, inventory_record, property_record, put_word, words};
+use crate::buffers::{arguments, inventory_record, property_record, put_word, record, words};
 use crate::compare::Sides;
 use crate::library::{ReadingRecord, Registration};
-use crate::subject::{Platform, Subject};
+use crate::subject::{Feeding, Platform, Subject};
 use std::alloc::{alloc_zeroed, Layout};
 
 const FOUR_GIB: usize = 1 << 32;
@@ -41,12 +41,30 @@ pub fn run(sides: Sides) -> Option<(usize, Vec<String>)> {
     let mut memory = memory()?;
     let readings = readings();
     let mut failures = Vec::new();
-    for reading in &readings {
-        for subject in [sides.paper, sides.tested] {
+    for subject in [sides.paper, sides.tested] {
+        for reading in &readings {
             failures.extend(failure(subject, reading, &mut memory));
         }
+        failures.extend(setting_failure(subject, &mut memory));
     }
-    Some((readings.len(), failures))
+    Some((readings.len() + 1, failures))
+}
+
+/// The replay of a 34 that sets bytes on both sides of 2^32: no rule keeps them below.
+fn setting_failure(subject: &dyn Subject, memory: &mut [u8]) -> Option<String> {
+    let place = (0xffff_fffe, b"abc".to_vec());
+    PARTS.iter().for_each(|part| memory[part.0..part.1].fill(0));
+    put(memory, &place);
+    let written = compared_parts(memory);
+    PARTS.iter().for_each(|part| memory[part.0..part.1].fill(0));
+    let (mut held, mut args) = (vec![0; 4104], vec![0; 4100]);
+    let trace = record(34, &[&0xffff_fffe_u32.to_le_bytes(), place.1.as_slice()].concat());
+    let feeding = Feeding { held: &mut held, args: &mut args, memory, journal: &[], inventory: &[] };
+    let fed = subject.replay_feed(feeding, &subject.replay_start(EDITION), &trace);
+    let ended = subject.replay_end(&fed.replay);
+    let good = fed.number == 0 && ended.report.verdict == 0 && compared_parts(memory) == written;
+    (!good)
+        .then(|| format!("fixed reading 'a 34 across 2^32' in a memory above 4 GiB on {}: {ended:?}", subject.name()))
 }
 
 fn put(memory: &mut [u8], place: &(usize, Vec<u8>)) {

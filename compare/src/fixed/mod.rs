@@ -10,6 +10,7 @@ mod nodes;
 mod properties;
 mod property_areas;
 mod reading_records;
+mod replays;
 mod scopes;
 
 use crate::buffers::put_word;
@@ -20,6 +21,7 @@ use crate::library::{ReadingRecord, Registration};
 use crate::subject::Subject;
 use crate::text;
 use reading_records::{edit_failure, start_failure, EDITS};
+use replays::{FeedReading, TraceReading};
 
 /// A call and all that it has to leave.
 pub struct CallReading {
@@ -181,9 +183,17 @@ impl AreaReading {
     }
 }
 
-/// Runs all fixed readings on both sides; gives what was otherwise than written.
-pub fn run(sides: Sides) -> Vec<String> {
-    let calls: Vec<CallReading> = [
+/// All readings but those of edits and of the record to start with.
+struct Readings {
+    calls: Vec<CallReading>,
+    areas: Vec<AreaReading>,
+    property_areas: Vec<PropertyReading>,
+    traces: Vec<TraceReading>,
+    feeds: Vec<FeedReading>,
+}
+
+fn readings() -> Readings {
+    let calls = [
         arguments::readings(),
         nodes::readings(),
         scopes::readings(),
@@ -191,30 +201,49 @@ pub fn run(sides: Sides) -> Vec<String> {
         dump::readings(),
         properties::readings(),
         reading_records::readings(),
-    ]
-    .into_iter()
-    .flatten()
-    .collect();
-    let (areas, property_areas) = (areas::readings(), property_areas::readings());
-    let mut failures = Vec::new();
-    for subject in [sides.paper, sides.tested] {
-        let of_calls = calls.iter().map(|reading| reading.failure(subject));
-        let of_areas = areas.iter().map(|reading| reading.failure(subject));
-        let of_property_areas = property_areas.iter().map(|reading| reading.failure(subject));
+    ];
+    Readings {
+        calls: calls.into_iter().flatten().collect(),
+        areas: areas::readings(),
+        property_areas: property_areas::readings(),
+        traces: replays::readings(),
+        feeds: replays::feeds(),
+    }
+}
+
+impl Readings {
+    /// What a side does otherwise than written.
+    fn failures(&self, subject: &dyn Subject) -> Vec<String> {
+        let of_calls = self.calls.iter().map(|reading| reading.failure(subject));
+        let of_areas = self.areas.iter().map(|reading| reading.failure(subject));
+        let of_property_areas = self.property_areas.iter().map(|reading| reading.failure(subject));
         let of_edits = EDITS.iter().map(|&(edition, written)| edit_failure(subject, edition, written));
         let of_the_start = std::iter::once_with(|| start_failure(subject));
-        let all = of_calls.chain(of_areas).chain(of_property_areas).chain(of_edits).chain(of_the_start);
+        let of_traces = self.traces.iter().map(|reading| reading.failure(subject));
+        let of_feeds = self.feeds.iter().map(|reading| reading.failure(subject));
+        let first = of_calls.chain(of_areas).chain(of_property_areas).chain(of_edits);
+        let all = first.chain(of_the_start).chain(of_traces).chain(of_feeds);
         // The place is noted before the reading is run.
         let places = (0..).inspect(|&place| crash::running_fixed(place));
-        failures.extend(places.zip(all).filter_map(|(_, failure)| failure));
+        places.zip(all).filter_map(|(_, failure)| failure).collect()
     }
-    let (calls, all_areas, edits) = (calls.len(), areas.len() + property_areas.len(), EDITS.len());
-    println!(
-        "fixed readings: {calls} calls, {all_areas} areas, {edits} edits and the record to start with on both sides"
-    );
+
+    fn text(&self) -> String {
+        let (calls, areas, edits) = (self.calls.len(), self.areas.len() + self.property_areas.len(), EDITS.len());
+        let replays = format!("{} traces and {} feeds of a replay", self.traces.len(), self.feeds.len());
+        format!("{calls} calls, {areas} areas, {edits} edits, the record to start with, {replays}")
+    }
+}
+
+/// Runs all fixed readings on both sides; gives what was otherwise than written.
+pub fn run(sides: Sides) -> Vec<String> {
+    let readings = readings();
+    let mut failures: Vec<String> =
+        [sides.paper, sides.tested].into_iter().flat_map(|subject| readings.failures(subject)).collect();
+    println!("fixed readings: {} on both sides", readings.text());
     match large::run(sides) {
         Some((readings, wrong)) => {
-            println!("fixed readings in a memory of 4 GiB and 8,192 bytes: {readings} calls on both sides");
+            println!("fixed readings in a memory of 4 GiB and 8,192 bytes: {readings} calls and replays on both sides");
             failures.extend(wrong);
         }
         None => println!("fixed readings in a memory above 4 GiB: left out, there is no room for it"),

@@ -15,8 +15,11 @@ mod properties;
 mod properties_call;
 mod property_areas;
 pub mod reading_records;
+mod recordings;
 pub mod registrations;
+mod replay_states;
 mod structures;
+mod traces;
 
 use crate::buffers::record_places;
 use crate::case::{Asked, CallCase, Case, Listing, SessionCase, Wanted};
@@ -26,7 +29,7 @@ use journals::Size;
 
 pub fn case(seed: u64, number: u64) -> Case {
     let mut random = Random::for_case(seed, number);
-    match random.below(100) {
+    match random.below(110) {
         0..=63 => Case::Call(call(&mut random)),
         64 => Case::Edit(reading_records::edition(&mut random)),
         65..=75 => node_areas::case(&mut random),
@@ -34,7 +37,9 @@ pub fn case(seed: u64, number: u64) -> Case {
         85..=92 => Case::ReadProperties(property_areas::case(&mut random)),
         93..=94 => Case::Session(node_session(&mut random)),
         95..=96 => Case::Session(property_session(&mut random)),
-        _ => Case::Session(index_session(&mut random)),
+        97..=99 => Case::Session(index_session(&mut random)),
+        100..=104 => Case::Trace(traces::case(&mut random)),
+        _ => Case::State(replay_states::case(&mut random)),
     }
 }
 

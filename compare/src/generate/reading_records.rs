@@ -64,7 +64,7 @@ fn odd(random: &mut Random) -> ReadingRecord {
 }
 
 /// A reading in progress of any list, in any edition.
-fn in_progress(random: &mut Random) -> ReadingRecord {
+pub fn in_progress(random: &mut Random) -> ReadingRecord {
     let flag = random.below(2) as u32;
     let kind = inventories::good_kind(random, flag);
     ReadingRecord { flag, kind, number: random.between(2, 20) as u32, edition: edition(random) }

@@ -57,12 +57,8 @@ pub fn get_indices(
 /// "Order: flag; type not 9001, 9002, 9003 for indicators nor 9003 for sensors; size at least 4 and address + size at
 /// most 2^32 and inside memory; all -3."
 fn broken_before_inventory(memory: u64, inputs: &Inputs) -> Option<&'static str> {
-    if inputs.flag > 1 {
-        return Some("flag");
-    }
-    let forbidden: &[u64] = if inputs.flag == 0 { &[9001, 9002, 9003] } else { &[9003] };
-    if forbidden.contains(&inputs.kind) {
-        return Some("type");
+    if let Some(rule) = broken_list(inputs.flag, inputs.kind) {
+        return Some(rule);
     }
     if inputs.size < 4 {
         return Some("size under 4");
@@ -72,6 +68,18 @@ fn broken_before_inventory(memory: u64, inputs: &Inputs) -> Option<&'static str>
     }
     if inputs.address + inputs.size > memory {
         return Some("area not inside memory");
+    }
+    None
+}
+
+/// "flag; type not 9001, 9002, 9003 for indicators nor 9003 for sensors"
+pub fn broken_list(flag: u64, kind: u64) -> Option<&'static str> {
+    if flag > 1 {
+        return Some("flag");
+    }
+    let forbidden: &[u64] = if flag == 0 { &[9001, 9002, 9003] } else { &[9003] };
+    if forbidden.contains(&kind) {
+        return Some("type");
     }
     None
 }

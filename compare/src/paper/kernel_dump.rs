@@ -115,7 +115,7 @@ impl Header {
 }
 
 /// The rule that the structure of 40 bytes or more breaks, if it breaks one.
-fn broken_rule(structure: &[u8]) -> Option<&'static str> {
+pub fn broken_rule(structure: &[u8]) -> Option<&'static str> {
     let header = header(structure);
     broken_in_header(&header, structure.len() as u64)
         .or_else(|| broken_in_sections(&header, structure))

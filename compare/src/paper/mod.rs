@@ -6,6 +6,8 @@ pub mod kernel_dump;
 pub mod readers;
 pub mod reading_record;
 pub mod records;
+pub mod replay;
+pub mod replay_states;
 pub mod scope;
 #[cfg(test)]
 mod tests;

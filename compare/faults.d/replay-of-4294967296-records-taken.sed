@@ -1,0 +1,1 @@
+s/if state.records > replay::LAST_NUMBER {/if state.records > replay::LAST_NUMBER + 1 {/

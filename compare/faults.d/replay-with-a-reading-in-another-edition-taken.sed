@@ -1,0 +1,1 @@
+s/(edition != state.edition).then_some/false.then_some/

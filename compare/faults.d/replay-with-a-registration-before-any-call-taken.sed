@@ -1,0 +1,1 @@
+s/u128::from(registration.phase == Phase::Registered) + //

@@ -1,0 +1,1 @@
+s/2 \* number + waits > records/2 * number > records/

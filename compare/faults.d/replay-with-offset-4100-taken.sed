@@ -1,0 +1,1 @@
+s/state.offset >= ARGS as u64/state.offset > ARGS as u64/

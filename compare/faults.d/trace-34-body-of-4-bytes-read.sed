@@ -1,0 +1,1 @@
+s/if body.len() < 5 {/if body.len() < 4 {/

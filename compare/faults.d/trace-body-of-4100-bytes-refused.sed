@@ -1,0 +1,1 @@
+s/if length - 2 > LONGEST_BODY {/if length - 2 >= LONGEST_BODY {/

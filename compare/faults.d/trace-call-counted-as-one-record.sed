@@ -1,0 +1,1 @@
+s/position.records += 2;/position.records += 1;/

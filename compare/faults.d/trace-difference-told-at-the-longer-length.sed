@@ -1,0 +1,1 @@
+s/ours.len().min(recorded.len())/ours.len().max(recorded.len())/

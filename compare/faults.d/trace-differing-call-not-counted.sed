@@ -1,0 +1,1 @@
+s/call: position.calls + 1,/call: position.calls,/

@@ -1,0 +1,1 @@
+s/position.reading = told.reading;/let _ = told.reading;/

@@ -1,0 +1,1 @@
+s/if number > LAST_NUMBER {/if number >= LAST_NUMBER {/

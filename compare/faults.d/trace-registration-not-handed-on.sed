@@ -1,0 +1,1 @@
+s/position.registration = told.registration;/let _ = told.registration;/
