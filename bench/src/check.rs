@@ -1,8 +1,14 @@
 //! Holds the three sides to each other before they are measured: every answer and every byte.
 
-use crate::interface::{Asked, Judged, ReadingRecord, Side, Wanted, MALFORMED, SIDES};
+use crate::independent;
+use crate::interface::{
+    Asked, Judged, ReadingRecord, Replay, ReplayBuffers, Replayed, Report, Side, Wanted, MALFORMED, SIDES,
+};
 use crate::journal::UNITS;
+use crate::library;
 use crate::partition::{Partition, AREA_SIZE};
+use crate::rows::replays::{replayed_pages, BURST};
+use crate::trace::{self, Recorded, PAGE};
 use std::fmt::Debug;
 
 /// What all sides answer; panics where they differ.
@@ -244,4 +250,39 @@ fn read_properties_with(side: &Side, area: &[u8], room: usize) -> (u32, Vec<u32>
     let reading = (side.read_properties)(area, &mut out);
     out.extend([reading.phandle, reading.state, reading.offset as u32, reading.entries as u32]);
     (reading.refusal, out)
+}
+
+/// The replay of recorded sessions, by the independent program and by the library: every call agrees, and memory is left
+/// as the calls leave it. Where the last byte of the trace is another, the last call differs there.
+pub fn replay(recorded: &Recorded) {
+    let mut own = recorded.partition.clone();
+    (0..recorded.sessions).for_each(|_| assert!(own.session(&SIDES[0]) > 0));
+    let agrees = |replay: Replay, burst: usize| {
+        let mut buffers = ReplayBuffers::new(&recorded.partition.memory);
+        let report = replay(&mut buffers, recorded.replayed(burst));
+        assert_eq!(report, Report { verdict: 0, offset: 0, number: recorded.calls });
+        assert!(buffers.memory == own.memory, "a replay leaves other bytes than the calls");
+    };
+    agrees(independent::replay, usize::MAX);
+    [usize::MAX, BURST, 1_000].into_iter().for_each(|burst| agrees(library::replay, burst));
+    let mut changed = recorded.trace.clone();
+    *changed.last_mut().unwrap() ^= 1;
+    let replayed = Replayed { trace: &changed, ..recorded.replayed(BURST) };
+    let report = library::replay(&mut ReplayBuffers::new(&recorded.partition.memory), replayed);
+    let offset = own.args.len() as u32 - 1;
+    assert_eq!(report, Report { verdict: 1, offset, number: recorded.calls });
+}
+
+/// Records that set memory: each byte is set, and where memory is too short by one, the last record is malformed.
+pub fn settings() {
+    let trace = trace::pages(40);
+    for burst in [usize::MAX, BURST, 1_000] {
+        let mut buffers = ReplayBuffers::new(&[0; 40 * PAGE]);
+        let report = library::replay(&mut buffers, replayed_pages(&trace, burst));
+        assert_eq!(report, Report { verdict: 0, offset: 0, number: 0 });
+        assert!(trace::set_bytes(&trace).eq(buffers.memory.chunks(PAGE)), "a replay sets other bytes");
+        let mut short = ReplayBuffers::new(&[0; 40 * PAGE - 1]);
+        let report = library::replay(&mut short, replayed_pages(&trace, burst));
+        assert_eq!(report, Report { verdict: 2, offset: 0, number: 40 });
+    }
 }

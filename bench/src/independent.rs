@@ -1,8 +1,8 @@
 //! The independent side: document 01 written out plainly (compare/src/paper), which is not meant to be fast.
 
 use crate::interface::{
-    Answer, Asked, Edit, IndexReading, Judged, NodeReading, PropertyReading, ReadingRecord, Registration, Side, Wanted,
-    MALFORMED,
+    Answer, Asked, Edit, IndexReading, Judged, NodeReading, PropertyReading, ReadingRecord, Registration,
+    ReplayBuffers, Replayed, Report, Side, Wanted, MALFORMED,
 };
 use draugsten_compare::paper::{self, readers, records, scope, Phase};
 
@@ -85,6 +85,18 @@ pub fn call(
     let told = paper::call(args, memory, &platform);
     let (registration, reading) = (from_paper(&told.registration), record_from_paper(&told.reading));
     Answer { number: told.number, registration, reading }
+}
+
+/// A whole replay. It has no bursts: the trace is read at once.
+pub fn replay(buffers: &mut ReplayBuffers, replayed: Replayed) -> Report {
+    let Replayed { journal, inventory, edition, trace, .. } = replayed;
+    let over = paper::replay::Over { journal, inventory, edition: u64::from(edition) };
+    let came = paper::replay::replay(trace, &mut buffers.memory, &over, paper::replay::beginning());
+    match came.report {
+        paper::replay::Report::Agreed { calls } => Report { verdict: 0, offset: 0, number: calls },
+        paper::replay::Report::Differs { call, offset } => Report { verdict: 1, offset: offset as u32, number: call },
+        paper::replay::Report::Malformed { record, .. } => Report { verdict: 2, offset: 0, number: record },
+    }
 }
 
 fn record_for_paper(flat: &ReadingRecord) -> paper::ReadingRecord {

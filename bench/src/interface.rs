@@ -45,6 +45,45 @@ pub struct Answer {
     pub reading: ReadingRecord,
 }
 
+/// What a replay comes to: verdict 0 agreed, with the number of calls; 1 differs, with the call and the offset of the byte;
+/// 2 malformed, with the record.
+#[repr(C)]
+#[derive(Clone, Copy, PartialEq, Eq, Debug)]
+pub struct Report {
+    pub verdict: u32,
+    pub offset: u32,
+    pub number: u64,
+}
+
+/// What is replayed over a journal and an inventory with its edition, in bursts of so many bytes.
+#[derive(Clone, Copy)]
+#[cfg_attr(feature = "stand-in", allow(dead_code))]
+pub struct Replayed<'a> {
+    pub journal: &'a [u8],
+    pub inventory: &'a [u8],
+    pub edition: u32,
+    pub trace: &'a [u8],
+    pub burst: usize,
+}
+
+/// The buffers that a replay writes.
+#[cfg_attr(feature = "stand-in", allow(dead_code))]
+pub struct ReplayBuffers {
+    pub held: Vec<u8>,
+    pub args: Vec<u8>,
+    pub memory: Vec<u8>,
+}
+
+impl ReplayBuffers {
+    /// With this memory, and with as much room as a replay needs.
+    pub fn new(memory: &[u8]) -> ReplayBuffers {
+        ReplayBuffers { held: vec![0; 4104], args: vec![0; 4100], memory: memory.to_vec() }
+    }
+}
+
+/// A whole replay.
+pub type Replay = fn(&mut ReplayBuffers, Replayed) -> Report;
+
 /// What a node area tells: a refusal with its offset, or the state and the number of operations.
 #[repr(C)]
 #[derive(Clone, Copy, PartialEq, Eq, Debug)]

@@ -1,10 +1,14 @@
-//! The proved side: the two archives over their C interface. With the feature `stand-in` there is no libdraugsten.a,
-//! and the independent program answers in its place, but for the scans and the search.
+//! The proved side: the archives over their C interface. With the feature `stand-in` there is no libdraugsten.a, and the
+//! independent program answers in its place, but for the scans and the search.
 
 use crate::interface::{Asked, Judged, Side, Wanted};
 
 #[cfg(feature = "stand-in")]
+pub use crate::independent::replay;
+#[cfg(feature = "stand-in")]
 use crate::independent::{call, edit, no_reading, no_registration, read_indices, read_nodes, read_properties};
+#[cfg(not(feature = "stand-in"))]
+pub use archive::replay;
 #[cfg(not(feature = "stand-in"))]
 use archive::{call, edit, no_reading, no_registration, read_indices, read_nodes, read_properties};
 
@@ -50,7 +54,35 @@ fn search(judged: Judged) -> u32 {
 
 #[cfg(not(feature = "stand-in"))]
 mod archive {
-    use crate::interface::{Answer, Edit, IndexReading, NodeReading, PropertyReading, ReadingRecord, Registration};
+    use crate::interface::{
+        Answer, Edit, IndexReading, NodeReading, PropertyReading, ReadingRecord, Registration, ReplayBuffers, Replayed,
+        Report,
+    };
+
+    /// Where a replay stands.
+    #[repr(C)]
+    #[derive(Clone, Copy)]
+    struct Replay {
+        records: u64,
+        report: Report,
+        held: usize,
+        waiting: u32,
+        edition: u32,
+        registration: Registration,
+        reading: ReadingRecord,
+    }
+
+    #[repr(C)]
+    struct Fed {
+        number: u32,
+        replay: Replay,
+    }
+
+    #[repr(C)]
+    struct Ended {
+        number: u32,
+        report: Report,
+    }
 
     extern "C" {
         fn draugsten_no_registration() -> Registration;
@@ -72,6 +104,26 @@ mod archive {
             registration: Registration,
             reading: ReadingRecord,
         ) -> Answer;
+
+        fn draugsten_replay_start(edition: u32) -> Replay;
+
+        fn draugsten_replay_feed(
+            held: *mut u8,
+            held_len: usize,
+            args: *mut u8,
+            args_len: usize,
+            memory: *mut u8,
+            memory_len: usize,
+            journal: *const u8,
+            journal_len: usize,
+            inventory: *const u8,
+            inventory_len: usize,
+            replay: Replay,
+            bytes: *const u8,
+            len: usize,
+        ) -> Fed;
+
+        fn draugsten_replay_end(replay: Replay) -> Ended;
 
         fn draugsten_read_nodes(
             area: *const u8,
@@ -129,6 +181,44 @@ mod archive {
                 edition,
                 registration,
                 reading,
+            )
+        }
+    }
+
+    /// A whole replay.
+    pub fn replay(buffers: &mut ReplayBuffers, replayed: Replayed) -> Report {
+        // SAFETY: the function takes a number alone.
+        let mut replay = unsafe { draugsten_replay_start(replayed.edition) };
+        for bytes in replayed.trace.chunks(replayed.burst) {
+            let fed = feed(buffers, &replayed, replay, bytes);
+            assert_eq!(fed.number, 0);
+            replay = fed.replay;
+        }
+        // SAFETY: the function takes a replay alone.
+        let ended = unsafe { draugsten_replay_end(replay) };
+        assert_eq!(ended.number, 0);
+        ended.report
+    }
+
+    fn feed(buffers: &mut ReplayBuffers, replayed: &Replayed, replay: Replay, bytes: &[u8]) -> Fed {
+        let ReplayBuffers { held, args, memory } = buffers;
+        let Replayed { journal, inventory, .. } = replayed;
+        // SAFETY: each pointer comes with the length of the buffer that it was taken from, and none is kept.
+        unsafe {
+            draugsten_replay_feed(
+                held.as_mut_ptr(),
+                held.len(),
+                args.as_mut_ptr(),
+                args.len(),
+                memory.as_mut_ptr(),
+                memory.len(),
+                journal.as_ptr(),
+                journal.len(),
+                inventory.as_ptr(),
+                inventory.len(),
+                replay,
+                bytes.as_ptr(),
+                bytes.len(),
             )
         }
     }

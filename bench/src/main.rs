@@ -15,11 +15,12 @@ mod random;
 mod report;
 mod rows;
 mod timing;
+mod trace;
 
 use inputs::Inputs;
 use report::Measured;
 use rows::copying::{self, Copying};
-use rows::{get_indices, growth, readers, scans, slowest, update_nodes, update_properties, Row};
+use rows::{get_indices, growth, readers, replays, scans, slowest, update_nodes, update_properties, Row};
 use std::panic;
 use std::path::PathBuf;
 use std::process::ExitCode;
@@ -119,6 +120,10 @@ fn check_sides(inputs: &Inputs) {
     for (_, area) in &inputs.property_areas {
         check::read_properties(area, readers::PROPERTIES_ROOM);
     }
+    for (_, _, recorded) in replays::sessions(inputs) {
+        check::replay(&recorded);
+    }
+    check::settings();
     for size in growth::SIZES {
         check::update_nodes(&journal::mixed(size), inputs::SCOPE_1);
     }
@@ -143,7 +148,11 @@ fn measure(inputs: &Inputs, effort: Effort) -> Measured {
     report::print_copying(&copying);
     let slowest = slowest::slowest(inputs, effort);
     report::print_slowest(&slowest);
-    Measured { machine: report::machine(), effort, runs: 1, rows: told, growth, copying, slowest }
+    let replays = replays::replays(inputs, effort);
+    report::print_replays(&replays);
+    let settings = replays::settings(effort);
+    report::print_settings(&settings);
+    Measured { machine: report::machine(), effort, runs: 1, rows: told, growth, copying, slowest, replays, settings }
 }
 
 /// So many runs: the last one, with the ranges over all.

@@ -4,6 +4,7 @@ use super::{grouped, micros, range, ratio, ratio_text, warning, Measured};
 use crate::library;
 use crate::rows::copying::Copying;
 use crate::rows::growth::{each, Growth};
+use crate::rows::replays::{Fed, Replay, Setting};
 use crate::rows::slowest::{Slowest, ALLOWED};
 use crate::rows::Row;
 use crate::timing::{Effort, SHORTEST};
@@ -33,7 +34,28 @@ pub fn page(measured: &Measured) -> String {
         Over many values each call also judges the whole journal and follows the session to its state.\n",
     ));
     lines.extend(copying(&measured.copying));
+    lines.extend(replay_section(measured));
     lines.join("\n") + "\n"
+}
+
+/// What is measured of replays.
+fn replay_section(measured: &Measured) -> Vec<String> {
+    let mut lines = vec![String::from("\n## Replays\n")];
+    let runs = if measured.runs == 1 { String::from("one run") } else { format!("{} runs", measured.runs) };
+    lines.push(format!(
+        "The replay of a recorded session, beside what it cannot do without: the same calls made directly, and the bytes of \
+        the trace read once. *Both* is the sum of the two. A trace has the sixteen bytes that the session's area begins \
+        with, and the argument buffer of each call before and after it. It is fed in one burst, and in bursts of 65,536 \
+        bytes; of short sessions there are also 400 in a row, whose trace takes several. The times are of the last run; the \
+        ratios are medians over {runs}, in one burst and in several, and the ranges are over both.\n"
+    ));
+    lines.extend(replays(&measured.replays));
+    lines.push(String::from(
+        "\nA trace of records that set 4,096 bytes of memory each, one page behind the other, beside memcpy of these bytes \
+        to the same places, a page at a time.\n",
+    ));
+    lines.extend(settings(&measured.settings));
+    lines
 }
 
 /// A line of a table.
@@ -122,6 +144,41 @@ fn copying(sessions: &[Copying]) -> Vec<String> {
         ])
     });
     heading(&names, 1).into_iter().chain(lines).collect()
+}
+
+fn replays(replays: &[Replay]) -> Vec<String> {
+    let names = ["", "over", "bytes", "calls", "trace", "calling", "reading"];
+    let fed = ["one burst", "/ both", "bursts of 65,536", "/ both", "over the runs"];
+    let names = [&names[..], &fed].concat();
+    let lines = replays.iter().map(|replay| {
+        let cells = [
+            replay.what.to_string(),
+            replay.over.clone(),
+            grouped(replay.bytes as u64),
+            grouped(replay.calls),
+            grouped(replay.trace as u64),
+            micros(replay.calling),
+            micros(replay.reading),
+        ];
+        line(&[&cells[..], &fed_cells(&replay.fed)].concat())
+    });
+    heading(&names, 2).into_iter().chain(lines).collect()
+}
+
+fn settings(settings: &[Setting]) -> Vec<String> {
+    let fed = ["one burst", "/ memcpy", "bursts of 65,536", "/ memcpy", "over the runs"];
+    let names = [&["records", "bytes", "memcpy"][..], &fed].concat();
+    let lines = settings.iter().map(|setting| {
+        let cells = [grouped(setting.records as u64), grouped(setting.bytes as u64), micros(setting.memcpy)];
+        line(&[&cells[..], &fed_cells(&setting.fed)].concat())
+    });
+    heading(&names, 0).into_iter().chain(lines).collect()
+}
+
+/// Of a replay in one burst and in several: the times, their ratios, and the range of these.
+fn fed_cells(fed: &Fed) -> [String; 5] {
+    let [one_burst, bursts] = fed.medians().map(ratio_text);
+    [micros(fed.one_burst), one_burst, micros(fed.bursts), bursts, range(fed.range(), ratio_text)]
 }
 
 /// How it is measured, in a paragraph.

@@ -4,11 +4,14 @@ mod markdown;
 mod plot;
 mod table;
 
-pub use table::{print_copying, print_growth, print_heading, print_ranges, print_row, print_slowest};
+pub use table::{
+    print_copying, print_growth, print_heading, print_ranges, print_replays, print_row, print_settings, print_slowest,
+};
 
 use crate::library;
 use crate::rows::copying::Copying;
 use crate::rows::growth::Growth;
+use crate::rows::replays::{Replay, Setting};
 use crate::rows::slowest::Slowest;
 use crate::rows::{joined, Range, Row};
 use crate::timing::Effort;
@@ -25,6 +28,8 @@ pub struct Measured {
     pub growth: Vec<Growth>,
     pub copying: Vec<Copying>,
     pub slowest: Vec<Slowest>,
+    pub replays: Vec<Replay>,
+    pub settings: Vec<Setting>,
 }
 
 impl Measured {
@@ -36,6 +41,12 @@ impl Measured {
         }
         for (slowest, before) in self.slowest.iter_mut().zip(&before.slowest) {
             slowest.times = joined(slowest.times, before.times);
+        }
+        for (replay, before) in self.replays.iter_mut().zip(&before.replays) {
+            replay.fed.widen(&before.fed);
+        }
+        for (setting, before) in self.settings.iter_mut().zip(&before.settings) {
+            setting.fed.widen(&before.fed);
         }
     }
 

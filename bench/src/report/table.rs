@@ -4,6 +4,7 @@ use super::{grouped, micros, range, ratio, ratio_text, warning, Measured};
 use crate::library;
 use crate::rows::copying::Copying;
 use crate::rows::growth::{each, Growth};
+use crate::rows::replays::{Fed, Replay, Setting, BURST};
 use crate::rows::slowest::{Slowest, ALLOWED};
 use crate::rows::Row;
 use crate::timing::Effort;
@@ -60,6 +61,36 @@ pub fn print_slowest(slowest: &[Slowest]) {
     }
 }
 
+pub fn print_replays(replays: &[Replay]) {
+    println!("\nreplay of recorded sessions beside the same calls made directly and the trace read once: microseconds");
+    print!("{:<18} {:<26} {:>9} {:>6} {:>8}", "", "over", "bytes", "calls", "trace");
+    println!(" {:>10} {:>8}{}", "calling", "reading", fed_heading("/both"));
+    for replay in replays {
+        let (bytes, trace) = (grouped(replay.bytes as u64), grouped(replay.trace as u64));
+        print!("{:<18} {:<26} {bytes:>9} {:>6} {trace:>8}", replay.what, replay.over, replay.calls);
+        println!(" {:>10} {:>8}{}", micros(replay.calling), micros(replay.reading), fed(&replay.fed));
+    }
+}
+
+pub fn print_settings(settings: &[Setting]) {
+    println!("\nreplay of records that set 4,096 bytes each, beside memcpy of these bytes: microseconds");
+    println!("{:>7} {:>10} {:>9}{}", "records", "bytes", "memcpy", fed_heading("/memcpy"));
+    for setting in settings {
+        let (records, bytes) = (grouped(setting.records as u64), grouped(setting.bytes as u64));
+        println!("{records:>7} {bytes:>10} {:>9}{}", micros(setting.memcpy), fed(&setting.fed));
+    }
+}
+
+/// The columns of a replay in one burst and in several.
+fn fed_heading(ratio: &str) -> String {
+    format!(" {:>10} {ratio:>8} {:>10} {ratio:>8}", "one burst", format!("of {}", grouped(BURST as u64)))
+}
+
+fn fed(fed: &Fed) -> String {
+    let [one_burst, bursts] = fed.medians().map(ratio_text);
+    format!(" {:>10} {one_burst:>8} {:>10} {bursts:>8}", micros(fed.one_burst), micros(fed.bursts))
+}
+
 /// The ranges over several runs, and of one run the summary alone.
 pub fn print_ranges(measured: &Measured) {
     println!();
@@ -73,6 +104,19 @@ pub fn print_ranges(measured: &Measured) {
             let bytes = grouped(call.bytes as u64);
             println!("{:<30} {:<24} {bytes:>9} {:>16}", call.what, call.over, range(call.times, micros));
         }
+        print_replay_ranges(measured);
     }
     println!("{}", measured.summary());
+}
+
+/// The ratios of the replays over several runs.
+fn print_replay_ranges(measured: &Measured) {
+    println!("\nover {} runs: the replays' ratios, medians in one burst and in several, and range", measured.runs);
+    let replays = measured.replays.iter().map(|replay| (replay.what, replay.over.clone(), &replay.fed));
+    let settings = measured.settings.iter();
+    let settings = settings.map(|setting| ("records of 4,096 bytes", grouped(setting.records as u64), &setting.fed));
+    for (what, over, fed) in replays.chain(settings) {
+        let [one_burst, bursts] = fed.medians().map(ratio_text);
+        println!("{what:<24} {over:<26} {one_burst:>6} {bursts:>6} {:>16}", range(fed.range(), ratio_text));
+    }
 }

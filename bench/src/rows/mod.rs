@@ -4,6 +4,7 @@ pub mod copying;
 pub mod get_indices;
 pub mod growth;
 pub mod readers;
+pub mod replays;
 pub mod scans;
 pub mod slowest;
 pub mod update_nodes;
