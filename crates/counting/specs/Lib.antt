@@ -1,0 +1,5 @@
+pub mod Area
+pub mod Counts
+pub mod Figures
+pub mod Terms
+pub mod Claims

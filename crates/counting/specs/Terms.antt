@@ -1,0 +1,22 @@
+-- Terms of contracts: counts that leave room for one call more.
+use Prim.Native.Nat.{ℕ, _*_, _≤_}
+use mathlib.Core.Path.{_≡_}
+use mathlib.Core.List.{List}
+use lib.ListN.{length, getD}
+use Rattle.counting.specs.declared.area.Tally.{Tally}
+use Rattle.counting.specs.declared.counts.Counts.{Counts}
+
+abbrev pub AllWithin : ℕ → List ℕ → Type 0
+AllWithin n rows = (length rows ≡ 28) × ((i : ℕ) → getD rows i 0 ≤ n)
+
+-- the counts of so many calls at most
+pub record Within (calls : ℕ) (c : Counts) : Type 0 where
+  pub size : length (c .rows) ≡ 28
+  pub rows : (i : ℕ) → getD (c .rows) i 0 ≤ calls
+  pub operations : c .operations ≤ 1020 * calls
+  pub used : c .used ≤ 1020 * calls
+
+-- what one area can hand out at most
+pub record Small (t : Tally) : Type 0 where
+  pub operations : t .operations ≤ 1020
+  pub words : t .words ≤ 1020
