@@ -6,7 +6,6 @@ ghost use Rattle.calls.specs.Buffer.{numberFor, asks, requestOf, found, leaves,
 ghost use Rattle.rtas.specs.Working.{Indexes, Worked};
 ghost use Rattle.calls.specs.CallClaims.{CallClaims};
 use crate::dump_call::configure_kernel_dump;
-use crate::nodes_call::update_nodes;
 use crate::properties_call::update_properties;
 use crate::work::Work;
 use calls::Number;
@@ -18,6 +17,7 @@ use calls::status_word;
 use dump::Registration;
 use inventory::Edition;
 use inventory::StartingNumber;
+use node_calls::update_nodes;
 
 // What a call answers: its number, and the registration afterwards.
 pub struct Answer {

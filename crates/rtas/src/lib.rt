@@ -1,7 +1,6 @@
 // The calls on the platform's side, reached through one argument buffer: the code that meets the definitions and claims of `calls`.
 mod calling;
 mod dump_call;
-mod nodes_call;
 mod properties_call;
 mod work;
 
@@ -11,6 +10,5 @@ pub use calling::call;
 pub use calling::call_step;
 pub use dump_call::Configured;
 pub use dump_call::configure_kernel_dump;
-pub use nodes_call::update_nodes;
 pub use properties_call::update_properties;
 pub use work::Work;

@@ -1,8 +1,8 @@
 // update-properties on partition memory.
 ghost use mathlib.Core.Path.{_≡_};
 ghost use Rattle.calls.specs.UpdateProperties.{statusFor, propertiesStatus, propertiesMemory};
-use crate::nodes_call::is_placed;
 use calls::Status;
+use node_calls::is_placed;
 use properties::Outcome;
 
 // The status of what a call came to.

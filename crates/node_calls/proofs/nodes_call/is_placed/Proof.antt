@@ -2,8 +2,8 @@
 use borrow.Author.Needs.{needs}
 use borrow.Author.Tests.{eq-eqb, ne-eqb}
 use Rattle.calls.specs.UpdateNodes.{placed}
-use Rattle.rtas.proofs.nodes_call.is_placed.Statement.{statement}
-use Rattle.rtas.proofs.nodes_call.is_placed.Tie as tie
+use Rattle.node_calls.proofs.nodes_call.is_placed.Statement.{statement}
+use Rattle.node_calls.proofs.nodes_call.is_placed.Tie as tie
 
 returns : tie.Need-returns
 unfolding placed

@@ -6,8 +6,8 @@ use Rattle.journal.specs.Scope.{unitsOf, asking}
 use Rattle.node_area.specs.Head.{unitIn}
 use Rattle.calls.proofs.Areas.{scanned-malformed, scanned-counted}
 use Rattle.calls.specs.UpdateNodes.{areaStatus, areaAfter}
-use Rattle.rtas.proofs.nodes_call.answer_area.Statement.{statement}
-use Rattle.rtas.proofs.nodes_call.answer_area.Tie as tie
+use Rattle.node_calls.proofs.nodes_call.answer_area.Statement.{statement}
+use Rattle.node_calls.proofs.nodes_call.answer_area.Tie as tie
 
 answer-counted-requires : tie.Need-answer-counted-requires
 answer-counted-requires c κs =

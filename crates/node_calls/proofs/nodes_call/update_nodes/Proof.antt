@@ -12,8 +12,8 @@ use Rattle.journal.specs.Scope.{valid}
 use Rattle.calls.proofs.Areas.{placed-inside, left-area}
 use Rattle.calls.proofs.Memory.{part-lent, part-length}
 use Rattle.calls.specs.UpdateNodes.{placed, nodesStatus, nodesMemory}
-use Rattle.rtas.proofs.nodes_call.update_nodes.Statement.{statement}
-use Rattle.rtas.proofs.nodes_call.update_nodes.Tie as tie
+use Rattle.node_calls.proofs.nodes_call.update_nodes.Statement.{statement}
+use Rattle.node_calls.proofs.nodes_call.update_nodes.Tie as tie
 
 returns : tie.Need-returns
 unfolding nodesStatus nodesMemory

@@ -16,8 +16,8 @@ use Rattle.node_area.specs.State.{total}
 use Rattle.calls.proofs.Areas.{left-answered, Left, state-is, state-within}
 use Rattle.calls.specs.declared.status.Status.the-variants.{Done, Again}
 use Rattle.calls.specs.UpdateNodes.{goodState, areaStatus, areaAfter}
-use Rattle.rtas.proofs.nodes_call.answer_counted.Statement.{statement}
-use Rattle.rtas.proofs.nodes_call.answer_counted.Tie as tie
+use Rattle.node_calls.proofs.nodes_call.answer_counted.Statement.{statement}
+use Rattle.node_calls.proofs.nodes_call.answer_counted.Tie as tie
 
 returns : tie.Need-returns
 unfolding areaStatus areaAfter

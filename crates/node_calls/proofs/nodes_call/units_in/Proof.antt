@@ -1,8 +1,8 @@
 -- `nodes_call::units_in` meets its contract.
 use mathlib.Core.Path.{_∙_}
 use borrow.Author.Needs.{needs}
-use Rattle.rtas.proofs.nodes_call.units_in.Statement.{statement}
-use Rattle.rtas.proofs.nodes_call.units_in.Tie as tie
+use Rattle.node_calls.proofs.nodes_call.units_in.Statement.{statement}
+use Rattle.node_calls.proofs.nodes_call.units_in.Tie as tie
 
 returns : tie.Need-returns
 returns c = c .units-of .ensures ∙ rw (c .before .read-unit .ensures)
