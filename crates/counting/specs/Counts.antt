@@ -28,7 +28,7 @@ placeOf status =
     (cond (eqb status 4294967286) 6
     7)))))
 
--- "for each token 1 to 4": seven places each. Other tokens appear nowhere.
+-- "for each token 1 to 4": seven places each. Other tokens appear nowhere, nor does a status that no call gives.
 unfoldable pub isCounted : ℕ → ℕ → Bool
 isCounted t status = leb 1 t && (leb t 4 && ltb (placeOf status) 7)
 

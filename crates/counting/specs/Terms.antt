@@ -9,7 +9,7 @@ use Rattle.counting.specs.declared.counts.Counts.{Counts}
 abbrev pub AllWithin : ℕ → List ℕ → Type 0
 AllWithin n rows = (length rows ≡ 28) × ((i : ℕ) → getD rows i 0 ≤ n)
 
--- the counts of so many calls at most
+-- each row at most so many calls, and what so many areas can hand out
 pub record Within (calls : ℕ) (c : Counts) : Type 0 where
   pub size : length (c .rows) ≡ 28
   pub rows : (i : ℕ) → getD (c .rows) i 0 ≤ calls

@@ -33,7 +33,7 @@ fn operations_in(scope: u32, area: &[u8]) -> u64
     }
 }
 
-// The words in front of the terminator, from operator to operator.
+// The words in front of the terminator, from operator to operator; all 1,020 where there is none.
 fn words_in(area: &[u8]) -> u64
     requires { ⌜ length (now area) ≡ 4096 ⌝ }
     ensures { λ r. ⌜ r ≡ wordsUsed 0 (words (drop 16 (now (area .entry)))) ⌝ }

@@ -70,7 +70,7 @@ fn count_as(counts: Counts, row: usize, more: Tally) -> Counts
     }
 }
 
-// What a call handed out: something where it is an update-nodes call, with its own counts, that was answered.
+// What a call handed out: something where it is an update-nodes call, with its own numbers of inputs and outputs, that was answered.
 fn handed_out(status: u32, args: &[u8], memory: &[u8]) -> Tally
     requires { ⌜ numberFor (now args) ≡ Number.Given ⌝ }
     ensures { λ r. ⌜ r ≡ handedOut status (now (args .entry)) (now (memory .entry)) ⌝ }

@@ -27,13 +27,13 @@ sub-if1 : tie.Need-sub-if1 Inv-loop μ-loop
 sub-if1 c = c .before .loop .inv .small _ (omega arith)
 
 returns : tie.Need-returns Inv-loop μ-loop
-returns c = (sym (not-added _ (c .before .before .before .before .before .args .more) (adding-not (c .before .before .loop .inv) (c .before .loop-test .taken) (c .if1 .taken))), totals-claims)
+returns c = (sym (not-added _ (c .before .before .before .before .before .args .more) (adding-not (c .before .before .loop .inv) (c .before .loop-test .taken) (omega (arith, c .if1 .taken)))), totals-claims)
 
 add-sums : tie.Need-add-sums Inv-loop μ-loop
-add-sums c = omega (arith, adding-fits (c .before .before .loop .inv) (c .if1 .left))
+add-sums c = omega (arith, adding-fits (c .before .before .loop .inv) (omega (arith, c .if1 .left)))
 
 loop-again : tie.Need-loop-again Inv-loop μ-loop
-loop-again c = adding-next (c .before .before .loop .inv) (c .before .loop-test .taken) (c .if1 .left)
+loop-again c = adding-next (c .before .before .loop .inv) (c .before .loop-test .taken) (omega (arith, c .if1 .left))
 
 returns-2 : tie.Need-returns-2 Inv-loop μ-loop
 returns-2 c =
