@@ -62,7 +62,7 @@ fn move_on(random: &mut Random, case: &mut StateCase) {
         replay.registration = registered(random);
     }
     if random.one_in(8) {
-        let (edition, number) = (replay.edition, random.pick(&[2, 2, 9, 1_048_576, 1_048_577]));
+        let (edition, number) = (replay.edition, random.pick(&[2, 2, 9, 69_905, 69_906]));
         replay.reading = ReadingRecord { edition, number, ..reading_records::in_progress(random) };
     }
 }
@@ -157,7 +157,7 @@ fn spoil_reading(random: &mut Random, replay: &mut Replay) {
     match random.below(8) {
         0 => *reading = reading_records::any(random),
         1 => *reading = ReadingRecord { edition, ..reading_records::any(random) },
-        2 => reading.number = random.pick(&[0, 1, 1, 2, 2, 1_048_576, 1_048_577, u32::MAX]),
+        2 => reading.number = random.pick(&[0, 1, 1, 2, 2, 69_905, 69_906, u32::MAX]),
         3 => reading.flag = random.pick(&[0, 1, 2, 2, 0x101, u32::MAX]),
         4 => reading.kind = random.pick(&[0, 9000, 9001, 9002, 9003, 9004, 1]),
         5 => reading.edition = edition.wrapping_add(random.pick(&[0, 1, u32::MAX])),

@@ -204,8 +204,8 @@ fn broken_reading(state: &State) -> Option<&'static str> {
     if number < 2 {
         return Some("reading number under 2");
     }
-    if number > 1_048_576 {
-        return Some("reading number above the bytes of any inventory");
+    if number > 69_905 {
+        return Some("reading number above the entries of any inventory");
     }
     if get_indices::broken_list(flag, kind).is_some() {
         return Some("reading of no list");

@@ -100,7 +100,8 @@ cases =
     ∷ no (left unregistered (flatReading 0 9001 2 7))
     ∷ no (left unregistered (flatReading 0 9002 2 7))
     ∷ yes (left unregistered (flatReading 1 9001 2 7))
-    ∷ no (left unregistered (flatReading 1 9 1048577 7))
+    ∷ yes (left unregistered (flatReading 1 9 69905 7))
+    ∷ no (left unregistered (flatReading 1 9 69906 7))
     -- each takes a call of its own
     ∷ yes (state 4 (flatReport 0 0 2) 0 0 (flat 1 80 structure) (flatReading 1 9 2 7))
     ∷ no (state 4 (flatReport 0 0 1) 0 0 (flat 1 80 structure) (flatReading 1 9 2 7))

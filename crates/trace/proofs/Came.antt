@@ -56,7 +56,7 @@ none-came = zeros-zero copySize
 -- ---- a reading
 
 -- the number behind a run is never the first, and that of an entry
-next-behind : (m i : List ℕ) (e : Edition) (r : ReadingRecord) (q : Request) → Passed m i e r q → moreEntries i q ≡ true → (1 < nextNumber i q) × (nextNumber i q ≤ 1048576)
+next-behind : (m i : List ℕ) (e : Edition) (r : ReadingRecord) (q : Request) → Passed m i e r q → moreEntries i q ≡ true → (1 < nextNumber i q) × (nextNumber i q ≤ 69905)
 unfolding nextNumber goodNumber moreEntries
 next-behind m i e r q p more =
     let first = leb-true 1 (numberIn q) (and-left _ _ (and-right (leb 1 (length (entriesFor i q))) _ (p .numbered))) in
@@ -125,7 +125,7 @@ module _ (f : Found) (r-came : registrationCame (f .registration) ≡ true) (d-c
       by status.Again e =
           let p = again e .0 in
           let behind = next-behind (f .memory) (f .inventory) (f .edition) d q p (again e .1) in
-          reads _ (rw (lt-ltb 1 (nextNumber (f .inventory) q) (behind .0), le-leb (nextNumber (f .inventory) q) 1048576 (behind .1), p .askable-is) (eq-eqb (f .edition .0) (f .edition .0) refl))
+          reads _ (rw (lt-ltb 1 (nextNumber (f .inventory) q) (behind .0), le-leb (nextNumber (f .inventory) q) 69905 (behind .1), p .askable-is) (eq-eqb (f .edition .0) (f .edition .0) refl))
       by status.Malformed e = same
       by status.Parameter e = same
       by status.Changed e = reads noReading refl

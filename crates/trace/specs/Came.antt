@@ -31,11 +31,11 @@ registrationCame r =
 abbrev pub inProgress : ReadingRecord → Bool
 inProgress r = ltb 1 (r .number .0)
 
--- No reading in progress, or one of a flag and type that can be asked for, and of the replay's edition; no inventory has more entries than its 1,048,576 bytes.
+-- No reading in progress, or one of a flag and type that can be asked for, and of the replay's edition, at an entry that an inventory can have: of 1,048,576 bytes an entry takes 15 or more.
 unfoldable pub readingCame : Edition → ReadingRecord → Bool
 readingCame e r =
     cond (inProgress r)
-    (leb (r .number .0) 1048576 && (askable (r .flag) (r .«item_type») && eqb (r .edition .0) (e .0)))
+    (leb (r .number .0) 69905 && (askable (r .flag) (r .«item_type») && eqb (r .edition .0) (e .0)))
     (eqb (r .flag) 0 && (eqb (r .«item_type») 0 && (eqb (r .number .0) 1 && eqb (r .edition .0) 0)))
 
 -- how many calls it took at least
