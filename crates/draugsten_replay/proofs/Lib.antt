@@ -1,4 +1,4 @@
-pub mod States
+pub mod Bursts
 pub mod WholeTrace
 pub mod Witness
 pub mod Readings

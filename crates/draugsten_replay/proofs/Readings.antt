@@ -1,18 +1,11 @@
--- The readings of states, by one computed test.
-use Rattle.words.specs.Numbers.{be, le, beBytes, zeros}
-use Rattle.records.specs.Records.{lengthOf, kindOf}
-use Rattle.records.specs.Cutting.{due, ripe}
-use Rattle.words.specs.Nul.{untilNul}
-use Rattle.dump.specs.Structure.{goodStructure, goodHeader, eachSection, goodType, goodSection, requested, withoutDisk, goodPath}
-use Rattle.calls.specs.GetIndices.{askable}
-use Rattle.trace.specs.Trace.{goodFrame}
+-- The readings of ends, by one computed test.
+use Rattle.words.specs.Numbers.{zeros}
 use Rattle.trace.specs.Came.{registrationCame, readingCame, came}
-use Rattle.draugsten_replay.specs.States.{reportOf, isReport, heldCame, isState, judgedBy}
 use Rattle.replay.specs.Feeding.{endOf}
+use Rattle.replay_states.specs.States.{reportOf, isReport, heldCame, isState}
 use Rattle.draugsten_replay.specs.Feeding.{flatEndOf}
-use Rattle.draugsten_replay.specs.Readings.{StateReadings}
+use Rattle.draugsten_replay.specs.Readings.{EndingCases}
 
-pub state-readings : StateReadings
-unfolding goodStructure goodHeader eachSection goodType goodSection requested withoutDisk goodPath untilNul be beBytes le lengthOf kindOf due ripe goodFrame zeros askable registrationCame readingCame came reportOf isReport
-    heldCame isState judgedBy endOf flatEndOf
-state-readings = record { states = tt; numbers = tt; told = tt }
+pub ending-cases : EndingCases
+unfolding zeros registrationCame readingCame came reportOf isReport heldCame isState endOf flatEndOf
+ending-cases = tt

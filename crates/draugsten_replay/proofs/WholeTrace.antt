@@ -10,11 +10,12 @@ use Rattle.playing.proofs.Lent.{lender-sticky, state-step}
 use Rattle.replay.specs.Feeding.{lentStandingOf}
 use Rattle.trace.proofs.Claims.{trace-claims}
 use Rattle.replay.proofs.Ending.{tells}
-use Rattle.draugsten_replay.specs.declared.state.FlatReplay.{FlatReplay}
-use Rattle.draugsten_replay.specs.States as states
+use Rattle.replay_states.specs.declared.state.FlatReplay.{FlatReplay}
+use Rattle.replay_states.specs.States as states
 use Rattle.draugsten_replay.specs.Feeding.{platform, standingIn, FlatFeeds, flatStart, flatEndOf}
 use Rattle.draugsten_replay.specs.WholeTrace.{Burst, Fed, traceIn, lastReplay, lastHeld, lastArgs, lastMemory, AllTaken, WholeTrace}
-use Rattle.draugsten_replay.proofs.States.{taken, ready, start-accepted}
+use Rattle.replay_states.proofs.States.{taken, ready}
+use Rattle.draugsten_replay.proofs.Bursts.{start-accepted}
 
 bursts : List Burst → List (List ℕ)
 bursts [] = []

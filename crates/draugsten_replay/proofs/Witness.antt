@@ -10,7 +10,7 @@ use Rattle.trace.specs.Playing.{stopped, faulted, kept, setting, common, compar
 use Rattle.trace.specs.Came.{registrationCame, readingCame, came}
 use Rattle.playing.specs.Lent.{lentStep}
 use Rattle.replay.specs.Feeding.{completed}
-use Rattle.draugsten_replay.specs.States.{reportOf, isReport, heldCame, isState, judgedBy}
+use Rattle.replay_states.specs.States.{reportOf, isReport, heldCame, isState, judgedBy}
 use Rattle.draugsten_replay.specs.WholeTrace.{WholeTraceWitness}
 
 pub whole-trace-witness : WholeTraceWitness

@@ -9,10 +9,10 @@ use Rattle.records.specs.Cutting.{Standing, start, fed}
 use Rattle.trace.specs.Playing.{Platform, State, isOver, begin, reader}
 use Rattle.playing.specs.Lent.{lender}
 use Rattle.replay.specs.Feeding.{standingOf, lentStandingOf, completed, startOf, endOf}
-use Rattle.draugsten_replay.specs.declared.state.FlatReplay.{FlatReplay}
+use Rattle.replay_states.specs.declared.state.FlatReplay.{FlatReplay}
 use Rattle.draugsten_replay.specs.declared.feeding.FlatFed.{FlatFed}
 use Rattle.draugsten_replay.specs.declared.feeding.FlatEnded.{FlatEnded}
-use Rattle.draugsten_replay.specs.States.{flatReport, flatReportOf, reportOf, waits, replayIn, flatReplayOf, isState, judged}
+use Rattle.replay_states.specs.States.{flatReport, flatReportOf, reportOf, waits, replayIn, flatReplayOf, isState, judged}
 
 abbrev pub platform : List ℕ → List ℕ → ℕ → Platform
 platform journal inventory edition = record { journal = journal; inventory = inventory; edition = record { 0 = edition } }

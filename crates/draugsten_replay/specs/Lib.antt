@@ -1,5 +1,3 @@
-pub mod States
-pub mod Terms
 pub mod Feeding
 pub mod WholeTrace
 pub mod Readings

@@ -8,9 +8,9 @@ use Rattle.crossing.specs.Record.{readingOf}
 use Rattle.records.specs.Cutting.{start, fed}
 use Rattle.trace.specs.Playing as paper
 use Rattle.playing.specs.Lent.{lender}
-use Rattle.draugsten_replay.specs.declared.state.FlatReplay.{FlatReplay}
+use Rattle.replay_states.specs.declared.state.FlatReplay.{FlatReplay}
 use Rattle.draugsten_replay.specs.declared.feeding.FlatFed.{FlatFed}
-use Rattle.draugsten_replay.specs.States.{flatReport, flatReportOf}
+use Rattle.replay_states.specs.States.{flatReport, flatReportOf}
 use Rattle.draugsten_replay.specs.Feeding.{platform, standingIn, FlatFeeds, flatStart, flatEndOf}
 
 -- a burst, its answer, and the buffers and memory that it left

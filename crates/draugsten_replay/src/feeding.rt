@@ -2,14 +2,14 @@
 ghost use mathlib.Core.Path.{_≡_};
 ghost use Rattle.draugsten_replay.specs.Feeding.{FlatFeeds, flatStart, flatEndOf};
 ghost use Rattle.draugsten_replay.specs.Claims.{BoundaryClaims};
-use crate::coming::is_state;
-use crate::coming::judge;
-use crate::state::FlatReplay;
-use crate::state::FlatReport;
-use crate::state::flat_replay_of;
-use crate::state::flat_report_of;
-use crate::state::replay_of;
 use inventory::Edition;
+use replay_states::FlatReplay;
+use replay_states::FlatReport;
+use replay_states::flat_replay_of;
+use replay_states::flat_report_of;
+use replay_states::is_state;
+use replay_states::judge;
+use replay_states::replay_of;
 
 // What a burst gives: 0 where it was fed, or the number of its refusal, and the replay afterwards.
 #[repr(C)]

@@ -1,4 +1,2 @@
-// The static library of the replay: its state as a flat struct, which states are taken, and start, feed and end over it. Every function takes any buffers.
-mod coming;
+// The static library of the replay: start, feed and end over the flat state. Every function takes any buffers.
 mod feeding;
-mod state;

@@ -3,19 +3,19 @@ use mathlib.Core.Path.{_≡_, refl, sym, _∙_}
 use mathlib.Core.Bool.{true}
 use borrow.Author.Needs.{needs}
 use borrow.Author.Tests.{not-true, not-false}
-use Rattle.draugsten_replay.specs.States.{isState}
+use Rattle.replay_states.specs.States.{isState}
 use Rattle.draugsten_replay.specs.Feeding.{flatEndOf}
-use Rattle.draugsten_replay.proofs.States.{few, narrow}
+use Rattle.replay_states.proofs.States.{few, narrow}
 use Rattle.draugsten_replay.proofs.Claims.{boundary-claims}
 use Rattle.draugsten_replay.proofs.feeding.draugsten_replay_end.Statement.{statement}
 use Rattle.draugsten_replay.proofs.feeding.draugsten_replay_end.Tie as tie
 
 passed : (c : tie.Else1) → isState (c .before .before .args .from) ≡ true
-passed c = sym (c .before .is-state .ensures) ∙ not-false _ (c .if1 .left)
+passed c = sym (c .before .is-state .ensures .0) ∙ not-false _ (c .if1 .left)
 
 returns : tie.Need-returns
 unfolding flatEndOf
-returns c = rw (sym (c .before .is-state .ensures) ∙ not-true _ (c .if1 .taken)) (refl, boundary-claims)
+returns c = rw (sym (c .before .is-state .ensures .0) ∙ not-true _ (c .if1 .taken)) (refl, boundary-claims)
 
 replay-of-requires : tie.Need-replay-of-requires
 replay-of-requires c κs = narrow _ (passed c)

@@ -2,18 +2,19 @@
 use mathlib.Core.Path.{_≡_, sym, _∙_}
 use borrow.Author.Needs.{needs}
 use denote.Ref.{now}
-use Rattle.draugsten_replay.specs.States.{judged}
-use Rattle.draugsten_replay.proofs.States.{taken, narrow, ready, feeds-refused, feeds-given}
+use Rattle.replay_states.specs.States.{judged}
+use Rattle.replay_states.proofs.States.{taken, narrow, ready}
+use Rattle.draugsten_replay.proofs.Bursts.{feeds-refused, feeds-given}
 use Rattle.draugsten_replay.proofs.Claims.{boundary-claims}
 use Rattle.draugsten_replay.proofs.feeding.draugsten_replay_feed.Statement.{statement}
 use Rattle.draugsten_replay.proofs.feeding.draugsten_replay_feed.Tie as tie
 
 returns : tie.Need-returns
-returns c = (feeds-refused _ _ _ _ _ _ _ _ (c .before .judge .ensures) (c .if1 .taken), boundary-claims)
+returns c = (feeds-refused _ _ _ _ _ _ _ _ (c .before .judge .ensures .0) (c .if1 .taken), boundary-claims)
 
 -- the state and the buffers are taken
 zero-is : (c : tie.Else1) → judged (now (c .before .before .before .before .before .before .before .before .before .args .held)) (now (c .before .before .before .before .before .before .before .before .before .args .args)) (c .before .before .before .before .before .before .before .before .before .args .from) ≡ 0
-zero-is c = sym (c .before .judge .ensures) ∙ c .if1 .left
+zero-is c = sym (c .before .judge .ensures .0) ∙ c .if1 .left
 
 replay-of-requires : tie.Need-replay-of-requires
 replay-of-requires c κs =

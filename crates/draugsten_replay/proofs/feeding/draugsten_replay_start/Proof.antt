@@ -2,7 +2,7 @@
 use native.Mathlib.Omega.{arith}
 use mathlib.Core.Path.{ap, _∙_}
 use borrow.Author.Needs.{needs}
-use Rattle.draugsten_replay.specs.States.{flatReplayOf}
+use Rattle.replay_states.specs.States.{flatReplayOf}
 use Rattle.draugsten_replay.proofs.Claims.{boundary-claims}
 use Rattle.draugsten_replay.proofs.feeding.draugsten_replay_start.Statement.{statement}
 use Rattle.draugsten_replay.proofs.feeding.draugsten_replay_start.Tie as tie

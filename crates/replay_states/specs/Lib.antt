@@ -1,0 +1,4 @@
+pub mod States
+pub mod Terms
+pub mod Readings
+pub mod Claims
