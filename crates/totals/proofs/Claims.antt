@@ -13,7 +13,7 @@ use Rattle.totals.specs.Claims.{addedAll, AllTaken, AllSized, figureOver
 use Rattle.totals.proofs.Sums.{length-sums, getD-sums, sums-swap, fit-before, fit-all, fit-each, both, added, not-added}
 
 -- what was taken fits, and is the sums
-taken : (t m : Totals) → addedTo t m .taken ≡ true → (allFit (both t m) ≡ true) × (addedTo t m .totals ≡ totalsOf (both t m))
+pub taken : (t m : Totals) → addedTo t m .taken ≡ true → (allFit (both t m) ≡ true) × (addedTo t m .totals ≡ totalsOf (both t m))
 taken t m e =
     decide (allFit (both t m))
     (λ f. (f, rw (added t m f)))
