@@ -23,6 +23,8 @@ use Rattle.counting.specs.Area.{wordsUsed, tallyOf}
 use Rattle.counting.specs.Counts.{placeOf, isCounted, handedOut, counted}
 use Rattle.counting.specs.Claims.{OperationsRead, UsedWithin, CountReadings, CountClaims}
 use Rattle.counting.proofs.Tallies.{words-behind}
+use Rattle.counting.proofs.Handed.{run-counted}
+use Rattle.counting.proofs.EachCall.{each-call-counted}
 
 -- ---- a good area has its terminator
 
@@ -81,4 +83,4 @@ unfolding be beBytes wordBytes words zeros isReserved faultOf lastAfter verdict 
 count-readings = tt
 
 pub count-claims : CountClaims
-count-claims = record { operations-read = operations-read; used-within = used-within; count-readings = count-readings }
+count-claims = record { operations-read = operations-read; used-within = used-within; run-counted = run-counted; each-call-counted = each-call-counted; count-readings = count-readings }

@@ -4,4 +4,7 @@ pub mod Growing
 pub mod Ways
 pub mod Summing
 pub mod OwnBuffer
+pub mod Handed
+pub mod EachCall
+pub mod Sums
 pub mod Claims

@@ -29,11 +29,11 @@ used-passed zero (w ∷ ws) = omega arith
 used-passed (suc k) (w ∷ ws) = omega (arith, used-passed k ws)
 
 module _ (w : ℕ) (ws : List ℕ) where
-  used-end : w ≡ 0 → wordsUsed 0 (w ∷ ws) ≡ 0
+  pub used-end : w ≡ 0 → wordsUsed 0 (w ∷ ws) ≡ 0
   unfolding wordsUsed
   used-end e = rw e
 
-  used-more : (w ≡ 0 → ⊥) → wordsUsed 0 (w ∷ ws) ≡ suc (wordsUsed (countIn w) ws)
+  pub used-more : (w ≡ 0 → ⊥) → wordsUsed 0 (w ∷ ws) ≡ suc (wordsUsed (countIn w) ws)
   unfolding wordsUsed
   used-more h = rw (ne-eqb w 0 h)
 

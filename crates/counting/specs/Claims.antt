@@ -1,23 +1,30 @@
 -- What is claimed of the counts of a call, cited by the contract of `count_call`.
-use Prim.Native.Nat.{ℕ, _≤_}
+use Prim.Native.Nat.{ℕ, _+_, _*_, _-_, _≤_, _<_}
 use mathlib.Core.Path.{_≡_}
-use mathlib.Core.Bool.{Bool, true, _&&_}
+use mathlib.Core.Bool.{Bool, true, false, _&&_}
 use mathlib.Core.List.{List, [], _∷_, _++_}
+use mathlib.Core.Logic.{_⊎_}
 use lib.Dec.{T, leb, eqb}
 use lib.ListN.{length, set, replicate}
-use Rattle.words.specs.Numbers.{wordBytes}
+use Rattle.words.specs.Numbers.{Bytes, be32, be64, wordBytes}
 use Rattle.words.specs.Reading.{read}
 use Rattle.journal.specs.declared.operation.Operation.{Operation}
+use Rattle.journal.specs.Scope.{selectionOf}
+use Rattle.journal.specs.Reportable.{reportable}
 use Rattle.node_area.specs.Reading.{reading}
+use Rattle.nodes.specs.Run.{cost, run}
 use Rattle.calls.specs.declared.status.Number.{Number}
 use Rattle.calls.specs.declared.status.Number.the-variants.{Given, Short, NoOutputs, TooMany}
+use Rattle.calls.specs.declared.status.Status.{Status}
+use Rattle.calls.specs.declared.status.Status.the-variants.{Done, Again, Malformed, Parameter, Changed, AlreadyRegistered, DumpActive}
+use Rattle.calls.specs.Status.{isGiven, statusWord}
 use Rattle.calls.specs.Lent.{partAt}
-use Rattle.calls.specs.Buffer.{input, isNodes}
+use Rattle.calls.specs.Buffer.{token, input, statusAt, isNodes, Found, callOf, answered}
 use Rattle.calls.specs.Terms.{minus}
 use Rattle.calls.specs.Readings.{same, all}
 use Rattle.counting.specs.declared.counts.Counts.{Counts}
 use Rattle.counting.specs.Area.{tallyOf}
-use Rattle.counting.specs.Counts.{noCounts, handedOut, counted}
+use Rattle.counting.specs.Counts.{noCounts, oneMore, handedOut, counted}
 
 -- An answered update-nodes call counts the operations that its area reads as.
 abbrev pub OperationsRead : Type 0
@@ -28,6 +35,36 @@ OperationsRead =
 -- "words available (1,019 for each answered call)": an area that is read never uses more.
 abbrev pub UsedWithin : Type 0
 UsedWithin = (scope : ℕ) (area : List ℕ) (os : List Operation) → reading scope area ≡ read os → tallyOf scope area .words ≤ 1019
+
+-- An answered update-nodes call counts the operations that it hands out, and the words that they cost.
+abbrev pub RunCounted : Type 0
+RunCounted =
+    (f : Found) → Bytes (f .memory) → Bytes (f .journal) → isNodes (f .args) ≡ true → answered (f .args) (callOf f) ≡ true
+    → let area = partAt (f .memory) (input (f .args) 0) 4096 in
+    let handed = run (reportable (selectionOf (input (f .args) 1) (be64 area 4)) (f .journal)) (be32 area 0) in
+    handedOut (be32 (callOf f .args) (statusAt (f .args))) (callOf f .args) (callOf f .memory) ≡ record { operations = length handed; words = cost handed }
+
+-- the place of a status among the seven of a token
+abbrev pub placeIn : Status → ℕ
+placeIn Done = 0
+placeIn Again = 1
+placeIn Malformed = 2
+placeIn Parameter = 3
+placeIn Changed = 4
+placeIn AlreadyRegistered = 5
+placeIn DumpActive = 6
+
+-- "for each token 1 to 4, calls with argument answer 0 and each status's count": one row grows by one, that of the call's token and status.
+-- "Other tokens and answers 10 to 12 appear nowhere."
+abbrev pub EachCallCounted : Type 0
+EachCallCounted =
+    (f : Found) (c : Counts) →
+    let x = callOf f in
+    let t = token (f .args) in
+    let after = counted c (x .number) (x .args) (x .memory) in
+    (isGiven (x .number) ≡ true → 1 ≤ t → t ≤ 4
+    → (s : Status) × ((be32 (x .args) (statusAt (f .args)) ≡ statusWord s) × (after .rows ≡ oneMore (c .rows) (7 * (t - 1) + placeIn s))))
+    × ((isGiven (x .number) ≡ false) ⊎ ((t ≡ 0) ⊎ (4 < t)) → after ≡ c)
 
 -- ---- calls in words
 
@@ -87,4 +124,6 @@ CountReadings = T (all cases)
 pub record CountClaims : Type 0 where
   pub operations-read : OperationsRead
   pub used-within : UsedWithin
+  pub run-counted : RunCounted
+  pub each-call-counted : EachCallCounted
   pub count-readings : CountReadings
