@@ -12,7 +12,7 @@ use Rattle.calls.specs.Buffer.{token, statusAt, Found, Left, outcome, callOf}
 use Rattle.calls.proofs.Heads.{number-is}
 use Rattle.calls.proofs.Calls.{status-word}
 use Rattle.counting.specs.declared.counts.Counts.{Counts}
-use Rattle.counting.specs.Counts.{placeOf, oneMore, counted}
+use Rattle.counting.specs.Counts.{placeOf, countedIn, handedOut, counted}
 use Rattle.counting.specs.Claims.{placeIn, EachCallCounted}
 use Rattle.counting.proofs.Ways.{counted-not, counted-is}
 use Rattle.counting.proofs.OwnBuffer.{word-kept}
@@ -53,13 +53,13 @@ module _ (f : Found) (c : Counts) where
   place-kept = rw (word-kept f 4 (omega arith))
 
   in-one : isGiven (x .number) ≡ true → 1 ≤ t → t ≤ 4
-      → (s : Status) × ((be32 (x .args) (statusAt (f .args)) ≡ statusWord s) × (after .rows ≡ oneMore (c .rows) (7 * (t - 1) + placeIn s)))
+      → (s : Status) × ((be32 (x .args) (statusAt (f .args)) ≡ statusWord s) × (after ≡ countedIn c (7 * (t - 1) + placeIn s) (handedOut (statusWord s) (x .args) (x .memory))))
   in-one g l h =
       let s = outcome f .status in
       let word : be32 (x .args) (statusAt (f .args)) ≡ statusWord s = status-word f (ap isGiven (sym (number-is f)) ∙ g) in
       let place : placeOf (be32 (x .args) (statusAt (x .args))) ≡ placeIn s = rw (place-kept, word) (place-is s) in
       let is = counted-is (x .args) (x .memory) c (x .number) g (omega (arith, token-kept)) (omega (arith, token-kept)) (omega (arith, place, place-below s)) in
-      (s, (word, ap (λ (d : Counts). d .rows) is ∙ rw (place, token-kept)))
+      (s, (word, is ∙ rw (place, token-kept, place-kept, word)))
 
   in-none : (isGiven (x .number) ≡ false) ⊎ ((t ≡ 0) ⊎ (4 < t)) → after ≡ c
   in-none h = sym (counted-not (x .args) (x .memory) c (x .number) (λ g l m _. ⊎-elim (λ e. true≢false (sym g ∙ e)) (λ o. ⊎-elim (λ e. omega (arith, token-kept)) (λ e. omega (arith, token-kept)) o) h))

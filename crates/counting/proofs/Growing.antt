@@ -1,10 +1,10 @@
 -- The counts after one call more stay in bounds.
-use mathlib.Core.Path.{refl, _∙_}
+use mathlib.Core.Path.{_≡_, refl, _∙_}
 use mathlib.Core.Bool.{_&&_}
 use mathlib.Core.List.{List, [], _∷_}
 use Prim.Native.Nat.{ℕ, zero, suc, _+_, _≤_}
 use native.Mathlib.Omega.{arith}
-use lib.ListN.{getD, replicate, length-set}
+use lib.ListN.{length, getD, replicate, length-set}
 use Rattle.words.specs.Numbers.{be32}
 use Rattle.words.proofs.Choice.{choose}
 use Rattle.calls.specs.declared.status.Number.{Number}
@@ -30,6 +30,11 @@ more-rows n zero zero (x ∷ l) h = omega (arith, h 0)
 more-rows n zero (suc i) (x ∷ l) h = omega (arith, h (suc i))
 more-rows n (suc r) zero (x ∷ l) h = omega (arith, h 0)
 more-rows n (suc r) (suc i) (x ∷ l) h = more-rows n r i l (λ k. h (suc k))
+
+pub rows-counted : (c : Counts) (number : Number) (args memory : List ℕ) → length (counted c number args memory .rows) ≡ length (c .rows)
+unfolding counted
+rows-counted c number args memory =
+    choose (isGiven number && isCounted (token args) (be32 args (statusAt args))) (λ (a : Counts). length (a .rows) ≡ length (c .rows)) (λ _. length-set (c .rows) _ _) (λ _. refl)
 
 module _ (n : ℕ) (c : Counts) (w : Within n c) where
   pub within-later : (m : ℕ) → n ≤ m → Within m c

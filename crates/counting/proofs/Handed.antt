@@ -9,7 +9,7 @@ use native.Mathlib.Omega.{arith}
 use lib.Arith.{digits-mod}
 use lib.ListN.{length, drop, length-append}
 use lib.Seq.{drop-at}
-use borrow.Author.Tests.{eq-eqb, leb-true}
+use borrow.Author.Tests.{leb-true}
 use Rattle.words.specs.Numbers.{Bytes, be32, be64, beBytes, wordBytes, words}
 use Rattle.words.specs.Reading.{read}
 use Rattle.words.proofs.Numbers.{be-bytes}
@@ -95,10 +95,10 @@ used-written units area os state h =
 
 -- ---- the call
 
-tally-by : (scope : ℕ) (area : List ℕ) (os : List Operation) → length area ≡ 4096 → reading scope area ≡ read os → wordsUsed 0 (words (drop 16 area)) ≡ cost os
+tally-by : (scope : ℕ) (area : List ℕ) (os : List Operation) → reading scope area ≡ read os → wordsUsed 0 (words (drop 16 area)) ≡ cost os
     → tallyOf scope area ≡ record { operations = length os; words = cost os }
 unfolding tallyOf
-tally-by scope area os size e u = rw (eq-eqb (length area) 4096 size, e, u)
+tally-by scope area os e u = rw (e, u)
 
 module _ (f : Found) (own : isNodes (f .args) ≡ true) (told : answered (f .args) (callOf f) ≡ true) where
   abbrev b : List ℕ
@@ -147,7 +147,7 @@ module _ (f : Found) (own : isNodes (f .args) ≡ true) (told : answered (f .arg
 
   tally-is : Bytes (f .memory) → Bytes (f .journal) → tallyOf scope left ≡ record { operations = length (run os state); words = cost (run os state) }
   tally-is memory journal =
-      tally-by scope left (run os state) (ap length left-is ∙ size) (exact .answers memory journal low .reads-back)
+      tally-by scope left (run os state) (exact .answers memory journal low .reads-back)
       (ap (λ (l : List ℕ). wordsUsed 0 (words (drop 16 l))) left-is ∙ used-written _ area os state within)
 
   handed : handedOut (statusOf b x) (x .args) (x .memory) ≡ tallyOf scope left

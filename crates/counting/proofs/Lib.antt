@@ -4,7 +4,12 @@ pub mod Growing
 pub mod Ways
 pub mod Summing
 pub mod OwnBuffer
+pub mod OfTrace
 pub mod Handed
 pub mod EachCall
 pub mod Sums
+pub mod EveryCall
+pub mod TraceCounts
+pub mod CountsCame
+pub mod Consistent
 pub mod Claims

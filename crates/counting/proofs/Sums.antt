@@ -2,7 +2,7 @@
 use mathlib.Core.Path.{_≡_}
 use mathlib.Core.Bool.{_&&_}
 use mathlib.Core.List.{List, [], _∷_}
-use Prim.Native.Nat.{ℕ, zero, suc, _+_, _*_, _-_, _<_, _≤_}
+use Prim.Native.Nat.{ℕ, zero, suc, _+_, _*_, _<_, _≤_}
 use native.Mathlib.Omega.{arith}
 use lib.Dec.{leb}
 use lib.ListN.{length}
@@ -38,11 +38,12 @@ place-low : (status : ℕ) → status ≤ 1 → placeOf status ≡ status
 unfolding placeOf
 place-low status h = rw (le-leb status 1 h)
 
--- between counts and later ones no more was handed out than by the calls that the first two rows have more: answered update-nodes calls
+-- between counts and later ones no more was handed out than by the calls that the first two rows have more: answered update-nodes calls; and no more operations than words
 abbrev pub ByAnswered : Counts → Counts → Type 0
 ByAnswered c a =
-    let most = 1020 * (sumOf 2 (a .rows) - sumOf 2 (c .rows)) in
-    (a .operations ≤ c .operations + most) × (a .used ≤ c .used + most) × (sumOf 2 (c .rows) ≤ sumOf 2 (a .rows))
+    (a .operations + c .used ≤ c .operations + a .used)
+    × (a .used + 1019 * sumOf 2 (c .rows) ≤ c .used + 1019 * sumOf 2 (a .rows))
+    × (sumOf 2 (c .rows) ≤ sumOf 2 (a .rows))
 
 module _ (c : Counts) (number : Number) (args memory : List ℕ) where
   abbrev status : ℕ

@@ -3,22 +3,13 @@ use mathlib.Core.Path.{_≡_, refl, ap, _∙_}
 use mathlib.Core.List.{List, [], _∷_}
 use Prim.Native.Nat.{ℕ, zero, suc, _+_, _*_, _-_, _/_, _%_, _<_, _≤_, min}
 use native.Mathlib.Omega.{arith}
-use lib.Dec.{eqb}
 use lib.ListN.{length, drop, length-drop}
 use lib.Seq.{drop-drop}
 use borrow.Author.Tests.{ne-eqb}
 use Rattle.words.specs.Numbers.{be, words}
 use Rattle.words.proofs.Words.{words-step, words-short, words-drop, length-words}
-use Rattle.words.proofs.Choice.{choose}
 use Rattle.node_area.specs.Reading.{countIn}
 use Rattle.counting.specs.Area.{wordsUsed}
-
--- at most all words
-pub used-most : (k : ℕ) (ws : List ℕ) → wordsUsed k ws ≤ length ws
-unfolding wordsUsed
-used-most k [] = omega arith
-used-most zero (w ∷ ws) = choose (eqb w 0) (λ (n : ℕ). n ≤ suc (length ws)) (λ _. omega arith) (λ _. omega (arith, used-most (countIn w) ws))
-used-most (suc k) (w ∷ ws) = omega (arith, used-most k ws)
 
 -- past operands, as far as there are words
 used-passed : (k : ℕ) (ws : List ℕ) → wordsUsed k ws ≡ min k (length ws) + wordsUsed 0 (drop k ws)

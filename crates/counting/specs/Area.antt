@@ -11,11 +11,6 @@ use Rattle.node_area.specs.declared.reading.Refusal.{Refusal}
 use Rattle.node_area.specs.Reading.{countIn, reading}
 use Rattle.counting.specs.declared.area.Tally.{Tally}
 
--- the operations that an area reads as
-abbrev pub entries : Reading Operation Refusal → ℕ
-entries (read os) = length os
-entries (refused r at) = 0
-
 -- Words from an operator on; the first k are operands of the operator before them. A zero word ends the list.
 unfoldable pub wordsUsed : ℕ → List ℕ → ℕ
 wordsUsed k [] = 0
@@ -25,9 +20,11 @@ wordsUsed (suc k) (w ∷ ws) = suc (wordsUsed k ws)
 abbrev pub noTally : Tally
 noTally = record { operations = 0; words = 0 }
 
--- a whole area of 4,096 bytes; the operators begin at byte 16
+-- What an area hands out: the operations that it reads as, and the words in front of its terminator, operators and operands; nothing where it is refused. The
+-- operators begin at byte 16.
+abbrev pub tallyBy : Reading Operation Refusal → List ℕ → Tally
+tallyBy (read os) area = record { operations = length os; words = wordsUsed 0 (words (drop 16 area)) }
+tallyBy (refused r at) area = noTally
+
 unfoldable pub tallyOf : ℕ → List ℕ → Tally
-tallyOf scope area =
-    cond (eqb (length area) 4096)
-    (record { operations = entries (reading scope area); words = wordsUsed 0 (words (drop 16 area)) })
-    noTally
+tallyOf scope area = tallyBy (reading scope area) area

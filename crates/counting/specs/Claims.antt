@@ -24,7 +24,7 @@ use Rattle.calls.specs.Terms.{minus}
 use Rattle.calls.specs.Readings.{same, all}
 use Rattle.counting.specs.declared.counts.Counts.{Counts}
 use Rattle.counting.specs.Area.{tallyOf}
-use Rattle.counting.specs.Counts.{noCounts, oneMore, handedOut, counted}
+use Rattle.counting.specs.Counts.{noCounts, countedIn, handedOut, counted}
 
 -- An answered update-nodes call counts the operations that its area reads as.
 abbrev pub OperationsRead : Type 0
@@ -54,7 +54,8 @@ placeIn Changed = 4
 placeIn AlreadyRegistered = 5
 placeIn DumpActive = 6
 
--- "for each token 1 to 4, calls with argument answer 0 and each status's count": one row grows by one, that of the call's token and status.
+-- "for each token 1 to 4, calls with argument answer 0 and each status's count": one row grows by one, that of the call's token and status, and what the call handed
+-- out is added.
 -- "Other tokens and answers 10 to 12 appear nowhere."
 abbrev pub EachCallCounted : Type 0
 EachCallCounted =
@@ -63,7 +64,7 @@ EachCallCounted =
     let t = token (f .args) in
     let after = counted c (x .number) (x .args) (x .memory) in
     (isGiven (x .number) ≡ true → 1 ≤ t → t ≤ 4
-    → (s : Status) × ((be32 (x .args) (statusAt (f .args)) ≡ statusWord s) × (after .rows ≡ oneMore (c .rows) (7 * (t - 1) + placeIn s))))
+    → (s : Status) × ((be32 (x .args) (statusAt (f .args)) ≡ statusWord s) × (after ≡ countedIn c (7 * (t - 1) + placeIn s) (handedOut (statusWord s) (x .args) (x .memory)))))
     × ((isGiven (x .number) ≡ false) ⊎ ((t ≡ 0) ⊎ (4 < t)) → after ≡ c)
 
 -- ---- calls in words
@@ -93,6 +94,9 @@ cases =
     ∷ one 4 0 0 (left Given (1 ∷ 2 ∷ 1 ∷ 0 ∷ 1 ∷ minus 4 ∷ []))
     ∷ one 5 0 0 (left Given (1 ∷ 2 ∷ 1 ∷ 0 ∷ 1 ∷ minus 9 ∷ []))
     ∷ one 6 0 0 (left Given (1 ∷ 2 ∷ 1 ∷ 0 ∷ 1 ∷ minus 10 ∷ []))
+    -- an area that passes the end of memory, and one with an opcode of 4, hand out nothing
+    ∷ one 0 0 0 (left Given (1 ∷ 2 ∷ 1 ∷ 1 ∷ 1 ∷ 0 ∷ []))
+    ∷ one 0 0 0 (counted noCounts Given (wordBytes (1 ∷ 2 ∷ 1 ∷ 0 ∷ 1 ∷ 0 ∷ [])) (wordBytes (0 ∷ 0 ∷ 0 ∷ 0 ∷ 67108866 ∷ 5 ∷ 6 ∷ 0 ∷ []) ++ replicate 4064 7))
     -- counts unlike the call's own are among the -3
     ∷ one 3 0 0 (left Given (1 ∷ 0 ∷ 1 ∷ minus 3 ∷ []))
     ∷ one 3 0 0 (left Given (1 ∷ 2 ∷ 2 ∷ 0 ∷ 1 ∷ minus 3 ∷ 9 ∷ []))

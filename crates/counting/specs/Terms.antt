@@ -9,14 +9,14 @@ use Rattle.counting.specs.declared.counts.Counts.{Counts}
 abbrev pub AllWithin : ℕ → List ℕ → Type 0
 AllWithin n rows = (length rows ≡ 28) × ((i : ℕ) → getD rows i 0 ≤ n)
 
--- each row at most so many calls, and what so many areas can hand out
+-- each row at most so many calls, a word or more for each operation, and no more words than so many areas can hand out
 pub record Within (calls : ℕ) (c : Counts) : Type 0 where
   pub size : length (c .rows) ≡ 28
   pub rows : (i : ℕ) → getD (c .rows) i 0 ≤ calls
-  pub operations : c .operations ≤ 1020 * calls
-  pub used : c .used ≤ 1020 * calls
+  pub operations : c .operations ≤ c .used
+  pub used : c .used ≤ 1019 * calls
 
 -- what one area can hand out at most
 pub record Small (t : Tally) : Type 0 where
-  pub operations : t .operations ≤ 1020
-  pub words : t .words ≤ 1020
+  pub operations : t .operations ≤ t .words
+  pub words : t .words ≤ 1019

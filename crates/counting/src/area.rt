@@ -1,10 +1,9 @@
 // The operations and words that an update-nodes call handed out.
 ghost use mathlib.Core.Path.{_≡_};
 ghost use Rattle.calls.specs.Lent.{partAt};
-ghost use Rattle.node_area.specs.Reading.{reading};
 ghost use Rattle.words.specs.Numbers.{words};
 ghost use lib.ListN.{length, drop};
-ghost use Rattle.counting.specs.Area.{noTally, entries, wordsUsed, tallyOf};
+ghost use Rattle.counting.specs.Area.{noTally, wordsUsed, tallyOf};
 use node_area::Check;
 
 // How many operations an area hands out, and how many words they take, operators and operands.
@@ -19,17 +18,6 @@ pub fn no_tally() -> Tally
     Tally {
         operations: 0,
         words: 0,
-    }
-}
-
-// The operations that an area reads as, none where it is refused.
-fn operations_in(scope: u32, area: &[u8]) -> u64
-    ensures { λ r. ⌜ r ≡ entries (reading scope (now (area .entry))) ⌝ }
-{
-    let found = node_area::check_area(scope, area);
-    match found {
-        Check::Refused(_, _) => 0,
-        Check::Entries(n) => n as u64,
     }
 }
 
@@ -49,6 +37,21 @@ fn words_in(area: &[u8]) -> u64
     1020
 }
 
+// What an area hands out; nothing where it is refused.
+fn tally_in(scope: u32, area: &[u8]) -> Tally
+    requires { ⌜ length (now area) ≡ 4096 ⌝ }
+    ensures { λ r. ⌜ r ≡ tallyOf scope (now (area .entry)) ⌝ }
+{
+    let found = node_area::check_area(scope, area);
+    match found {
+        Check::Refused(_, _) => no_tally(),
+        Check::Entries(n) => Tally {
+            operations: n as u64,
+            words: words_in(area),
+        },
+    }
+}
+
 // The area of an update-nodes call; nothing where it passes the end of memory.
 pub fn tally_at(memory: &[u8], address: u32, scope: u32) -> Tally
     ensures { λ r. ⌜ r ≡ tallyOf scope (partAt (now (memory .entry)) address 4096) ⌝ }
@@ -57,8 +60,5 @@ pub fn tally_at(memory: &[u8], address: u32, scope: u32) -> Tally
     if memory.len() < at + 4096 {
         return no_tally();
     }
-    Tally {
-        operations: operations_in(scope, &memory[at..at + 4096]),
-        words: words_in(&memory[at..at + 4096]),
-    }
+    tally_in(scope, &memory[at..at + 4096])
 }

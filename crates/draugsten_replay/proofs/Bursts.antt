@@ -13,7 +13,8 @@ use Rattle.replay.specs.declared.feeding.Replay.{Replay}
 use Rattle.replay.specs.Feeding as replays
 use Rattle.replay.proofs.Standings.{ready-start}
 use Rattle.replay_states.specs.declared.state.FlatReplay.{FlatReplay}
-use Rattle.replay_states.specs.States.{replayIn, flatReplayOf, judged}
+use Rattle.counting.specs.declared.counts.Counts.{Counts}
+use Rattle.replay_states.specs.States.{replayWith, flatReplayOf, judged}
 use Rattle.replay_states.proofs.States.{standing-back, taken, room, state-came, again}
 use Rattle.draugsten_replay.specs.Feeding.{platform, standingIn, FlatFeeds, StartAccepted}
 
@@ -37,10 +38,11 @@ module _ (journal inventory held args memory : List ℕ) (f : FlatReplay) (bytes
         edition = refl;
       }
 
-  pub feeds-given : (heldThen argsThen memoryThen : List ℕ) (r : Replay) → judged held args f ≡ 0
-      → replays.Feeds (platform journal inventory (f .edition)) held args memory (replayIn f) bytes heldThen argsThen memoryThen r
+  -- with any counts
+  pub feeds-given : (c : Counts) (heldThen argsThen memoryThen : List ℕ) (r : Replay) → judged held args f ≡ 0
+      → replays.Feeds (platform journal inventory (f .edition)) held args memory (replayWith f c) bytes heldThen argsThen memoryThen r
       → FlatFeeds journal inventory held args memory f bytes heldThen argsThen memoryThen (record { number = 0; replay = flatReplayOf r })
-  feeds-given heldThen argsThen memoryThen r z x =
+  feeds-given c heldThen argsThen memoryThen r z x =
       record {
         number = sym z;
         refused = λ h. absurd (h z);

@@ -3,3 +3,10 @@ pub mod WholeTrace
 pub mod Witness
 pub mod Readings
 pub mod Claims
+pub mod Sessions
+pub mod Countings
+pub mod Months
+pub mod Refusals
+pub mod MonthReadings
+pub mod SessionWitness
+pub mod MonthClaims

@@ -9,7 +9,7 @@ use replay_states::flat_replay_of;
 use replay_states::flat_report_of;
 use replay_states::is_state;
 use replay_states::judge;
-use replay_states::replay_of;
+use replay_states::replay_alone;
 
 // What a burst gives: 0 where it was fed, or the number of its refusal, and the replay afterwards.
 #[repr(C)]
@@ -61,7 +61,7 @@ pub extern "C" fn draugsten_replay_feed(
         memory,
         journal,
         inventory,
-        replay_of(from),
+        replay_alone(from),
         bytes,
     );
     FlatFed {
@@ -88,6 +88,6 @@ pub extern "C" fn draugsten_replay_end(from: FlatReplay) -> FlatEnded
     }
     FlatEnded {
         number: 0,
-        report: flat_report_of(replay::end(replay_of(from))),
+        report: flat_report_of(replay::end(replay_alone(from))),
     }
 }

@@ -18,6 +18,9 @@ use Rattle.trace.specs.Trace.{goodFrame}
 use Rattle.trace.specs.Playing.{Platform, State, isOver, reader}
 use Rattle.playing.specs.Lent.{Lent, lender}
 use Rattle.playing.specs.Played.{stateOf, lentOf, Steady}
+use Rattle.counting.specs.Counts.{noCounts}
+use Rattle.counting.specs.OfTrace.{Counting, counter}
+use Rattle.counting.specs.Terms.{Within}
 
 module _ {S : Type 0} where
   abbrev pub at : S → List ℕ → Standing S
@@ -29,9 +32,14 @@ standingOf held args memory w = at (stateOf args memory (w .playing)) (take (w .
 abbrev pub lentStandingOf : List ℕ → List ℕ → List ℕ → Replay → Standing Lent
 lentStandingOf held args memory w = at (lentOf args memory (w .playing)) (take (w .held) held)
 
--- What a start has and every burst leaves: a steady replay, and held bytes with room for any record, that make none yet and are none once it has stopped.
+abbrev pub countingOf : List ℕ → List ℕ → List ℕ → Replay → Standing Counting
+countingOf held args memory w = at (record { state = stateOf args memory (w .playing); counts = w .counts }) (take (w .held) held)
+
+-- What a start has and every burst leaves: a steady replay, no more calls counted than records taken, and held bytes with room for any record, that make none
+-- yet and are none once it has stopped.
 pub record Ready (held args : List ℕ) (w : Replay) : Type 0 where
   pub steady : Steady args (w .playing)
+  pub counted : Within (w .playing .records) (w .counts)
   pub room : 4104 ≤ length held
   pub inside : w .held ≤ length held
   pub raw : ripe goodFrame (take (w .held) held) ≡ false
@@ -41,11 +49,12 @@ pub record Ready (held args : List ℕ) (w : Replay) : Type 0 where
 unfoldable pub completed : List ℕ → ℕ → List ℕ → List ℕ
 completed held n bytes = cond (eqb n 0) held (sets held n (take (due goodFrame (take n held ++ bytes) - n) bytes))
 
--- A burst is fed: the replay stands as the reader of bursts says, with every byte of the two lent buffers, and ready for the next. The buffer of held
+-- A burst is fed: the replay stands as the reader of bursts says, with every byte of the two lent buffers and with its calls counted, and ready for the next. The buffer of held
 -- bytes has what is held now over the completed record; its bytes past 4,104 are never touched, and after a stop nothing is.
 pub record Feeds (p : Platform) (held args memory : List ℕ) (w : Replay) (bytes heldThen argsThen memoryThen : List ℕ) (r : Replay) : Type 0 where
   pub same : standingOf heldThen argsThen memoryThen r ≡ fed (reader p) (standingOf held args memory w) bytes
   pub lent : argsThen ≡ fed (lender p) (lentStandingOf held args memory w) bytes .state .args
+  pub counts : r .counts ≡ fed (counter p) (countingOf held args memory w) bytes .state .counts
   pub whole : heldThen ≡ sets (completed held (w .held) bytes) 0 (fed (reader p) (standingOf held args memory w) bytes .held)
   pub behind : drop 4104 heldThen ≡ drop 4104 held
   pub kept : isOver (w .playing .report) ≡ true → (heldThen ≡ held) × (argsThen ≡ args)
@@ -54,7 +63,7 @@ pub record Feeds (p : Platform) (held args memory : List ℕ) (w : Replay) (byte
 
 -- "starting with no registration and no reading in progress"
 abbrev pub startOf : Edition → Replay
-startOf e = record { playing = record { records = 0; report = Agreed 0; waits = false; size = 0; edition = e; registration = noRegistration; reading = noReading }; held = 0 }
+startOf e = record { playing = record { records = 0; report = Agreed 0; waits = false; size = 0; edition = e; registration = noRegistration; reading = noReading }; held = 0; counts = noCounts }
 
 -- What an end tells, by the replay and how many bytes are held. It changes nothing.
 unfoldable pub endOf : Report → ℕ → Bool → ℕ → Report

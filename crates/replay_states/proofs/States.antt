@@ -23,11 +23,15 @@ use Rattle.trace.specs.Trace.{goodFrame}
 use Rattle.trace.specs.Playing.{isOver, agreed}
 use Rattle.trace.specs.Came.{callsFor, waitsIn, waitingNumber, reportCame, registrationCame, readingCame, came, stateCame}
 use Rattle.trace.proofs.Reader.{due-most}
+use Rattle.counting.specs.declared.counts.Counts.{Counts}
+use Rattle.counting.specs.Counts.{noCounts}
+use Rattle.counting.specs.Terms.{Within}
+use Rattle.counting.proofs.Growing.{within-none, within-later}
 use Rattle.playing.specs.Played as played
 use Rattle.replay.specs.declared.feeding.Replay.{Replay}
 use Rattle.replay.specs.Feeding as replays
 use Rattle.replay_states.specs.declared.state.FlatReplay.{FlatReplay}
-use Rattle.replay_states.specs.States.{flatReportOf, reportOf, isReport, waits, replayIn, waitingField, flatReplayOf, heldCame, isState, judgedBy, judged}
+use Rattle.replay_states.specs.States.{flatReportOf, reportOf, isReport, waits, replayWith, replayIn, waitingField, flatReplayOf, heldCame, isState, judgedBy, judged}
 use Rattle.replay_states.specs.Terms.{Narrow}
 
 -- ---- over and back
@@ -40,7 +44,7 @@ phase-back Active = refl
 registration-back : (r : Registration) → registrationOf (flatOf r) ≡ r
 registration-back r = ap (λ (p : Phase). record { phase = p; len = r .len; copy = r .copy }) (phase-back (r .phase))
 
-report-back : (x : Report) → reportOf (flatReportOf x) ≡ x
+pub report-back : (x : Report) → reportOf (flatReportOf x) ≡ x
 unfolding reportOf
 report-back (Agreed calls) = refl
 report-back (Differs call offset) = refl
@@ -63,17 +67,17 @@ standing-back held args memory r = rw (report-back (r .playing .report), registr
 -- ---- a state that is taken
 
 -- the number of the 32 that waits, from the buffer and from the size
-number-same : (w : Bool) (size : ℕ) (args : List ℕ) → size ≤ length args → waitingNumber (played.waitingOf w size args) ≡ waitingField w size
+pub number-same : (w : Bool) (size : ℕ) (args : List ℕ) → size ≤ length args → waitingNumber (played.waitingOf w size args) ≡ waitingField w size
 number-same true size args h = ap (λ (n : ℕ). n + 1) (length-take-le size args h)
 number-same false size args h = refl
 
-sized : (n : ℕ) (args : List ℕ) → n ≤ 4101 → 4100 ≤ length args → waitingNumber (played.waitingOf (not (eqb n 0)) (n - 1) args) ≡ n
+pub sized : (n : ℕ) (args : List ℕ) → n ≤ 4101 → 4100 ≤ length args → waitingNumber (played.waitingOf (not (eqb n 0)) (n - 1) args) ≡ n
 sized n args h room = decide (eqb n 0)
     (λ t. rw t (sym (eqb-true n 0 t)))
     (λ t. let some = eqb-false n 0 t in let more : n - 1 + 1 ≡ n = omega arith in rw t (number-same true (n - 1) args (omega arith) ∙ more))
 
 -- the calls of a report are no more than its records
-calls-in : Report → ℕ
+unfoldable pub calls-in : Report → ℕ
 calls-in (Agreed calls) = calls
 calls-in (Differs call offset) = call
 calls-in (Malformed number) = 0
@@ -155,30 +159,34 @@ module _ (f : FlatReplay) (is : isState f ≡ true) where
   unfolding came
   few = leb-true _ _ (and-left _ _ has-come)
 
-  short : f .waiting ≤ 4101
+  pub short : f .waiting ≤ 4101
   unfolding came
   short = leb-true _ _ (and-left _ _ (and-right (leb (f .records) 4294967295) _ has-come))
 
-  counts : reportCame (reportOf (f .report)) (f .records) (waitsIn (f .waiting)) (callsFor (registrationOf (f .registration)) (readingOf (f .reading))) ≡ true
+  pub counts : reportCame (reportOf (f .report)) (f .records) (waitsIn (f .waiting)) (callsFor (registrationOf (f .registration)) (readingOf (f .reading))) ≡ true
   unfolding came
   counts = and-left _ _ (and-right (leb (f .waiting) 4101) _ (and-right (leb (f .records) 4294967295) _ has-come))
 
+  pub calls-low : calls-in (reportOf (f .report)) ≤ f .records
+  calls-low = calls-few (f .records) (waitsIn (f .waiting)) (callsFor (registrationOf (f .registration)) (readingOf (f .reading))) (reportOf (f .report)) counts
+
   pub narrow : Narrow (f .report)
-  narrow h = omega (arith, few, calls-few (f .records) (waitsIn (f .waiting)) (callsFor (registrationOf (f .registration)) (readingOf (f .reading))) (reportOf (f .report)) counts, number-in (f .report .verdict) (f .report .offset) (f .report .number) h)
+  narrow h = omega (arith, few, calls-low, number-in (f .report .verdict) (f .report .offset) (f .report .number) h)
 
   pub state-came : (args memory : List ℕ) → 4100 ≤ length args → stateCame (record { 0 = f .edition }) (played.stateOf args memory (replayIn f .playing)) ≡ true
   unfolding stateCame
   state-came args memory room = rw (sized (f .waiting) args short room) has-come
 
-  ready-by : (held args : List ℕ) → 4104 ≤ length held → 4100 ≤ length args → ripe goodFrame (take (f .held) held) ≡ false → replays.Ready held args (replayIn f)
-  ready-by held args h a raw =
+  ready-by : (held args : List ℕ) (c : Counts) → Within (f .records) c → 4104 ≤ length held → 4100 ≤ length args → ripe goodFrame (take (f .held) held) ≡ false → replays.Ready held args (replayWith f c)
+  ready-by held args c counted h a raw =
       record {
         steady = record {
           room = a;
           inside = omega (arith, short);
           few = few;
-          fewer = omega (arith, agreed-few (reportOf (f .report)), calls-few (f .records) (waitsIn (f .waiting)) (callsFor (registrationOf (f .registration)) (readingOf (f .reading))) (reportOf (f .report)) counts);
+          fewer = omega (arith, agreed-few (reportOf (f .report)), calls-low);
         };
+        counted = counted;
         room = h;
         inside = omega (arith, held-most (f .report .verdict) (f .held) held-came);
         raw = raw;
@@ -210,19 +218,26 @@ judged-zero true true false r e = absurd (omega (arith, e))
 judged-zero true false s r e = absurd (omega (arith, e))
 judged-zero false b s r e = absurd (omega (arith, e))
 
+pub taken-by : (held : List ℕ) (room : ℕ) (f : FlatReplay) → judgedBy held room f ≡ 0 → isState f ≡ true
+unfolding judgedBy
+taken-by held room f e = judged-zero (leb 4104 (length held)) (leb 4100 room) (isState f) (ripe goodFrame (take (f .held) held)) e .1 .1 .0
+
 module _ (held args : List ℕ) (f : FlatReplay) (zero-is : judged held args f ≡ 0) where
   all : (leb 4104 (length held) ≡ true) × ((leb 4100 (length args) ≡ true) × ((isState f ≡ true) × (ripe goodFrame (take (f .held) held) ≡ false)))
   unfolding judgedBy
   all = judged-zero (leb 4104 (length held)) (leb 4100 (length args)) (isState f) (ripe goodFrame (take (f .held) held)) zero-is
 
   pub taken : isState f ≡ true
-  taken = all .1 .1 .0
+  taken = taken-by held (length args) f zero-is
 
   pub room : 4100 ≤ length args
   room = leb-true _ _ (all .1 .0)
 
+  pub ready-with : (c : Counts) → Within (f .records) c → replays.Ready held args (replayWith f c)
+  ready-with c counted = ready-by f taken held args c counted (leb-true _ _ (all .0)) room (all .1 .1 .1)
+
   pub ready : replays.Ready held args (replayIn f)
-  ready = ready-by f taken held args (leb-true _ _ (all .0)) room (all .1 .1 .1)
+  ready = ready-with noCounts (within-later 0 noCounts within-none (f .records) (omega arith))
 
 -- ---- a state that a burst leaves is taken again
 

@@ -10,7 +10,10 @@ use Rattle.crossing.specs.Record.{flatReadingOf, readingOf}
 use Rattle.trace.specs.declared.report.Report.{Report}
 use Rattle.trace.specs.declared.report.Report.the-variants.{Agreed, Differs, Malformed}
 use Rattle.trace.specs.Trace.{goodFrame}
-use Rattle.trace.specs.Came.{came}
+use Rattle.trace.specs.Came.{waitsIn, came}
+use Rattle.counting.specs.declared.counts.Counts.{Counts}
+use Rattle.counting.specs.Counts.{noCounts}
+use Rattle.counting.specs.CountsCame.{countsCame}
 use Rattle.replay.specs.declared.feeding.Replay.{Replay}
 use Rattle.replay_states.specs.declared.state.FlatReport.{FlatReport}
 use Rattle.replay_states.specs.declared.state.FlatReplay.{FlatReplay}
@@ -37,8 +40,9 @@ isReport f = cond (eqb (f .verdict) 1) true (leb (f .verdict) 2 && eqb (f .offse
 abbrev pub waits : FlatReplay → Bool
 waits f = not (eqb (f .waiting) 0)
 
-abbrev pub replayIn : FlatReplay → Replay
-replayIn f =
+-- with these counts
+abbrev pub replayWith : FlatReplay → Counts → Replay
+replayWith f counts =
     record {
       playing = record {
         records = f .records;
@@ -50,7 +54,11 @@ replayIn f =
         reading = readingOf (f .reading);
       };
       held = f .held;
+      counts = counts;
     }
+
+abbrev pub replayIn : FlatReplay → Replay
+replayIn f = replayWith f noCounts
 
 -- the 32 that waits, by a number
 abbrev pub waitingField : Bool → ℕ → ℕ
@@ -79,6 +87,10 @@ isState f =
     isReport (f .report)
     && (came (record { 0 = f .edition }) (f .records) (f .waiting) (reportOf (f .report)) (registrationOf (f .registration)) (readingOf (f .reading))
     && heldCame (f .report .verdict) (f .held))
+
+-- Counts that can have come beside it.
+unfoldable pub areCounts : FlatReplay → Counts → Bool
+areCounts f c = countsCame (reportOf (f .report)) (f .records) (waitsIn (f .waiting)) c
 
 -- The number that a burst is refused with, or 0. 15: a buffer without room for any record, or for any body. 14: a state that no start or feed gives, or
 -- held bytes that make a record.

@@ -135,7 +135,7 @@ fn calls_for(phase: u32, number: u32) -> u64
 }
 
 // How many records wait: one or none.
-fn waits_in(waiting: u32) -> u64
+pub fn waits_in(waiting: u32) -> u64
     ensures { λ r. ⌜ r ≡ waitsIn waiting ⌝ }
 {
     if waiting == 0 {

@@ -1,8 +1,9 @@
 // A replay as a flat struct.
 ghost use mathlib.Core.Path.{_≡_};
 ghost use Prim.Native.Nat.{_-_, _≤_};
-ghost use Rattle.replay_states.specs.States.{flatReportOf, reportOf, waitingField, flatReplayOf, replayIn};
+ghost use Rattle.replay_states.specs.States.{flatReportOf, reportOf, waitingField, flatReplayOf, replayWith, replayIn};
 ghost use Rattle.replay_states.specs.Terms.{Narrow};
+use counting::Counts;
 use crossing::FlatReading;
 use crossing::FlatRegistration;
 use inventory::Edition;
@@ -87,9 +88,10 @@ fn waiting_of(waits: bool, size: usize) -> u32
     0
 }
 
-pub fn replay_of(flat: FlatReplay) -> Replay
+// The replay with these counts.
+pub fn replay_of(flat: FlatReplay, counts: Counts) -> Replay
     requires { ⌜ Narrow (flat .report) ⌝ }
-    ensures { λ r. ⌜ r ≡ replayIn flat ⌝ }
+    ensures { λ r. ⌜ r ≡ replayWith flat counts ⌝ }
 {
     let report = flat.report;
     let registration = flat.registration;
@@ -106,7 +108,16 @@ pub fn replay_of(flat: FlatReplay) -> Replay
     Replay {
         playing,
         held: flat.held,
+        counts,
     }
+}
+
+// The replay with nothing counted.
+pub fn replay_alone(flat: FlatReplay) -> Replay
+    requires { ⌜ Narrow (flat .report) ⌝ }
+    ensures { λ r. ⌜ r ≡ replayIn flat ⌝ }
+{
+    replay_of(flat, counting::no_counts())
 }
 
 pub fn flat_replay_of(from: Replay) -> FlatReplay

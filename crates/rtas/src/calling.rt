@@ -38,7 +38,7 @@ struct Indexed {
 }
 
 // The number of a call, by the head of its argument buffer.
-fn number_for(args: &[u8]) -> Number
+pub fn number_for(args: &[u8]) -> Number
     ensures { λ r. ⌜ r ≡ numberFor (now (args .entry)) ⌝ }
 {
     if args.len() < 12 {

@@ -8,6 +8,7 @@ pub use calling::Answer;
 pub use calling::Stepped;
 pub use calling::call;
 pub use calling::call_step;
+pub use calling::number_for;
 pub use dump_call::Configured;
 pub use dump_call::configure_kernel_dump;
 pub use properties_call::update_properties;

@@ -3,6 +3,7 @@ ghost use mathlib.Core.Path.{_≡_};
 ghost use Rattle.shares.specs.Share.{divisor, shareOf, ShareClaims};
 
 // Part over whole, in lowest terms.
+#[repr(C)]
 pub struct Share {
     pub part: u64,
     pub whole: u64,

@@ -31,7 +31,7 @@ taken-exactly t m h s =
     (λ f. rw (added t m (fit-all (both t m) (λ i. rw (each i) (f i)))), λ e i. rw (each i) at (fit-each (both t m) i (taken t m e .0)))
 
 -- totals of 35 figures keep 35
-sized : (t m : Totals) → length (t .figures) ≡ 35 → length (m .figures) ≡ 35 → addedTo t m .taken ≡ true → length (addedTo t m .totals .figures) ≡ 35
+pub sized : (t m : Totals) → length (t .figures) ≡ 35 → length (m .figures) ≡ 35 → addedTo t m .taken ≡ true → length (addedTo t m .totals .figures) ≡ 35
 sized t m h s e = rw (taken t m e .1) (length-sums (t .figures) (m .figures) (h ∙ sym s) ∙ s)
 
 sums-of-all : SumsOfAll

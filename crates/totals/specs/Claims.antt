@@ -42,15 +42,16 @@ abbrev pub FromNothing : Type 0
 FromNothing = (ms : List Totals) (i : ℕ) → AllSized ms → AllTaken noTotals ms → getD (addedAll noTotals ms .figures) i 0 ≡ figureOver i ms
 
 -- a list with two neighbours exchanged; any order comes of such exchanges, one after the other
-unfoldable pub exchanged : ℕ → List Totals → List Totals
-exchanged k [] = []
-exchanged k (a ∷ []) = a ∷ []
-exchanged zero (a ∷ b ∷ ms) = b ∷ a ∷ ms
-exchanged (suc k) (a ∷ b ∷ ms) = a ∷ exchanged k (b ∷ ms)
+module _ {A : Type 0} where
+  unfoldable pub exchanged : ℕ → List A → List A
+  exchanged k [] = []
+  exchanged k (a ∷ []) = a ∷ []
+  exchanged zero (a ∷ b ∷ xs) = b ∷ a ∷ xs
+  exchanged (suc k) (a ∷ b ∷ xs) = a ∷ exchanged k (b ∷ xs)
 
-unfoldable pub reordered : List ℕ → List Totals → List Totals
-reordered [] ms = ms
-reordered (k ∷ ks) ms = reordered ks (exchanged k ms)
+  unfoldable pub reordered : List ℕ → List A → List A
+  reordered [] xs = xs
+  reordered (k ∷ ks) xs = reordered ks (exchanged k xs)
 
 -- The exchanges do exchange: three of them turn three traces round.
 abbrev pub Reverses : Type 0

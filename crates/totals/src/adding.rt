@@ -7,6 +7,7 @@ ghost use Rattle.totals.specs.Claims.{TotalsClaims};
 // available.
 pub const FIGURES: usize = 35;
 
+#[repr(C)]
 pub struct Totals {
     pub figures: [u64; FIGURES],
 }

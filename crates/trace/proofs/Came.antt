@@ -190,7 +190,7 @@ module _ (p : Platform) where
     enough : least ≤ calls
     enough = leb-true _ _ (and-left _ _ counts)
 
-    pairs : calls + calls + waitsIn (waitingNumber w) ≤ s .records
+    pub pairs : calls + calls + waitsIn (waitingNumber w) ≤ s .records
     pairs = leb-true _ _ (and-right (leb least calls) _ counts)
 
     r-came : registrationCame (s .registration) ≡ true

@@ -1,30 +1,25 @@
 -- `area::tally_at` meets its contract.
 use mathlib.Core.Path.{_∙_}
-use Prim.Native.Nat.{_≤_, _+_}
 use native.Mathlib.Omega.{arith}
 use borrow.Author.Needs.{needs}
-use borrow.Author.Tests.{eq-eqb, ne-eqb}
 use denote.Ref.{now}
-use lib.ListN.{length, length-take, length-drop}
+use lib.ListN.{length-take, length-drop}
 use Rattle.calls.specs.Lent.{partAt}
-use Rattle.calls.proofs.Memory.{part-lent, part-length}
-use Rattle.counting.specs.Area.{tallyOf}
+use Rattle.calls.proofs.Memory.{part-lent}
+use Rattle.counting.proofs.Tallies.{tally-short}
 use Rattle.counting.proofs.area.tally_at.Statement.{statement}
 use Rattle.counting.proofs.area.tally_at.Tie as tie
 
 returns : tie.Need-returns
-unfolding tallyOf partAt
+unfolding partAt
 returns c =
     let s = c .before .before .before in
-    c .no-tally .ensures ∙ rw (ne-eqb (length (partAt (now (s .args .memory)) (s .args .address) 4096)) 4096 (λ e. omega (arith, simp (length-take, length-drop) at e)))
+    c .no-tally .ensures ∙ tally-short (s .args .scope) (partAt (now (s .args .memory)) (s .args .address) 4096) (λ e. omega (arith, simp (length-take, length-drop) at e))
 
 returns-2 : tie.Need-returns-2
-unfolding tallyOf
 returns-2 c =
-    let s = c .before .before .before .before .before .before in
-    let h : s .args .address + 4096 ≤ length (now (s .args .memory)) = omega arith in
-    let lent = part-lent (now (s .args .memory)) (s .args .address) 4096 h in
-    rw (eq-eqb _ 4096 (part-length (now (s .args .memory)) (s .args .address) 4096 h), c .words-in .ensures, c .before .before .operations-in .ensures, lent)
+    let s = c .before .before .before .before in
+    c .tally-in .ensures ∙ rw (part-lent (now (s .args .memory)) (s .args .address) 4096 (omega arith))
 
 pub tally-at-spec : {M : Type 1} → statement M
 tally-at-spec =
@@ -33,11 +28,6 @@ tally-at-spec =
     (λ c. search needs)
     (λ c κs. search needs)
     returns
-    (λ c. search needs)
-    (λ c. search needs)
-    (λ c. search needs)
-    (λ c. search needs)
-    (λ c κs. search needs)
     (λ c. search needs)
     (λ c. search needs)
     (λ c. search needs)

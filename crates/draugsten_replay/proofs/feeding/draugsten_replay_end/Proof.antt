@@ -17,15 +17,15 @@ returns : tie.Need-returns
 unfolding flatEndOf
 returns c = rw (sym (c .before .is-state .ensures .0) ∙ not-true _ (c .if1 .taken)) (refl, boundary-claims)
 
-replay-of-requires : tie.Need-replay-of-requires
-replay-of-requires c κs = narrow _ (passed c)
+replay-alone-requires : tie.Need-replay-alone-requires
+replay-alone-requires c κs = narrow _ (passed c)
 
 end-requires : tie.Need-end-requires
-end-requires c κs = rw (c .replay-of .ensures) (few _ (passed (c .before)))
+end-requires c κs = rw (c .replay-alone .ensures) (few _ (passed (c .before)))
 
 returns-2 : tie.Need-returns-2
 unfolding flatEndOf
-returns-2 c = rw (passed (c .before .before .before), c .flat-report-of .ensures, c .before .end .ensures .0, c .before .before .replay-of .ensures) (refl, boundary-claims)
+returns-2 c = rw (passed (c .before .before .before), c .flat-report-of .ensures, c .before .end .ensures .0, c .before .before .replay-alone .ensures) (refl, boundary-claims)
 
 pub draugsten-replay-end-spec : {M : Type 1} → statement M
 draugsten-replay-end-spec =
@@ -33,7 +33,7 @@ draugsten-replay-end-spec =
     (tie.spec
     (λ c κs. search needs)
     returns
-    replay-of-requires
+    replay-alone-requires
     end-requires
     (λ c κs. search needs)
     returns-2)

@@ -19,10 +19,10 @@ same-length-3 : tie.Need-same-length-3
 same-length-3 c = search needs
 
 returns : tie.Need-returns
-returns c = (feed-still (c .before .before .before .before .before .before .before .before .before .before .before .before .before .before .before .before .before .before .pre) _ _ _ _ _ _ (c .before .before .before .before .before .before .before .before .finish .result) (c .before .before .before .before .before .before .before .before .finish .kept .0) (c .before .before .before .before .before .before .before .before .finish .ensures) (c .if1 .taken), replay-claims)
+returns c = (feed-still (c .before .before .before .before .before .before .before .before .before .before .before .before .before .before .before .before .before .before .before .pre) _ _ _ _ _ _ (c .before .before .before .before .before .before .before .before .before .finish .result) (c .before .before .before .before .before .before .before .before .before .finish .kept .0) (c .before .before .before .before .before .before .before .before .before .finish .ensures) (c .if1 .taken), replay-claims)
 
 pass-requires : tie.Need-pass-requires
-pass-requires c κs = search needs
+pass-requires c κs = let f = c .before .before .before .before .before .before .before .before .before .before .before .finish .ensures in record { place = f .place; steady = f .steady; counted = f .counted }
 
 fill-requires : tie.Need-fill-requires
 fill-requires c κs = search needs
@@ -37,7 +37,7 @@ same-length-6 : tie.Need-same-length-6
 same-length-6 c = search needs
 
 returns-2 : tie.Need-returns-2
-returns-2 c = (feed-past (c .before .before .before .before .before .before .before .before .before .before .before .before .before .before .before .before .before .before .before .before .before .before .before .before .before .before .before .before .before .before .pre) _ _ _ _ (c .before .before .before .before .before .before .before .before .before .before .before .before .before .before .before .before .before .before .before .before .finish .kept .0) (c .before .before .before .before .before .before .before .before .before .before .before .before .before .before .before .before .before .before .before .before .finish .ensures) (omega arith) (c .before .before .before .before .before .before .before .before .before .pass .ensures) _ _ (c .before .before .fill .kept .0) (c .before .before .fill .ensures), replay-claims)
+returns-2 c = (feed-past (c .before .before .before .before .before .before .before .before .before .before .before .before .before .before .before .before .before .before .before .before .before .before .before .before .before .before .before .before .before .before .before .before .pre) _ _ _ _ (c .before .before .before .before .before .before .before .before .before .before .before .before .before .before .before .before .before .before .before .before .before .before .finish .kept .0) (c .before .before .before .before .before .before .before .before .before .before .before .before .before .before .before .before .before .before .before .before .before .before .finish .ensures) (omega arith) (c .before .before .before .before .before .before .before .before .before .before .pass .ensures) _ _ (c .before .before .fill .kept .0) (c .before .before .fill .ensures), replay-claims)
 
 pub feed-spec : {M : Type 1} → statement M
 feed-spec =
