@@ -1,7 +1,8 @@
 /*
  * Draugsten: the RTAS calls ibm,update-nodes, ibm,get-indices, ibm,configure-kernel-dump and ibm,update-properties on the
- * platform's side, the replay of a recorded session of them, and readers of the work areas that all but the dump fill. Link
- * libdraugsten.a, and libdraugsten_replay.a for the functions of the replay; both are for x86-64, and neither needs the other.
+ * platform's side, the replay of a recorded session of them, totals over such sessions, and readers of the work areas that
+ * all but the dump fill. Link libdraugsten.a, and libdraugsten_replay.a for the functions of the replay and of the month;
+ * both are for x86-64, and neither needs the other.
  *
  * For every function:
  * - It takes any contents and any lengths, and returns.
@@ -61,8 +62,13 @@ extern "C" {
 #define DRAUGSTEN_STACK_NO_READING 128
 #define DRAUGSTEN_STACK_EDIT 128
 #define DRAUGSTEN_STACK_REPLAY_START 128
-#define DRAUGSTEN_STACK_REPLAY_FEED 10240
+#define DRAUGSTEN_STACK_REPLAY_FEED 11264
 #define DRAUGSTEN_STACK_REPLAY_END 1024
+#define DRAUGSTEN_STACK_MONTH_START 128
+#define DRAUGSTEN_STACK_MONTH_FEED 12288
+#define DRAUGSTEN_STACK_MONTH_ADD 3072
+#define DRAUGSTEN_STACK_MONTH_MERGE 1536
+#define DRAUGSTEN_STACK_MONTH_SHARE 128
 #define DRAUGSTEN_STACK_READ_NODES 256
 #define DRAUGSTEN_STACK_READ_INDICES 256
 #define DRAUGSTEN_STACK_READ_PROPERTIES 256
@@ -320,6 +326,109 @@ struct draugsten_fed draugsten_replay_feed(uint8_t *held, size_t held_length, ui
  * malformed by the end alone. It changes nothing, and a later feed goes on.
  */
 struct draugsten_ended draugsten_replay_end(struct draugsten_replay replay);
+
+/* ---- the month */
+
+/*
+ * What the calls of traces came to, in whole numbers. A trace is replayed as above, by draugsten_month_start and
+ * draugsten_month_feed in place of draugsten_replay_start and draugsten_replay_feed, and its calls are counted as they are
+ * made. At its end draugsten_month_add adds the counts to totals, all of them or none: a trace that is malformed, or one
+ * of whose calls differs, adds nothing. Each trace is replayed over its own journal, inventory, edition and memory. Where
+ * none is refused, the totals are the same in any order.
+ *
+ * Counted are the calls with number 0 of the tokens 1 to 4, by their status; numbers of inputs and outputs unlike the
+ * call's own are among the -3. Of the calls of update-nodes that were answered (0 or 1) also the operations that they
+ * handed out and the words that these took in the area, operators and operands.
+ */
+enum draugsten_month_number {
+    DRAUGSTEN_MONTH_ADDED = 0,
+    DRAUGSTEN_MONTH_NO_STATE = 14,              /* a replay, counts or a front of `held` that no start and no feed gives */
+    DRAUGSTEN_MONTH_NO_ROOM = 15,               /* a feed: `held` has under 4,104 bytes, or `args` under 4,100 */
+    DRAUGSTEN_MONTH_NOT_AGREED = 16,            /* the trace is malformed, or a call differs; the report says which */
+    DRAUGSTEN_MONTH_PAST_LIMIT = 17,            /* a total would pass 2^64 - 1 */
+    DRAUGSTEN_MONTH_NO_TOTALS = 18              /* figures that do not agree with each other, as those of traces do */
+};
+
+/* The statuses, in the order in which their calls are counted. */
+enum draugsten_row {
+    DRAUGSTEN_ROW_DONE = 0,                     /* 0 */
+    DRAUGSTEN_ROW_AGAIN = 1,                    /* 1 */
+    DRAUGSTEN_ROW_MALFORMED = 2,                /* -1 */
+    DRAUGSTEN_ROW_PARAMETER = 3,                /* -3 */
+    DRAUGSTEN_ROW_CHANGED = 4,                  /* -4 */
+    DRAUGSTEN_ROW_ALREADY_REGISTERED = 5,       /* -9 */
+    DRAUGSTEN_ROW_DUMP_ACTIVE = 6               /* -10 */
+};
+
+/* The counts of a trace so far. */
+struct draugsten_counts {
+    uint64_t calls[4][7];                       /* of the tokens 1 to 4, by enum draugsten_row */
+    uint64_t operations;                        /* handed out by update-nodes */
+    uint64_t used;                              /* words that they took */
+};
+
+/* A replay and its counts. Keep both as they are handed back. */
+struct draugsten_counting {
+    struct draugsten_replay replay;
+    struct draugsten_counts counts;
+};
+
+/* What a feed gives. */
+struct draugsten_counted {
+    uint32_t number;                            /* 0, 14 or 15; the checks come in the order 15, 14 */
+    struct draugsten_counting counting;         /* the one to give the next feed; as it was, where it is not taken */
+};
+
+/* Totals over traces. Those of no trace are zero in every field. */
+struct draugsten_totals {
+    uint64_t calls[4][7];                       /* of the tokens 1 to 4, by enum draugsten_row */
+    uint64_t token_calls[4];                    /* of the tokens 1 to 4, whatever their status */
+    uint64_t operations;                        /* handed out by update-nodes */
+    uint64_t used;                              /* words that they took */
+    uint64_t available;                         /* 1,019 words for each call of update-nodes that was answered */
+};
+
+/* What adding a trace gives. */
+struct draugsten_added {
+    uint32_t number;                            /* 0, 14, 16 or 17; the checks come in this order: 14, 16, 17 */
+    struct draugsten_report report;             /* of the trace; with 14 verdict 2, offset 0, number 0 */
+    struct draugsten_totals totals;             /* with the trace; as they were, with any number but 0 */
+};
+
+/* What merging totals gives. */
+struct draugsten_merged {
+    uint32_t number;                            /* 0, 18 or 17; the checks come in the order 18, 17 */
+    struct draugsten_totals totals;             /* with the others; as they were, with any number but 0 */
+};
+
+/* A share in lowest terms. */
+struct draugsten_share {
+    uint64_t part;
+    uint64_t whole;                             /* 1 or more */
+};
+
+/* The replay that a trace starts with, over an inventory of this edition, with nothing counted. */
+struct draugsten_counting draugsten_month_start(uint32_t edition);
+
+/* Feeds a replay the next bytes of its trace, as draugsten_replay_feed does, and counts its calls. */
+struct draugsten_counted draugsten_month_feed(uint8_t *held, size_t held_length, uint8_t *args, size_t args_length,
+                                              uint8_t *memory, size_t memory_length, const uint8_t *journal,
+                                              size_t journal_length, const uint8_t *inventory, size_t inventory_length,
+                                              struct draugsten_counting counting, const uint8_t *bytes, size_t length);
+
+/* Adds the counts of a trace that ends here to totals. A trace that is added twice is counted twice. */
+struct draugsten_added draugsten_month_add(struct draugsten_totals totals, struct draugsten_counting counting);
+
+/*
+ * Adds the totals of other traces, `more`, to totals. Refused is `more` where its figures do not agree: the calls of a token
+ * are those of its seven statuses together, the available words 1,019 times the answered calls of update-nodes, the
+ * operations no more than the used words, and these no more than the available ones. The totals that it is added to are not
+ * looked at.
+ */
+struct draugsten_merged draugsten_month_merge(struct draugsten_totals totals, struct draugsten_totals more);
+
+/* The share of the available words that were used: 0 over 1 where no call of update-nodes was answered. */
+struct draugsten_share draugsten_month_share(struct draugsten_totals totals);
 
 /* ---- readers */
 

@@ -1,9 +1,11 @@
 /*
- * Makes feeds and ends that the replay refuses, and some beside them that it takes: each has to give its number, and a
- * refused one the replay as it was, with no byte of any buffer changed. Exits with 1 where one does not.
+ * Makes feeds and ends that the replay refuses, and feeds, additions and merges that the month does, and some beside them
+ * that are taken: each has to give its number, and a refused one the replay, its counts or the totals as they were, with no
+ * byte of any buffer changed. Holds the structures of the month to their layout. Exits with 1 where something is not so.
  */
 #include "draugsten.h"
 
+#include <stddef.h>
 #include <stdio.h>
 #include <string.h>
 
@@ -152,11 +154,190 @@ static void feed_stopped(void)
     expect(memcmp(&buffers, &before, sizeof buffers) == 0, "a feed after a stop", "no byte of a buffer changes");
 }
 
+/* ---- the month */
+
+/* A call of update-nodes at address 4, which is refused with -3: 32 and 33. */
+static const uint8_t refused_call[] = {
+    26, 0, 32, 0, 0, 0, 0, 1, 0, 0, 0, 2, 0, 0, 0, 1, 0, 0, 0, 4, 0, 0, 0, 1, 0, 0, 0, 0,
+    26, 0, 33, 0, 0, 0, 0, 1, 0, 0, 0, 2, 0, 0, 0, 1, 0, 0, 0, 4, 0, 0, 0, 1, 0xff, 0xff, 0xff, 0xfd};
+
+enum {
+    CALL = sizeof refused_call,
+    LAST = CALL / 2 - FRONT - 1,        /* the offset of the status word's last byte */
+    WORDS = 1019                        /* available for each answered call of update-nodes */
+};
+
+static int same_counting(const struct draugsten_counting *a, const struct draugsten_counting *b)
+{
+    return same_replay(&a->replay, &b->replay) && memcmp(&a->counts, &b->counts, sizeof a->counts) == 0;
+}
+
+static int same_totals(const struct draugsten_totals *a, const struct draugsten_totals *b)
+{
+    return memcmp(a, b, sizeof *a) == 0;
+}
+
+static struct draugsten_counted count(struct buffers *buffers, size_t held_length, size_t args_length,
+                                      struct draugsten_counting counting, const uint8_t *bytes, size_t length)
+{
+    static const uint8_t none[1];
+
+    return draugsten_month_feed(buffers->held, held_length, buffers->args, args_length, buffers->memory,
+                                sizeof buffers->memory, none, 0, none, 0, counting, bytes, length);
+}
+
+/* The counting replay that has been fed so many bytes of the call. */
+static struct draugsten_counting counted(size_t length)
+{
+    static struct buffers buffers;
+
+    return count(&buffers, HELD, ARGS, draugsten_month_start(3), refused_call, length).counting;
+}
+
+static void count_try(const struct try *try, uint64_t calls, uint32_t number)
+{
+    static struct buffers buffers, before;
+    struct draugsten_counting counting = draugsten_month_start(3);
+    struct draugsten_counted fed;
+
+    counting.replay = replay_of(try);
+    counting.counts.calls[0][DRAUGSTEN_ROW_PARAMETER] = calls;
+    memset(&buffers, PAINT, sizeof buffers);
+    memcpy(buffers.held, try->front, try->held);
+    before = buffers;
+    fed = count(&buffers, try->held_length, try->args_length, counting, setting, try->held > 0 ? 1 : sizeof setting);
+    expect(fed.number == number, try->what, "the counting feed has its number");
+    if (number == DRAUGSTEN_MONTH_ADDED) {
+        expect(fed.counting.replay.records == 1, try->what, "the counting feed takes its record");
+        return;
+    }
+    expect(same_counting(&fed.counting, &counting), try->what, "the counting replay is as it was");
+    expect(memcmp(&buffers, &before, sizeof buffers) == 0, try->what, "the counting feed changes no byte of a buffer");
+}
+
+/* A counting feed is refused where the feed without counts is; and where it is taken, with a count of no call. */
+static void count_tries(void)
+{
+    for (size_t i = 0; i < sizeof tries / sizeof tries[0]; i++) {
+        uint32_t number = tries[i].number;
+
+        count_try(&tries[i], 0, number);
+        count_try(&tries[i], 1, number == DRAUGSTEN_REPLAY_TAKEN ? DRAUGSTEN_MONTH_NO_STATE : number);
+    }
+}
+
+/* Totals of no words, with so many calls of update-nodes that were refused with -3. */
+static struct draugsten_totals totals_of(uint64_t calls)
+{
+    struct draugsten_totals totals = {{{0}}, {0}, 0, 0, 0};
+
+    totals.calls[0][DRAUGSTEN_ROW_PARAMETER] = calls;
+    totals.token_calls[0] = calls;
+    return totals;
+}
+
+static void add(const char *what, struct draugsten_totals totals, struct draugsten_counting counting, uint32_t number,
+                struct draugsten_report report)
+{
+    struct draugsten_added added = draugsten_month_add(totals, counting);
+
+    expect(added.number == number, what, "adding has its number");
+    expect(same_report(&added.report, &report), what, "adding has its report");
+    if (number == DRAUGSTEN_MONTH_ADDED)
+        totals = totals_of(totals.token_calls[0] + 1);
+    expect(same_totals(&added.totals, &totals), what, "the totals are with the trace, or as they were");
+}
+
+/* The checks come in the order 14, 16, 17: totals that are full are in each of them. */
+static void add_refused(void)
+{
+    static const struct draugsten_report none = {DRAUGSTEN_VERDICT_MALFORMED, 0, 0};
+    static const struct draugsten_report cut = {DRAUGSTEN_VERDICT_MALFORMED, 0, 1};
+    static const struct draugsten_report differs = {DRAUGSTEN_VERDICT_DIFFERS, LAST, 1};
+    static const struct draugsten_report agreed = {DRAUGSTEN_VERDICT_AGREED, 0, 1};
+    static struct buffers buffers;
+    struct draugsten_totals full = totals_of(UINT64_MAX);
+    struct draugsten_counting whole = counted(CALL), wrong = whole;
+
+    wrong.counts.calls[0][DRAUGSTEN_ROW_DONE] = 1;
+    add("two calls counted of one", full, wrong, DRAUGSTEN_MONTH_NO_STATE, none);
+    wrong = whole;
+    wrong.counts.operations = 1;
+    add("an operation without a word", full, wrong, DRAUGSTEN_MONTH_NO_STATE, none);
+    wrong = counted(CALL - 1);
+    wrong.replay.report.number = 1;
+    add("a state of no feed", full, wrong, DRAUGSTEN_MONTH_NO_STATE, none);
+    add("a trace that is cut off", full, counted(CALL - 1), DRAUGSTEN_MONTH_NOT_AGREED, cut);
+    wrong = count(&buffers, HELD, ARGS, draugsten_month_start(3), refused_call, CALL - 1).counting;
+    wrong = count(&buffers, HELD, ARGS, wrong, setting, 1).counting;
+    add("a call that differs", full, wrong, DRAUGSTEN_MONTH_NOT_AGREED, differs);
+    add("a call past the last number", full, whole, DRAUGSTEN_MONTH_PAST_LIMIT, agreed);
+    add("the last number", totals_of(UINT64_MAX - 1), whole, DRAUGSTEN_MONTH_ADDED, agreed);
+    add("the first call", totals_of(0), whole, DRAUGSTEN_MONTH_ADDED, agreed);
+}
+
+static void merge(const char *what, struct draugsten_totals totals, struct draugsten_totals more, uint32_t number)
+{
+    struct draugsten_merged merged = draugsten_month_merge(totals, more);
+
+    expect(merged.number == number, what, "merging has its number");
+    if (number == DRAUGSTEN_MONTH_ADDED)
+        totals = totals_of(totals.token_calls[0] + more.token_calls[0]);
+    expect(same_totals(&merged.totals, &totals), what, "the totals are with the others, or as they were");
+}
+
+/* The checks come in the order 18, 17: totals that are full are in each of them. */
+static void merge_refused(void)
+{
+    struct draugsten_totals full = totals_of(UINT64_MAX), wrong = totals_of(1);
+
+    wrong.token_calls[0] = 2;
+    merge("calls that are not together", full, wrong, DRAUGSTEN_MONTH_NO_TOTALS);
+    wrong = totals_of(1);
+    wrong.available = WORDS;
+    merge("words that were not available", full, wrong, DRAUGSTEN_MONTH_NO_TOTALS);
+    wrong.calls[0][DRAUGSTEN_ROW_DONE] = 1;
+    wrong.token_calls[0] = 2;
+    wrong.used = WORDS + 1;
+    merge("more words than were available", full, wrong, DRAUGSTEN_MONTH_NO_TOTALS);
+    wrong.used = 1;
+    wrong.operations = 2;
+    merge("more operations than words", full, wrong, DRAUGSTEN_MONTH_NO_TOTALS);
+    wrong.operations = 1;
+    merge("totals past the last number", full, wrong, DRAUGSTEN_MONTH_PAST_LIMIT);
+    merge("totals up to the last number", totals_of(UINT64_MAX - 7), totals_of(7), DRAUGSTEN_MONTH_ADDED);
+    merge("totals of nothing", full, totals_of(0), DRAUGSTEN_MONTH_ADDED);
+}
+
+/* The sizes and places that rust/src/ffi.rs has too. */
+static void check_layout(void)
+{
+    static const size_t found[] = {
+        sizeof(struct draugsten_counts), offsetof(struct draugsten_counts, operations),
+        offsetof(struct draugsten_counts, used),
+        sizeof(struct draugsten_totals), offsetof(struct draugsten_totals, token_calls),
+        offsetof(struct draugsten_totals, operations), offsetof(struct draugsten_totals, used),
+        offsetof(struct draugsten_totals, available),
+        sizeof(struct draugsten_counting), offsetof(struct draugsten_counting, counts),
+        sizeof(struct draugsten_counted), offsetof(struct draugsten_counted, counting),
+        sizeof(struct draugsten_added), offsetof(struct draugsten_added, report),
+        offsetof(struct draugsten_added, totals),
+        sizeof(struct draugsten_merged), offsetof(struct draugsten_merged, totals),
+        sizeof(struct draugsten_share), offsetof(struct draugsten_share, whole)};
+    static const size_t said[] = {240, 224, 232, 280, 224, 256, 264, 272, 824, 584, 832, 8, 304, 8, 24, 288, 8, 16, 8};
+
+    expect(sizeof found == sizeof said && memcmp(found, said, sizeof said) == 0, "the month", "its layout");
+}
+
 int main(void)
 {
     for (size_t i = 0; i < sizeof tries / sizeof tries[0]; i++)
         run(&tries[i]);
     end_refused();
     feed_stopped();
+    count_tries();
+    add_refused();
+    merge_refused();
+    check_layout();
     return faults != 0;
 }

@@ -30,7 +30,7 @@ enum {
 static uint8_t stack[STACK] __attribute__((aligned(16)));
 static uint8_t memory[0x4000], args[40];
 static uint8_t held[DRAUGSTEN_TRACE_RECORD_LIMIT], trace_args[DRAUGSTEN_TRACE_BODY_LIMIT], trace[TRACE_SIZE];
-static size_t trace_length;
+static size_t trace_length, whole_length;                  /* the whole records alone */
 static uint32_t words[64];
 static uint64_t numbers[64];
 static int faults;
@@ -64,6 +64,11 @@ static __typeof__(draugsten_call) *call;
 static __typeof__(draugsten_replay_start) *replay_start;
 static __typeof__(draugsten_replay_feed) *replay_feed;
 static __typeof__(draugsten_replay_end) *replay_end;
+static __typeof__(draugsten_month_start) *month_start;
+static __typeof__(draugsten_month_feed) *month_feed;
+static __typeof__(draugsten_month_add) *month_add;
+static __typeof__(draugsten_month_merge) *month_merge;
+static __typeof__(draugsten_month_share) *month_share;
 static __typeof__(draugsten_read_nodes) *read_nodes;
 static __typeof__(draugsten_read_indices) *read_indices;
 static __typeof__(draugsten_read_properties) *read_properties;
@@ -78,6 +83,11 @@ static void choose(int library)
     replay_start = library ? draugsten_replay_start : (__typeof__(replay_start))nothing;
     replay_feed = library ? draugsten_replay_feed : (__typeof__(replay_feed))nothing;
     replay_end = library ? draugsten_replay_end : (__typeof__(replay_end))nothing;
+    month_start = library ? draugsten_month_start : (__typeof__(month_start))nothing;
+    month_feed = library ? draugsten_month_feed : (__typeof__(month_feed))nothing;
+    month_add = library ? draugsten_month_add : (__typeof__(month_add))nothing;
+    month_merge = library ? draugsten_month_merge : (__typeof__(month_merge))nothing;
+    month_share = library ? draugsten_month_share : (__typeof__(month_share))nothing;
     read_nodes = library ? draugsten_read_nodes : (__typeof__(read_nodes))nothing;
     read_indices = library ? draugsten_read_indices : (__typeof__(read_indices))nothing;
     read_properties = library ? draugsten_read_properties : (__typeof__(read_properties))nothing;
@@ -118,6 +128,12 @@ static int answered;
 static struct draugsten_replay replay;
 static struct draugsten_fed fed;
 static struct draugsten_ended ended;
+static struct draugsten_counting counting;
+static struct draugsten_counted counted;
+static const struct draugsten_totals totals;
+static struct draugsten_added added;
+static struct draugsten_merged merged;
+static struct draugsten_share share;
 static struct draugsten_node_reading node_reading;
 static struct draugsten_index_reading index_reading;
 static struct draugsten_property_reading property_reading;
@@ -177,6 +193,39 @@ static void feeding(void)
 static void ending(void)
 {
     ended = replay_end(fed.replay);
+}
+
+static void starting_month(void)
+{
+    counting = month_start(EDITION);
+}
+
+static void counting_feed(void)
+{
+    counted = month_feed(held, sizeof held, trace_args, sizeof trace_args, memory, sizeof memory, journal,
+                         sizeof journal, inventory, sizeof inventory, counting, trace, trace_length);
+}
+
+/* The whole records of the trace, all of whose calls agree. */
+static void counting_whole(void)
+{
+    counted = month_feed(held, sizeof held, trace_args, sizeof trace_args, memory, sizeof memory, journal,
+                         sizeof journal, inventory, sizeof inventory, counting, trace, whole_length);
+}
+
+static void adding(void)
+{
+    added = month_add(totals, counted.counting);
+}
+
+static void merging(void)
+{
+    merged = month_merge(added.totals, added.totals);
+}
+
+static void sharing(void)
+{
+    share = month_share(added.totals);
 }
 
 static void reading_nodes(void)
@@ -271,6 +320,7 @@ static void make_trace(void)
         next = answer.registration;
         at = answer.reading;
     }
+    whole_length = trace_length;
     put_record(DRAUGSTEN_TRACE_MEMORY, start, sizeof start);
     trace_length--;
 }
@@ -285,6 +335,12 @@ int main(void)
     measure("draugsten_replay_start", starting_replay, DRAUGSTEN_STACK_REPLAY_START);
     measure("draugsten_replay_feed", feeding, DRAUGSTEN_STACK_REPLAY_FEED);
     measure("draugsten_replay_end", ending, DRAUGSTEN_STACK_REPLAY_END);
+    measure("draugsten_month_start", starting_month, DRAUGSTEN_STACK_MONTH_START);
+    measure("draugsten_month_feed", counting_feed, DRAUGSTEN_STACK_MONTH_FEED);
+    measure("draugsten_month_feed, to a whole record", counting_whole, DRAUGSTEN_STACK_MONTH_FEED);
+    measure("draugsten_month_add", adding, DRAUGSTEN_STACK_MONTH_ADD);
+    measure("draugsten_month_merge", merging, DRAUGSTEN_STACK_MONTH_MERGE);
+    measure("draugsten_month_share", sharing, DRAUGSTEN_STACK_MONTH_SHARE);
     measure("draugsten_call", calling, DRAUGSTEN_STACK_CALL);
     measure("draugsten_read_nodes", reading_nodes, DRAUGSTEN_STACK_READ_NODES);
     measure("draugsten_read_indices", reading_indices, DRAUGSTEN_STACK_READ_INDICES);
@@ -292,6 +348,11 @@ int main(void)
     if (fed.replay.report.number != CALLS || fed.replay.registration.length != 80 || fed.replay.held != 23 ||
         ended.report.verdict != DRAUGSTEN_VERDICT_MALFORMED || ended.report.number != 2 + 2 * CALLS) {
         puts("stack: a replay did not do its work");
+        faults++;
+    }
+    if (counted.number != 0 || added.number != 0 || added.report.number != CALLS || merged.number != 0 ||
+        merged.totals.token_calls[1] != 4 || merged.totals.operations != 6 || share.part != 7 || share.whole != 1019) {
+        puts("stack: a month did not do its work");
         faults++;
     }
     if (reading.number != 1 || edited.edition != EDITION + 1 || answered != CALLS || answer.registration.length != 80 ||

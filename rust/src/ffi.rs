@@ -68,6 +68,59 @@ pub struct Ended {
     pub report: Report,
 }
 
+/// The calls of the tokens 1 to 4, each by the seven statuses in the header's order, and what update-nodes handed out.
+#[repr(C)]
+#[derive(Clone, Copy, PartialEq, Eq, Debug)]
+pub struct Counts {
+    pub calls: [[u64; 7]; 4],
+    pub operations: u64,
+    pub used: u64,
+}
+
+/// Only what a start or a feed gives is a replay with its counts.
+#[repr(C)]
+#[derive(Clone, Copy)]
+pub struct Counting {
+    pub replay: Replay,
+    pub counts: Counts,
+}
+
+#[repr(C)]
+pub struct Counted {
+    pub number: u32,
+    pub counting: Counting,
+}
+
+/// Every value may be added to; merged are only those of traces.
+#[repr(C)]
+#[derive(Clone, Copy, PartialEq, Eq, Debug)]
+pub struct Totals {
+    pub calls: [[u64; 7]; 4],
+    pub token_calls: [u64; 4],
+    pub operations: u64,
+    pub used: u64,
+    pub available: u64,
+}
+
+#[repr(C)]
+pub struct Added {
+    pub number: u32,
+    pub report: Report,
+    pub totals: Totals,
+}
+
+#[repr(C)]
+pub struct Merged {
+    pub number: u32,
+    pub totals: Totals,
+}
+
+#[repr(C)]
+pub struct Share {
+    pub part: u64,
+    pub whole: u64,
+}
+
 #[repr(C)]
 pub struct NodeReading {
     pub refusal: u32,
@@ -132,6 +185,30 @@ extern "C" {
     ) -> Fed;
 
     fn draugsten_replay_end(replay: Replay) -> Ended;
+
+    fn draugsten_month_start(edition: u32) -> Counting;
+
+    fn draugsten_month_feed(
+        held: *mut u8,
+        held_length: usize,
+        args: *mut u8,
+        args_length: usize,
+        memory: *mut u8,
+        memory_length: usize,
+        journal: *const u8,
+        journal_length: usize,
+        inventory: *const u8,
+        inventory_length: usize,
+        counting: Counting,
+        bytes: *const u8,
+        length: usize,
+    ) -> Counted;
+
+    fn draugsten_month_add(totals: Totals, counting: Counting) -> Added;
+
+    fn draugsten_month_merge(totals: Totals, more: Totals) -> Merged;
+
+    fn draugsten_month_share(totals: Totals) -> Share;
 
     fn draugsten_read_nodes(
         area: *const u8,
@@ -234,6 +311,56 @@ pub fn replay_end(replay: Replay) -> Ended {
     unsafe { draugsten_replay_end(replay) }
 }
 
+pub fn month_start(edition: u32) -> Counting {
+    // SAFETY: it takes any number, and there is no global state.
+    unsafe { draugsten_month_start(edition) }
+}
+
+pub fn month_feed(
+    held: &mut [u8],
+    args: &mut [u8],
+    memory: &mut [u8],
+    journal: &[u8],
+    inventory: &[u8],
+    counting: Counting,
+    bytes: &[u8],
+) -> Counted {
+    // SAFETY: each pointer is a slice's, so it is not null and goes with its length; the three buffers that are written
+    // are borrowed by `&mut`, so no other buffer overlaps them.
+    unsafe {
+        draugsten_month_feed(
+            held.as_mut_ptr(),
+            held.len(),
+            args.as_mut_ptr(),
+            args.len(),
+            memory.as_mut_ptr(),
+            memory.len(),
+            journal.as_ptr(),
+            journal.len(),
+            inventory.as_ptr(),
+            inventory.len(),
+            counting,
+            bytes.as_ptr(),
+            bytes.len(),
+        )
+    }
+}
+
+pub fn month_add(totals: Totals, counting: Counting) -> Added {
+    // SAFETY: it takes any totals and any replay, and there is no global state.
+    unsafe { draugsten_month_add(totals, counting) }
+}
+
+pub fn month_merge(totals: Totals, more: Totals) -> Merged {
+    // SAFETY: it takes any totals, and there is no global state.
+    unsafe { draugsten_month_merge(totals, more) }
+}
+
+pub fn month_share(totals: Totals) -> Share {
+    // SAFETY: it takes any totals, and there is no global state.
+    unsafe { draugsten_month_share(totals) }
+}
+
 /// Three words of `out` for each operation: opcode, first operand, second operand or 0.
 pub fn read_nodes(area: &[u8], scope: u32, out: &mut [u32]) -> NodeReading {
     // SAFETY: both pointers are slices', with their lengths; `out`, which is written, is borrowed by `&mut`.
@@ -251,4 +378,34 @@ pub fn read_indices(area: &[u8], out: &mut [u64]) -> IndexReading {
 pub fn read_properties(area: &[u8], out: &mut [u32]) -> PropertyReading {
     // SAFETY: both pointers are slices', with their lengths; `out`, which is written, is borrowed by `&mut`.
     unsafe { draugsten_read_properties(area.as_ptr(), area.len(), out.as_mut_ptr(), out.len()) }
+}
+
+/// The sizes and places of the month's fields, which tests/refusals.c holds the header to.
+#[cfg(test)]
+mod tests {
+    use super::{Added, Counted, Counting, Counts, Merged, Share, Totals};
+    use std::mem::{offset_of, size_of};
+
+    #[test]
+    fn the_layout_of_counts_and_totals() {
+        assert_eq!([size_of::<Counts>(), size_of::<Totals>(), size_of::<Share>()], [240, 280, 16]);
+        assert_eq!(
+            [offset_of!(Counts, calls), offset_of!(Counts, operations), offset_of!(Counts, used)],
+            [0, 224, 232]
+        );
+        assert_eq!([offset_of!(Totals, calls), offset_of!(Totals, token_calls)], [0, 224]);
+        let words = [offset_of!(Totals, operations), offset_of!(Totals, used), offset_of!(Totals, available)];
+        assert_eq!(words, [256, 264, 272]);
+        assert_eq!([offset_of!(Share, part), offset_of!(Share, whole)], [0, 8]);
+    }
+
+    #[test]
+    fn the_layout_of_what_the_functions_give() {
+        assert_eq!([size_of::<Counting>(), size_of::<Counted>()], [824, 832]);
+        assert_eq!([size_of::<Added>(), size_of::<Merged>()], [304, 288]);
+        assert_eq!([offset_of!(Counting, replay), offset_of!(Counting, counts)], [0, 584]);
+        assert_eq!([offset_of!(Counted, number), offset_of!(Counted, counting)], [0, 8]);
+        assert_eq!([offset_of!(Added, number), offset_of!(Added, report), offset_of!(Added, totals)], [0, 8, 24]);
+        assert_eq!([offset_of!(Merged, number), offset_of!(Merged, totals)], [0, 8]);
+    }
 }

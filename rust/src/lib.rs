@@ -1,6 +1,7 @@
 //! Safe Rust over `libdraugsten.a` and `libdraugsten_replay.a`: the RTAS calls ibm,update-nodes, ibm,get-indices,
 //! ibm,configure-kernel-dump and ibm,update-properties on the platform's side, readers of the work areas that all but the
-//! dump fill, the recording of a session of calls, and its replay, which is the second archive.
+//! dump fill, the recording of a session of calls, its replay, and the counts of its calls in totals over sessions; these
+//! two are the second archive.
 //! `include/draugsten.h` has what each buffer holds and which bytes are written.
 //!
 //! ```
@@ -25,6 +26,7 @@
 pub mod args;
 mod calling;
 mod ffi;
+mod month;
 mod properties;
 mod reading;
 mod reading_record;
@@ -34,6 +36,7 @@ mod replay;
 pub mod trace;
 
 pub use calling::{call, Answer, Fault};
+pub use month::{Counted, CountingReplay, Figures, NotAdded, NotMerged, Share, Status, Token, Totals};
 pub use properties::{read_properties, Descriptor, Property, PropertyArea, NAME_LIMIT, VALUE_LIMIT};
 pub use reading::{read_indices, read_nodes, read_state, Entry, Operation, Reason, Refusal, CODE_LIMIT, FIELD_LIMIT};
 pub use reading_record::{Edition, ReadingRecord};

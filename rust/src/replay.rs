@@ -7,8 +7,22 @@ use crate::trace::{Kind, BODY_LIMIT, RECORD_LIMIT};
 use std::fmt;
 use std::io::{self, ErrorKind, Read};
 
-/// The bytes that `Replay::read` reads at a time.
+/// The bytes that are read at a time.
 const BURST: usize = 65_536;
+
+/// Reads a trace in bursts, to its end or to where one of them is the last that is asked for.
+pub(crate) fn read_bursts(mut trace: impl Read, mut goes_on: impl FnMut(&[u8]) -> bool) -> io::Result<()> {
+    let mut burst = vec![0; BURST];
+    loop {
+        match trace.read(&mut burst) {
+            Ok(0) => return Ok(()),
+            Ok(size) if goes_on(&burst[..size]) => {}
+            Ok(_) => return Ok(()),
+            Err(error) if error.kind() == ErrorKind::Interrupted => {}
+            Err(error) => return Err(error),
+        }
+    }
+}
 
 /// What a replay came to.
 #[derive(Clone, Copy, PartialEq, Eq, Debug)]
@@ -33,13 +47,18 @@ pub enum Report {
 }
 
 impl Report {
-    fn of(flat: ffi::Report) -> Report {
+    pub(crate) fn of(flat: ffi::Report) -> Report {
         match flat.verdict {
             0 => Report::Agreed { calls: flat.number as u32 },
             1 => Report::Differs { call: flat.number as u32, offset: flat.offset },
             2 => Report::Malformed { record: flat.number },
             verdict => unreachable!("the library gives no verdict {verdict}"),
         }
+    }
+
+    /// Whether all calls so far agreed.
+    pub fn is_agreed(&self) -> bool {
+        matches!(self, Report::Agreed { .. })
     }
 }
 
@@ -141,15 +160,9 @@ impl<'a> Replay<'a> {
 
     /// Reads a trace to its end, or to where the replay stops, and gives the report of a trace that ends there. Where
     /// reading fails, the replay stands behind the last byte that was read, and can go on.
-    pub fn read(&mut self, mut trace: impl Read) -> io::Result<Report> {
-        let mut burst = vec![0; BURST];
-        while !self.is_stopped() {
-            match trace.read(&mut burst) {
-                Ok(0) => break,
-                Ok(size) => _ = self.feed(&burst[..size]),
-                Err(error) if error.kind() == ErrorKind::Interrupted => {}
-                Err(error) => return Err(error),
-            }
+    pub fn read(&mut self, trace: impl Read) -> io::Result<Report> {
+        if !self.is_stopped() {
+            read_bursts(trace, |burst| self.feed(burst).is_agreed())?;
         }
         Ok(self.end())
     }
@@ -169,7 +182,7 @@ impl<'a> Replay<'a> {
 
     /// Whether a difference or a malformed record has stopped it.
     pub fn is_stopped(&self) -> bool {
-        !matches!(self.report(), Report::Agreed { .. })
+        !self.report().is_agreed()
     }
 
     /// How many records were taken. A malformed one is not.

@@ -2,7 +2,8 @@
 
 use draugsten::trace::{self, Kind, BODY_LIMIT};
 use draugsten::{
-    args, Answer, Fault, Phase, Reason, CODE_LIMIT, FIELD_LIMIT, NAME_LIMIT, STRUCTURE_LIMIT, VALUE_LIMIT,
+    args, Answer, Fault, Phase, Reason, Status, Token, CODE_LIMIT, FIELD_LIMIT, NAME_LIMIT, STRUCTURE_LIMIT,
+    VALUE_LIMIT,
 };
 
 const HEADER: &str = include_str!("../../../include/draugsten.h");
@@ -72,6 +73,38 @@ fn kinds_of_a_trace() {
 fn numbers_of_replays() {
     assert_eq!(numbers("DRAUGSTEN_VERDICT_"), [("AGREED", 0), ("DIFFERS", 1), ("MALFORMED", 2)]);
     assert_eq!(numbers("DRAUGSTEN_REPLAY_"), [("TAKEN", 0), ("NO_STATE", 14), ("NO_ROOM", 15)]);
+}
+
+/// The crate has the numbers as `NotAdded` and `NotMerged`, and the places of the statuses.
+#[test]
+fn numbers_of_the_month() {
+    let refusals =
+        [("ADDED", 0), ("NO_STATE", 14), ("NO_ROOM", 15), ("NOT_AGREED", 16), ("PAST_LIMIT", 17), ("NO_TOTALS", 18)];
+    let statuses = [
+        ("DONE", Status::Done),
+        ("AGAIN", Status::CallAgain),
+        ("MALFORMED", Status::Malformed),
+        ("PARAMETER", Status::Parameter),
+        ("CHANGED", Status::Changed),
+        ("ALREADY_REGISTERED", Status::AlreadyRegistered),
+        ("DUMP_ACTIVE", Status::DumpActive),
+    ];
+    let places = statuses.map(|(name, status)| (name, status.place() as i32));
+    assert_eq!(numbers("DRAUGSTEN_MONTH_"), refusals);
+    assert_eq!(numbers("DRAUGSTEN_ROW_"), places);
+}
+
+#[test]
+fn tokens_and_statuses_that_are_counted() {
+    let tokens = [
+        ("UPDATE_NODES", Token::UpdateNodes as i32),
+        ("GET_INDICES", Token::GetIndices as i32),
+        ("CONFIGURE_KERNEL_DUMP", Token::ConfigureKernelDump as i32),
+        ("UPDATE_PROPERTIES", Token::UpdateProperties as i32),
+    ];
+    assert_eq!(numbers("DRAUGSTEN_TOKEN_"), tokens);
+    let statuses = numbers("DRAUGSTEN_STATUS_").into_iter().map(|(_, number)| number);
+    assert!(statuses.eq(Status::ALL.into_iter().map(|status| status as i32)));
 }
 
 #[test]

@@ -1,8 +1,8 @@
 //! What a support engineer has to know of a call that differs.
 
 use crate::calls::{self, counted, Field};
-use crate::input;
 use crate::options::Options;
+use crate::shared::input;
 use draugsten::{Difference, Edition, Fault, Replay};
 
 /// The lines below the verdict: which call it is, what it was asked, and the word that differs on both sides.

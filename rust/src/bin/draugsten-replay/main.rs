@@ -3,17 +3,19 @@
 mod calls;
 mod difference;
 mod flaw;
-mod input;
 mod options;
 mod progress;
+#[path = "../shared/mod.rs"]
+mod shared;
 mod sources;
 #[cfg(test)]
 mod tests;
 
 use draugsten::{Edition, Replay, Report};
-use input::Trace;
 use options::Options;
 use progress::Progress;
+use shared::input::{self, Stream};
+use shared::output::write;
 use std::fmt::Display;
 use std::io::{self, Read, Write};
 use std::process::ExitCode;
@@ -60,15 +62,15 @@ fn run(options: &Options) -> Result<bool, String> {
     let journal = input::read_records("journal", options.journal.as_deref())?;
     let inventory = input::read_records("inventory", options.inventory.as_deref())?;
     let mut memory = input::read_memory(&options.memory)?;
-    let mut trace = Trace::open(options.trace.as_deref())?;
+    let mut trace = Stream::open("trace", options.trace.as_deref())?;
     let mut replay = Replay::new(&mut memory, &journal, &inventory, Edition(options.edition));
     let report = play(&mut replay, &mut trace)?;
     write(&tell(report, &replay, options))?;
-    Ok(matches!(report, Report::Agreed { .. }))
+    Ok(report.is_agreed())
 }
 
 /// Replays a trace to its end, or to where it stops.
-fn play(replay: &mut Replay<'_>, trace: &mut Trace) -> Result<Report, String> {
+fn play(replay: &mut Replay<'_>, trace: &mut Stream) -> Result<Report, String> {
     let mut progress = Progress::new(trace.size());
     loop {
         let mut part = trace.file().take(PART);
@@ -91,12 +93,4 @@ fn tell(report: Report, replay: &Replay<'_>, options: &Options) -> String {
         Report::Malformed { record } => lines.push(flaw::tell(replay, record)),
     }
     lines.join("\n") + "\n"
-}
-
-fn write(text: &str) -> Result<(), String> {
-    let mut output = io::stdout().lock();
-    let written = output.write_all(text.as_bytes()).and_then(|()| output.flush());
-    written.map_err(|error| {
-        format!("standard output cannot be written whole: {error}; make room, or write to another file")
-    })
 }

@@ -1,20 +1,11 @@
 //! The command line.
 
-use std::ffi::{OsStr, OsString};
+use crate::shared::input::{Memory, MEMORY_LIMIT};
+use crate::shared::numbers::number;
+use std::ffi::OsString;
 use std::path::PathBuf;
 
 pub const USAGE: &str = include_str!("usage.txt");
-
-/// Memory has at most so many bytes here. An address is below 2^32; a record sets up to 4,096 bytes from it on, a dump
-/// structure has up to 512, and the areas of the other calls end at 2^32. What stands behind changes no report.
-pub const MEMORY_LIMIT: u64 = (1 << 32) + 4096;
-
-/// What memory is before the first record.
-#[derive(PartialEq, Eq, Debug)]
-pub enum Memory {
-    File(PathBuf),
-    Zeros(u64),
-}
 
 #[derive(PartialEq, Eq, Debug)]
 pub struct Options {
@@ -45,11 +36,11 @@ pub fn parse(arguments: impl Iterator<Item = OsString>) -> Result<Option<Options
 fn judge(given: Given) -> Result<Options, String> {
     let memory = match (given.memory, given.memory_size) {
         (Some(file), None) => Memory::File(file.into()),
-        (None, Some(size)) => Memory::Zeros(number("--memory-size", &size, MEMORY_LIMIT)?),
+        (None, Some(size)) => Memory::Zeros(number("--memory-size", &size, 0..=MEMORY_LIMIT)?),
         (None, None) => return Err(String::from("--memory FILE or --memory-size BYTES has to be given")),
         (Some(_), Some(_)) => return Err(String::from("--memory and --memory-size are given both; give one")),
     };
-    let edition = given.edition.map_or(Ok(0), |text| number("--edition", &text, u32::MAX as u64))?;
+    let edition = given.edition.map_or(Ok(0), |text| number("--edition", &text, 0..=u32::MAX as u64))?;
     Ok(Options {
         memory,
         journal: given.journal.map(PathBuf::from),
@@ -92,17 +83,6 @@ fn take_trace(trace: &mut Option<OsString>, argument: OsString, name: &str) -> R
         None => Ok(()),
         Some(first) => Err(format!("there is one trace, and after {} was given {name}", first.display())),
     }
-}
-
-/// A number in digits alone, decimal or behind 0x hexadecimal, up to the most.
-fn number(name: &str, text: &OsStr, most: u64) -> Result<u64, String> {
-    let text = text.to_string_lossy();
-    let (digits, radix) = text.strip_prefix("0x").map_or((&text[..], 10), |digits| (digits, 16));
-    let plain = digits.chars().all(|digit| digit.is_digit(radix));
-    let value = u64::from_str_radix(digits, radix).ok().filter(|value| plain && *value <= most);
-    value.ok_or(format!(
-        "{name} needs a number from 0 to {most}, decimal or behind 0x hexadecimal, and was given {text}"
-    ))
 }
 
 #[cfg(test)]

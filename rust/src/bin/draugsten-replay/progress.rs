@@ -1,53 +1,28 @@
-//! How far a replay is, on standard error where that is a terminal.
+//! How far a replay is.
 
-use std::io::{self, IsTerminal, Write};
-use std::time::{Duration, Instant};
-
-/// The time from the beginning, and from one line to the next.
-const PAUSE: Duration = Duration::from_millis(300);
+use crate::shared::line::Line;
 
 pub struct Progress {
     size: Option<u64>,
     bytes: u64,
-    told: Instant,
-    on: bool,
-    width: usize,
+    line: Line,
 }
 
 impl Progress {
     /// Of a trace of so many bytes, where that is known.
     pub fn new(size: Option<u64>) -> Progress {
-        Progress { size, bytes: 0, told: Instant::now(), on: io::stderr().is_terminal(), width: 0 }
+        Progress { size, bytes: 0, line: Line::new() }
     }
 
     /// So many bytes were replayed, and so many records are taken in all.
     pub fn pass(&mut self, bytes: u64, records: u64) {
         self.bytes += bytes;
-        if self.on && self.told.elapsed() >= PAUSE {
-            self.told = Instant::now();
-            self.show(&line(self.bytes, self.size, records));
-        }
+        self.line.tell(|| line(self.bytes, self.size, records));
     }
 
     /// The bytes that were replayed.
     pub fn bytes(&self) -> u64 {
         self.bytes
-    }
-
-    /// Writes a line over the last one.
-    fn show(&mut self, line: &str) {
-        _ = write!(io::stderr(), "\r{line:<width$}", width = self.width);
-        self.width = line.len();
-    }
-}
-
-/// The line goes with its replay.
-impl Drop for Progress {
-    fn drop(&mut self) {
-        if self.width > 0 {
-            self.show("");
-            _ = write!(io::stderr(), "\r");
-        }
     }
 }
 

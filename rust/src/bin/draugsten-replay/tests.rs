@@ -1,6 +1,7 @@
 //! What is told of traces that do not agree.
 
-use crate::options::{Memory, Options};
+use crate::options::Options;
+use crate::shared::input::Memory;
 use crate::tell;
 use draugsten::args::{self, Flag, IndexRequest};
 use draugsten::{Edition, Replay};

@@ -1,11 +1,21 @@
-//! The files that a replay is given.
+//! The files that replays go over.
 
-use crate::options::{Memory, MEMORY_LIMIT};
 use std::fs::File;
 use std::hint::black_box;
 use std::io::{self, ErrorKind, Read, Seek};
 use std::os::fd::AsFd;
-use std::path::Path;
+use std::path::{Path, PathBuf};
+
+/// Memory has at most so many bytes here. An address is below 2^32; a record sets up to 4,096 bytes from it on, a dump
+/// structure has up to 512, and the areas of the other calls end at 2^32. What stands behind changes no report.
+pub const MEMORY_LIMIT: u64 = (1 << 32) + 4096;
+
+/// What memory is before the first record.
+#[derive(PartialEq, Eq, Debug)]
+pub enum Memory {
+    File(PathBuf),
+    Zeros(u64),
+}
 
 /// A journal and an inventory have at most so many bytes. Longer ones are malformed, whatever they hold.
 const RECORDS_LIMIT: u64 = 1_048_576;
@@ -26,7 +36,7 @@ pub fn read_memory(memory: &Memory) -> Result<Vec<u8>, String> {
     match memory {
         Memory::File(path) => read_image(path, MEMORY_LIMIT),
         Memory::Zeros(size) => {
-            zeros(*size).ok_or(format!("{size} bytes of memory cannot be had here; give a smaller --memory-size"))
+            zeros(*size).ok_or(format!("{size} bytes of memory cannot be had here; give a smaller size"))
         }
     }
 }
@@ -62,21 +72,22 @@ pub fn zeros(size: u64) -> Option<Vec<u8>> {
     Some(vec![0; size])
 }
 
-/// A trace, from a file or from standard input.
-pub struct Trace {
+/// What is read piece by piece, from a file or from standard input.
+pub struct Stream {
     name: String,
     file: File,
 }
 
-impl Trace {
-    pub fn open(path: Option<&Path>) -> Result<Trace, String> {
-        let name = path.map_or(String::from("standard input, the trace,"), |path| named("trace", path));
+impl Stream {
+    /// Opens it by what it is for. Without a file it is standard input.
+    pub fn open(what: &str, path: Option<&Path>) -> Result<Stream, String> {
+        let name = path.map_or(format!("standard input, the {what},"), |path| named(what, path));
         let file = match path {
             Some(path) => File::open(path),
             None => io::stdin().as_fd().try_clone_to_owned().map(File::from),
         };
         match file {
-            Ok(file) => Ok(Trace { name, file }),
+            Ok(file) => Ok(Stream { name, file }),
             Err(error) => Err(failed(&name, &error)),
         }
     }

@@ -1,0 +1,12 @@
+//! Standard output.
+
+use std::io::{self, Write};
+
+/// Writes a text, or says why it cannot be written, and what helps.
+pub fn write(text: &str) -> Result<(), String> {
+    let mut output = io::stdout().lock();
+    let written = output.write_all(text.as_bytes()).and_then(|()| output.flush());
+    written.map_err(|error| {
+        format!("standard output cannot be written whole: {error}; make room, or write to another file")
+    })
+}
