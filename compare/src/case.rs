@@ -1,6 +1,7 @@
 //! The cases that are compared.
 
 use crate::library::{ReadingRecord, Registration, Replay};
+use crate::month::case::MonthCase;
 use crate::subject::Platform;
 use crate::text;
 
@@ -141,6 +142,7 @@ pub enum Case {
     Session(SessionCase),
     Trace(TraceCase),
     State(StateCase),
+    Month(MonthCase),
 }
 
 impl CallCase {
@@ -182,6 +184,7 @@ impl Case {
             Case::Session(session) => session.text(),
             Case::Trace(trace) => trace.text(),
             Case::State(state) => state.text(),
+            Case::Month(month) => month.text(),
         }
     }
 }
@@ -196,7 +199,7 @@ impl Given {
 }
 
 impl TraceCase {
-    fn text(&self) -> String {
+    pub fn text(&self) -> String {
         let bursts: Vec<String> = self.bursts.iter().take(MOST_BURSTS).map(Burst::text).collect();
         let more = if self.bursts.len() > MOST_BURSTS { " .." } else { "" };
         let mut text = format!("replay of a trace, edition {:#x}, bursts: {}{more}\n", self.edition, bursts.join(" "));
@@ -215,7 +218,7 @@ impl Burst {
 }
 
 impl StateCase {
-    fn text(&self) -> String {
+    pub fn text(&self) -> String {
         let mut text = format!("feed of a replay: {}\n", self.replay.text());
         text += &text::records("burst", &self.burst);
         text += &text::buffer("copy", &self.replay.registration.copy);

@@ -4,6 +4,7 @@ use crate::buffers::{word_at, Lent};
 use crate::case::{CallCase, Case, ReadCase};
 use crate::coverage::Coverage;
 use crate::library::{Reading, ReadingRecord, Registration};
+use crate::month;
 use crate::replay;
 use crate::session;
 use crate::subject::{Answered, Subject};
@@ -200,6 +201,7 @@ pub fn difference(sides: Sides, case: &Case, coverage: &mut Coverage) -> Option<
         Case::Session(case) => session::difference(sides, case, coverage),
         Case::Trace(case) => replay::difference(sides, case, coverage),
         Case::State(case) => replay::states::difference(sides, case, coverage),
+        Case::Month(case) => month::difference(sides, case, coverage),
     }
 }
 

@@ -8,6 +8,7 @@ mod crash;
 mod fixed;
 mod generate;
 mod library;
+mod month;
 mod options;
 mod random;
 mod replay;
@@ -44,7 +45,7 @@ fn main() -> ExitCode {
     println!("draugsten-compare: document 01 written out ({}) against {}", sides.paper.name(), sides.tested.name());
     println!(
         "compared: every answer, and every byte of the argument buffer, of memory, of the registration, of the reading \
-        record and of out; what a replay comes to, and which states of one are refused"
+        record and of out; what a replay comes to, which states of one are refused, and every figure of a month"
     );
     crash::install();
     if options.fixed && options.only.is_none() && !run_fixed(sides) {

@@ -1,8 +1,9 @@
 //! Makes a case with a difference smaller, as long as the difference stays.
 
 use crate::buffers::record_places;
-use crate::case::{Asked, CallCase, Case, Given, Listing, ReadCase, SessionCase, StateCase, TraceCase};
+use crate::case::{Asked, CallCase, Case, Given, Listing, ReadCase, SessionCase, TraceCase};
 use crate::library::ReadingRecord;
+use crate::month::case::MonthCase;
 use std::time::{Duration, Instant};
 
 /// The parts of a case that are made smaller.
@@ -35,9 +36,10 @@ fn bytes_of(case: &Case, part: Part) -> &[u8] {
         (Case::Call(call), Part::Copy) => &call.registration.copy,
         (Case::ReadNodes { read, .. } | Case::ReadIndices(read) | Case::ReadProperties(read), Part::Area) => &read.area,
         (Case::Session(session), Part::Session) => &session.records,
-        (Case::Trace(case), Part::Trace) => &case.trace,
-        (Case::State(case), Part::Trace) => &case.burst,
-        (Case::Trace(TraceCase { given, .. }) | Case::State(StateCase { given, .. }), _) => given_bytes(given, part),
+        (Case::Trace(case) | Case::Month(MonthCase::Trace { case, .. }), Part::Trace) => &case.trace,
+        (Case::State(case) | Case::Month(MonthCase::State { case, .. }), Part::Trace) => &case.burst,
+        (Case::Trace(case) | Case::Month(MonthCase::Trace { case, .. }), _) => given_bytes(&case.given, part),
+        (Case::State(case) | Case::Month(MonthCase::State { case, .. }), _) => given_bytes(&case.given, part),
         _ => &[],
     }
 }
@@ -64,9 +66,10 @@ fn with_bytes(case: &Case, part: Part, bytes: Vec<u8>) -> Case {
             read.area = bytes
         }
         (Case::Session(session), Part::Session) => session.records = bytes,
-        (Case::Trace(case), Part::Trace) => case.trace = bytes,
-        (Case::State(case), Part::Trace) => case.burst = bytes,
-        (Case::Trace(TraceCase { given, .. }) | Case::State(StateCase { given, .. }), _) => give(given, part, bytes),
+        (Case::Trace(case) | Case::Month(MonthCase::Trace { case, .. }), Part::Trace) => case.trace = bytes,
+        (Case::State(case) | Case::Month(MonthCase::State { case, .. }), Part::Trace) => case.burst = bytes,
+        (Case::Trace(case) | Case::Month(MonthCase::Trace { case, .. }), _) => give(&mut case.given, part, bytes),
+        (Case::State(case) | Case::Month(MonthCase::State { case, .. }), _) => give(&mut case.given, part, bytes),
         _ => {}
     }
     changed
@@ -105,7 +108,7 @@ fn of_session(case: &mut Case, change: impl Fn(&mut SessionCase)) {
 }
 
 fn of_trace(case: &mut Case, change: impl Fn(&mut TraceCase)) {
-    if let Case::Trace(trace) = case {
+    if let Case::Trace(trace) | Case::Month(MonthCase::Trace { case: trace, .. }) = case {
         change(trace);
     }
 }
@@ -138,6 +141,7 @@ struct Shrinking<'a> {
 pub fn shrink(case: Case, differs: &mut dyn FnMut(&Case) -> bool) -> Case {
     let mut shrinking = Shrinking { best: case, differs, end: Instant::now() + MOST_TIME };
     shrinking.simplify();
+    shrinking.zero_figures();
     for _ in 0..2 {
         OF_RECORDS.into_iter().for_each(|part| shrinking.remove_records(part));
         OF_ANY_LENGTH.into_iter().for_each(|part| shrinking.shorten(part));
@@ -167,6 +171,17 @@ impl Shrinking<'_> {
             let mut candidate = self.best.clone();
             change(&mut candidate);
             self.keep(candidate);
+        }
+    }
+
+    /// Sets the figures of a case of the month to zero, one after the other.
+    fn zero_figures(&mut self) {
+        for place in 0..100 {
+            let mut candidate = self.best.clone();
+            if let Case::Month(month) = &mut candidate {
+                month.figures_mut().into_iter().nth(place).into_iter().for_each(|figure| *figure = 0);
+                self.keep(candidate);
+            }
         }
     }
 
@@ -239,6 +254,7 @@ mod tests {
     use crate::coverage::Coverage;
     use crate::generate;
     use crate::library::{Edit, Reading, Replay};
+    use crate::month::subject::Month;
     use crate::subject::{Answered, Ended, Fed, Feeding, Paper, Platform, Subject};
 
     /// Gives number 9 where the journal holds a delete of node type 6, and clears the record where its number is 0.
@@ -278,6 +294,10 @@ mod tests {
 
         fn replay_end(&self, replay: &Replay) -> Ended {
             Paper.replay_end(replay)
+        }
+
+        fn month(&self) -> &dyn Month {
+            Paper.month()
         }
 
         fn read_nodes(&self, area: &[u8], scope: u32, out: &mut [u32]) -> Reading {

@@ -1,13 +1,14 @@
 //! The two sides of the comparison behind one trait.
 
 use crate::library::{Edit, Reading, ReadingRecord, Registration, Replay, Report, NO_REGISTRATION};
+use crate::month::subject::Month;
 use crate::paper;
 
 /// With no library at hand the other side is a second copy of the paper's implementation.
 #[cfg(feature = "without-library")]
 #[allow(dead_code, clippy::duplicate_mod)]
 #[path = "paper/mod.rs"]
-mod second;
+pub mod second;
 
 /// What the platform has for a call of a partition.
 pub struct Platform<'a> {
@@ -49,7 +50,7 @@ pub struct Ended {
     pub report: Report,
 }
 
-/// One side: the calls, the replay and the readers as the library's C interface has them.
+/// One side: the calls, the replay, the month and the readers as the library's C interface has them.
 pub trait Subject {
     fn name(&self) -> &'static str;
 
@@ -70,6 +71,9 @@ pub trait Subject {
     /// What a replay comes to whose trace ends here.
     fn replay_end(&self, replay: &Replay) -> Ended;
 
+    /// Replays that count, and totals over them.
+    fn month(&self) -> &dyn Month;
+
     /// With entries, writes three words for each that fits in `out`, and nothing else.
     fn read_nodes(&self, area: &[u8], scope: u32, out: &mut [u32]) -> Reading;
 
@@ -88,7 +92,7 @@ fn put_entries<T: Copy, const ELEMENTS: usize>(out: &mut [T], entries: impl Iter
 }
 
 /// A report of verdict, offset and number; the first two are known to fit a word.
-fn report((verdict, offset, number): (u64, u64, u64)) -> Report {
+pub fn report((verdict, offset, number): (u64, u64, u64)) -> Report {
     Report { verdict: verdict as u32, offset: offset as u32, number }
 }
 
@@ -136,7 +140,7 @@ macro_rules! paper_subject {
             }
 
             /// The replay of a state that has a registration.
-            fn replay(state: &$rules::replay_states::State) -> Replay {
+            pub fn replay(state: &$rules::replay_states::State) -> Replay {
                 let registration = state.registration.as_ref().expect("a replay that is taken has a registration");
                 Replay {
                     records: state.records,
@@ -149,7 +153,7 @@ macro_rules! paper_subject {
                 }
             }
 
-            fn replay_given(given: &Replay) -> $rules::replay_states::State {
+            pub fn replay_given(given: &Replay) -> $rules::replay_states::State {
                 $rules::replay_states::State {
                     records: given.records,
                     verdict: u64::from(given.report.verdict),
@@ -217,6 +221,10 @@ macro_rules! paper_subject {
                     Ok(told) => Ended { number: 0, report: report(told) },
                     Err(refused) => Ended { number: refused.number, report: report((2, 0, 0)) },
                 }
+            }
+
+            fn month(&self) -> &dyn Month {
+                self
             }
 
             fn read_nodes(&self, area: &[u8], scope: u32, out: &mut [u32]) -> Reading {

@@ -4,6 +4,7 @@ mod areas;
 mod combinations;
 mod dump;
 mod indices;
+mod months;
 mod nodes;
 mod properties;
 mod property_areas;
@@ -13,6 +14,7 @@ mod replays;
 use crate::buffers::{record_places, word_at};
 use crate::case::{Asked, CallCase, ReadCase, StateCase, TraceCase};
 use crate::compare::CallResult;
+use crate::library::month::{Added, Counted, Counting, Counts as TraceCounts, Merged, Share, Totals};
 use crate::library::{Reading, Report};
 use crate::session::Counts;
 use combinations::Combinations;
@@ -146,6 +148,7 @@ pub struct Coverage {
     trace_lines: Table,
     states: Table,
     state_lines: Table,
+    months: [Table; 7],
     combinations: Combinations,
 }
 
@@ -175,6 +178,7 @@ impl Coverage {
             trace_lines: Table::of_lines("traces, lines", replays::LINES),
             states: Table::new("replays fed that stand anywhere", replays::STATES.into_iter()),
             state_lines: Table::of_lines("such replays, lines", replays::STATE_LINES),
+            months: month_tables(),
             combinations: Combinations::new(),
         }
     }
@@ -288,6 +292,29 @@ impl Coverage {
         self.state_lines.count_lines(replays::STATE_LINES, &replays::state_facts(case, number, report));
     }
 
+    /// A trace that ends, or that is asked in the middle, with its counts, and what came of adding it to totals.
+    pub fn month_trace(&mut self, case: &TraceCase, counts: &TraceCounts, before: &Totals, added: &Added, whole: bool) {
+        self.months[0].add(months::added_row(added, whole), 1);
+        if whole {
+            self.months[1].count_lines(months::LINES, &months::facts(case, counts, before, added));
+        }
+    }
+
+    /// A feed of a replay with counts that stands anywhere, and what came of adding it to totals before that.
+    pub fn month_state(&mut self, counting: &Counting, told: &Counted, before: &Totals, added: &Added) {
+        self.months[2].add(months::state_row(counting, told), 1);
+        self.months[3].count_lines(months::STATE_LINES, &months::state_facts(counting, told, before, added));
+    }
+
+    pub fn month_merge(&mut self, totals: &Totals, more: &Totals, merged: &Merged) {
+        self.months[4].add(months::merge_row(merged), 1);
+        self.months[5].count_lines(months::MERGE_LINES, &months::merge_facts(totals, more, merged));
+    }
+
+    pub fn month_share(&mut self, totals: &Totals, share: &Share) {
+        self.months[6].count_lines(months::SHARE_LINES, &(*totals, *share));
+    }
+
     /// A session of get-indices, by what came between its calls.
     fn disturbed_session(&mut self, counts: &Counts) {
         let in_one_edition = counts.edits == 0 && counts.refused > 0;
@@ -306,8 +333,8 @@ impl Coverage {
         self.sessions.add(SESSION_ROWS[5], u64::from(answered >= 5));
     }
 
-    fn tables(&self) -> [&Table; 22] {
-        [
+    fn tables(&self) -> Vec<&Table> {
+        let first = [
             &self.buffer,
             &self.node_rules,
             &self.node_lines,
@@ -330,7 +357,8 @@ impl Coverage {
             &self.trace_lines,
             &self.states,
             &self.state_lines,
-        ]
+        ];
+        first.into_iter().chain(&self.months).collect()
     }
 
     /// The rows that never came up.
@@ -368,6 +396,19 @@ impl Coverage {
         println!("\n{} rows never came up", missing.len());
         missing.iter().for_each(|row| println!("  {row}"));
     }
+}
+
+/// The tables of the month.
+fn month_tables() -> [Table; 7] {
+    [
+        Table::new("traces counted and added", months::ADDED.into_iter()),
+        Table::of_lines("such traces, lines", months::LINES),
+        Table::new("replays with counts fed that stand anywhere", months::STATES.into_iter()),
+        Table::of_lines("such replays with counts, lines", months::STATE_LINES),
+        Table::new("totals merged", months::MERGES.into_iter()),
+        Table::of_lines("totals merged, lines", months::MERGE_LINES),
+        Table::of_lines("shares", months::SHARE_LINES),
+    ]
 }
 
 fn has_equals(list: &[u32]) -> bool {

@@ -6,12 +6,14 @@ mod arguments;
 mod dump;
 mod indices;
 mod large;
+mod months;
 mod nodes;
 mod properties;
 mod property_areas;
 mod reading_records;
 mod replays;
 mod scopes;
+mod totals;
 
 use crate::buffers::put_word;
 use crate::case::{CallCase, ReadCase};
@@ -20,8 +22,10 @@ use crate::crash;
 use crate::library::{ReadingRecord, Registration};
 use crate::subject::Subject;
 use crate::text;
+use months::{CountsReading, MonthReading};
 use reading_records::{edit_failure, start_failure, EDITS};
 use replays::{FeedReading, TraceReading};
+use totals::{MergeReading, ShareReading};
 
 /// A call and all that it has to leave.
 pub struct CallReading {
@@ -190,6 +194,10 @@ struct Readings {
     property_areas: Vec<PropertyReading>,
     traces: Vec<TraceReading>,
     feeds: Vec<FeedReading>,
+    months: Vec<MonthReading>,
+    counts: Vec<CountsReading>,
+    merges: Vec<MergeReading>,
+    shares: Vec<ShareReading>,
 }
 
 fn readings() -> Readings {
@@ -208,6 +216,10 @@ fn readings() -> Readings {
         property_areas: property_areas::readings(),
         traces: replays::readings(),
         feeds: replays::feeds(),
+        months: months::readings(),
+        counts: months::counts(),
+        merges: totals::merges(),
+        shares: totals::shares(),
     }
 }
 
@@ -222,16 +234,28 @@ impl Readings {
         let of_traces = self.traces.iter().map(|reading| reading.failure(subject));
         let of_feeds = self.feeds.iter().map(|reading| reading.failure(subject));
         let first = of_calls.chain(of_areas).chain(of_property_areas).chain(of_edits);
-        let all = first.chain(of_the_start).chain(of_traces).chain(of_feeds);
+        let all = first.chain(of_the_start).chain(of_traces).chain(of_feeds).chain(self.month_failures(subject));
         // The place is noted before the reading is run.
         let places = (0..).inspect(|&place| crash::running_fixed(place));
         places.zip(all).filter_map(|(_, failure)| failure).collect()
     }
 
+    /// What a side does otherwise than written in the month.
+    fn month_failures<'a>(&'a self, subject: &'a dyn Subject) -> impl Iterator<Item = Option<String>> + 'a {
+        let of_months = self.months.iter().map(|reading| reading.failure(subject));
+        let of_counts = self.counts.iter().map(|reading| reading.failure(subject));
+        let of_merges = self.merges.iter().map(|reading| reading.failure(subject));
+        let of_shares = self.shares.iter().map(|reading| reading.failure(subject));
+        of_months.chain(of_counts).chain(of_merges).chain(of_shares)
+    }
+
     fn text(&self) -> String {
         let (calls, areas, edits) = (self.calls.len(), self.areas.len() + self.property_areas.len(), EDITS.len());
         let replays = format!("{} traces and {} feeds of a replay", self.traces.len(), self.feeds.len());
-        format!("{calls} calls, {areas} areas, {edits} edits, the record to start with, {replays}")
+        let (months, counts) = (self.months.len(), self.counts.len());
+        let months = format!("{months} traces and {counts} replays that are counted");
+        let totals = format!("{} merges and {} shares", self.merges.len(), self.shares.len());
+        format!("{calls} calls, {areas} areas, {edits} edits, the record to start with, {replays}, {months}, {totals}")
     }
 }
 

@@ -33,7 +33,7 @@ pub struct FeedReading {
 }
 
 /// A journal with one delete, and an inventory with two sensors of type 9.
-fn given(room: [usize; 2]) -> Given {
+pub fn given(room: [usize; 2]) -> Given {
     let [held, args] = room.map(|length| vec![0xdd; length]);
     let inventory = [inventory_record(1, 9, 0x0a, b"aaa"), inventory_record(1, 9, 0x0b, b"bbb")].concat();
     Given { memory: untouched(), journal: journal_record(1, 10, 0x2a, 0), inventory, held, args }
@@ -50,42 +50,42 @@ fn holding(parts: &[(usize, &[u8])]) -> Vec<u8> {
     memory
 }
 
-fn agreed(calls: u64) -> Report {
+pub fn agreed(calls: u64) -> Report {
     Report { verdict: 0, offset: 0, number: calls }
 }
 
-fn differs(call: u64, offset: u32) -> Report {
+pub fn differs(call: u64, offset: u32) -> Report {
     Report { verdict: 1, offset, number: call }
 }
 
-fn malformed(record: u64) -> Report {
+pub fn malformed(record: u64) -> Report {
     Report { verdict: 2, offset: 0, number: record }
 }
 
-fn before(args: &[u8]) -> Vec<u8> {
+pub fn before(args: &[u8]) -> Vec<u8> {
     record(32, args)
 }
 
-fn after(args: &[u8]) -> Vec<u8> {
+pub fn after(args: &[u8]) -> Vec<u8> {
     record(33, args)
 }
 
-fn set(address: u32, bytes: &[u8]) -> Vec<u8> {
+pub fn set(address: u32, bytes: &[u8]) -> Vec<u8> {
     record(34, &[&address.to_le_bytes(), bytes].concat())
 }
 
 /// A call of update-nodes over the first page, with this status in its buffer.
-fn nodes(status: u32) -> Vec<u8> {
+pub fn nodes(status: u32) -> Vec<u8> {
     arguments(1, &[0, 1], &[status])
 }
 
 /// The sixteen bytes that the area has to begin with, and the call as it comes.
-fn called() -> Vec<u8> {
+pub fn called() -> Vec<u8> {
     [set(0, &[0; 16]), before(&nodes(0x55))].concat()
 }
 
 /// The call with what it answers.
-fn answered() -> Vec<u8> {
+pub fn answered() -> Vec<u8> {
     [called(), after(&nodes(0))].concat()
 }
 

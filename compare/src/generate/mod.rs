@@ -9,6 +9,7 @@ pub mod indices_call;
 pub mod inventories;
 pub mod journals;
 pub mod memories;
+mod months;
 mod node_areas;
 mod nodes_call;
 mod properties;
@@ -30,7 +31,8 @@ use journals::Size;
 pub fn case(seed: u64, number: u64) -> Case {
     let mut random = Random::for_case(seed, number);
     match random.below(110) {
-        0..=63 => Case::Call(call(&mut random)),
+        0..=54 => Case::Call(call(&mut random)),
+        55..=63 => Case::Month(months::case(&mut random)),
         64 => Case::Edit(reading_records::edition(&mut random)),
         65..=75 => node_areas::case(&mut random),
         76..=84 => Case::ReadIndices(index_areas::case(&mut random)),

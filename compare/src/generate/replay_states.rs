@@ -4,6 +4,7 @@
 use super::{reading_records, recordings, registrations, structures, traces};
 use crate::buffers::record_places;
 use crate::case::{Given, StateCase};
+use crate::library::month::{Counting, Counts};
 use crate::library::{ReadingRecord, Registration, Replay};
 use crate::random::Random;
 use crate::subject::{Feeding, Paper, Subject};
@@ -12,6 +13,11 @@ use crate::subject::{Feeding, Paper, Subject};
 const LAST: u64 = 4_294_967_295;
 
 pub fn case(random: &mut Random) -> StateCase {
+    counted(random).0
+}
+
+/// A case, and what the calls came to that were made before it was moved on or changed.
+pub fn counted(random: &mut Random) -> (StateCase, Counts) {
     let mut recording = recordings::session(random, 5);
     if random.one_in(2) {
         traces::damage(random, &mut recording);
@@ -19,14 +25,14 @@ pub fn case(random: &mut Random) -> StateCase {
     let (edition, trace) = (recording.edition, std::mem::take(&mut recording.trace));
     let mut given = traces::given(random, recording);
     let (fed, rest) = trace.split_at(cut(random, &trace));
-    let replay = feed_paper(&mut given, edition, fed);
+    let Counting { replay, counts } = feed_paper(&mut given, edition, fed);
     let burst = if random.one_in(6) { Vec::new() } else { rest.to_vec() };
     let mut case = StateCase { given, replay, burst };
     move_on(random, &mut case);
     for _ in 0..random.pick(&[0, 1, 1, 1, 1, 2]) {
         spoil(random, &mut case);
     }
-    case
+    (case, counts)
 }
 
 /// A place between two records, or anywhere.
@@ -39,10 +45,10 @@ fn cut(random: &mut Random, trace: &[u8]) -> usize {
 }
 
 /// The replay that the paper's side leaves behind these bytes, with what it left in the buffers.
-fn feed_paper(given: &mut Given, edition: u32, bytes: &[u8]) -> Replay {
+pub fn feed_paper(given: &mut Given, edition: u32, bytes: &[u8]) -> Counting {
     let Given { held, args, memory, journal, inventory } = given;
-    let start = Paper.replay_start(edition);
-    Paper.replay_feed(Feeding { held, args, memory, journal, inventory }, &start, bytes).replay
+    let start = Paper.month().start(edition);
+    Paper.month().feed(Feeding { held, args, memory, journal, inventory }, &start, bytes).counting
 }
 
 /// A replay that another trace comes to: more records, more calls, another registration or reading, a stop.

@@ -3,6 +3,7 @@
 
 pub mod get_indices;
 pub mod kernel_dump;
+pub mod month;
 pub mod readers;
 pub mod reading_record;
 pub mod records;

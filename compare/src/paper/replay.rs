@@ -1,5 +1,6 @@
 //! M-110, "Replay a partition's session."
 
+use super::month::{self, Counts};
 use super::words::little;
 use super::{call, Phase, Platform, ReadingRecord, Registration, NO_READING};
 
@@ -35,20 +36,21 @@ pub struct Over<'a> {
     pub edition: u64,
 }
 
-/// Where a replay stands in front of a record: how many records there were, how many calls agreed, and what the platform
-/// keeps for the partition. No 32 waits for its 33.
+/// Where a replay stands in front of a record: how many records there were, how many calls agreed, what the platform keeps
+/// for the partition, and what the calls came to (M-111). No 32 waits for its 33.
 #[derive(Clone, Copy)]
 pub struct Position {
     pub records: u64,
     pub calls: u64,
     pub registration: Registration,
     pub reading: ReadingRecord,
+    pub counts: Counts,
 }
 
 /// "starting with no registration and no reading in progress"
 pub fn beginning() -> Position {
     let registration = Registration { phase: Phase::None, length: 0, copy: [0; 512] };
-    Position { records: 0, calls: 0, registration, reading: NO_READING }
+    Position { records: 0, calls: 0, registration, reading: NO_READING, counts: month::NOTHING }
 }
 
 /// What a replay comes to: its report, where it stopped, the bytes of the trace from there on, and our buffer of a call
@@ -162,6 +164,7 @@ fn run_call(before: &[u8], after: &[u8], memory: &mut [u8], over: &Over, positio
         Platform { journal, inventory, edition, registration: position.registration, reading: position.reading };
     let mut ours = before.to_vec();
     let told = call(&mut ours, memory, &platform);
+    month::count(&mut position.counts, &ours, memory, &told);
     position.registration = told.registration;
     position.reading = told.reading;
     match first_differing_offset(&ours, after) {

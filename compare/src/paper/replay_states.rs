@@ -1,6 +1,7 @@
 //! The replay of M-110 as include/draugsten.h has it: fed in bursts, with a state that the caller keeps between them. A
 //! feed replays what is not done yet of the trace, as one trace: the 32 that waits, the bytes that are held, the burst.
 
+use super::month::{self, Counts};
 use super::replay::{self, beginning, first_record, Over, Position, Record, Replayed, Report};
 use super::{get_indices, kernel_dump, Phase, ReadingRecord, Registration, NO_READING};
 
@@ -64,8 +65,14 @@ fn state_at(position: &Position, edition: u64) -> State {
     }
 }
 
-/// "Feeds a replay the next bytes of its trace." "The checks come in this order: 15; 14."
+/// "Feeds a replay the next bytes of its trace."
 pub fn feed(lent: &mut Lent, over: &Over, state: &State, bytes: &[u8]) -> Result<State, Refused> {
+    let registration = judge_feed(lent, state)?;
+    Ok(go_on(lent, over, state, (registration, month::NOTHING), bytes).0)
+}
+
+/// Holds a feed to its room and to its replay; gives the registration. "The checks come in this order: 15; 14."
+pub fn judge_feed(lent: &Lent, state: &State) -> Result<Registration, Refused> {
     if lent.held.len() < HELD {
         return refused(NO_ROOM, "held under 4,104 bytes");
     }
@@ -76,15 +83,26 @@ pub fn feed(lent: &mut Lent, over: &Over, state: &State, bytes: &[u8]) -> Result
     if makes_a_record(&lent.held[..state.held as usize]) {
         return refused(NO_REPLAY, "held bytes that make a record");
     }
+    Ok(registration)
+}
+
+/// Goes on with a replay that is taken, from its registration and its counts on; gives the counts beside it.
+pub fn go_on(
+    lent: &mut Lent,
+    over: &Over,
+    state: &State,
+    (registration, counts): (Registration, Counts),
+    bytes: &[u8],
+) -> (State, Counts) {
     // "A difference or a malformed record stops a replay, and every later feed changes nothing."
     if state.verdict != 0 {
-        return Ok(*state);
+        return (*state, counts);
     }
     let trace = not_done(lent, state, bytes);
     let records = state.records - waits(state);
-    let from = Position { records, calls: state.number, registration, reading: state.reading };
+    let from = Position { records, calls: state.number, registration, reading: state.reading, counts };
     let replayed = replay::replay(&trace, lent.memory, over, from);
-    Ok(come_to(lent, state.edition, &trace, &replayed))
+    (come_to(lent, state.edition, &trace, &replayed), replayed.position.counts)
 }
 
 /// 1 where a 32 waits for its 33.

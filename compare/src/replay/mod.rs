@@ -13,12 +13,12 @@ use crate::subject::{Ended, Fed, Feeding, Subject};
 /// A replay under way on one side.
 #[derive(Clone)]
 pub struct Running<'a> {
-    subject: &'a dyn Subject,
+    pub subject: &'a dyn Subject,
     given: &'a Given,
     held: Lent,
     pub args: Lent,
     pub memory: Lent,
-    replay: Replay,
+    pub replay: Replay,
 }
 
 impl<'a> Running<'a> {
@@ -27,15 +27,20 @@ impl<'a> Running<'a> {
         Running { subject, given, held, args, memory, replay }
     }
 
-    pub fn feed(&mut self, bytes: &[u8]) -> Fed {
-        let feeding = Feeding {
+    /// What a feed is given beside the replay.
+    pub fn lend(&mut self) -> Feeding<'_> {
+        Feeding {
             held: self.held.content_mut(),
             args: self.args.content_mut(),
             memory: self.memory.content_mut(),
             journal: &self.given.journal,
             inventory: &self.given.inventory,
-        };
-        let fed = self.subject.replay_feed(feeding, &self.replay, bytes);
+        }
+    }
+
+    pub fn feed(&mut self, bytes: &[u8]) -> Fed {
+        let (subject, replay) = (self.subject, self.replay);
+        let fed = subject.replay_feed(self.lend(), &replay, bytes);
         self.replay = fed.replay;
         fed
     }
@@ -45,12 +50,17 @@ impl<'a> Running<'a> {
     }
 
     /// A difference or a malformed record has stopped it.
-    fn stopped(&self) -> bool {
+    pub fn stopped(&self) -> bool {
         self.replay.report.verdict != 0
     }
 
+    /// The bytes of a record that is not finished.
+    pub fn held_bytes(&self) -> &[u8] {
+        &self.held.content()[..self.replay.held as usize]
+    }
+
     /// What is not as it was before.
-    fn changed(&self, before: &Running) -> Option<&'static str> {
+    pub fn changed(&self, before: &Running) -> Option<&'static str> {
         let parts = [
             (self.replay != before.replay, "the replay"),
             (self.held != before.held, "held"),
@@ -73,7 +83,7 @@ pub fn difference(sides: Sides, case: &TraceCase, coverage: &mut Coverage) -> Op
 }
 
 /// The bursts as they are fed, with the bytes that are fed behind each: all of the trace.
-fn bursts(case: &TraceCase) -> Vec<(Burst, usize)> {
+pub fn bursts(case: &TraceCase) -> Vec<(Burst, usize)> {
     let mut at = 0;
     let mut bursts = Vec::new();
     for burst in &case.bursts {
@@ -122,7 +132,7 @@ fn judge(sides: Sides, case: &TraceCase, start: Replay, tested: &Running, bytes:
 }
 
 /// The first difference between two replays that stand behind the same bytes. The trace is the one behind so many calls.
-fn replay_difference(sides: Sides, paper: &Running, tested: &Running, trace: &[u8], calls: u64) -> Option<String> {
+pub fn replay_difference(sides: Sides, paper: &Running, tested: &Running, trace: &[u8], calls: u64) -> Option<String> {
     let (told, other) = (paper.end(), tested.end());
     if told != other {
         let (paper_name, tested_name) = (sides.paper.name(), sides.tested.name());

@@ -37,7 +37,7 @@ fn end_difference(sides: Sides, paper: &Running, tested: &Running) -> Option<Str
 }
 
 /// The trace from the 32 on that waits.
-fn not_done(case: &StateCase) -> Vec<u8> {
+pub fn not_done(case: &StateCase) -> Vec<u8> {
     let held = &case.given.held[..case.replay.held as usize];
     match case.replay.waiting as usize {
         0 => [held, &case.burst].concat(),

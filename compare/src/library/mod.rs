@@ -1,5 +1,9 @@
-//! The C interface of the library under test. All that the comparison knows of the interface stands in this file.
+//! The C interface of the library under test. All that the comparison knows of the interface stands in this folder.
 
+pub mod month;
+
+#[cfg(not(feature = "without-library"))]
+use crate::month::subject::Month;
 #[cfg(not(feature = "without-library"))]
 use crate::subject::{Answered, Ended, Fed, Feeding, Platform, Subject};
 
@@ -373,6 +377,10 @@ impl Subject for Library {
         // SAFETY: the function takes a replay alone.
         let ended = unsafe { c::draugsten_replay_end((*replay).into()) };
         Ended { number: ended.number, report: ended.report.into() }
+    }
+
+    fn month(&self) -> &dyn Month {
+        self
     }
 
     fn read_nodes(&self, area: &[u8], scope: u32, out: &mut [u32]) -> Reading {

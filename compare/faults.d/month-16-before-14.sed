@@ -1,0 +1,1 @@
+s/^    let ended = replay_states::end(&counting.state).and_then(|report| judge_counts(counting).map(|()| report));/    let ended = replay_states::end(\&counting.state).and_then(|report| if report.0 == 0 { judge_counts(counting).map(|()| report) } else { Ok(report) });/

@@ -1,0 +1,1 @@
+s/^        if \*sum > LARGEST {$/        if *sum >= LARGEST {/

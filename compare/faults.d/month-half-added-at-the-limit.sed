@@ -1,0 +1,1 @@
+s/^            \*totals = before;$/            *sum -= more;/

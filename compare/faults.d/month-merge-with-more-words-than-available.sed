@@ -1,0 +1,1 @@
+s/^        (used > available, /        (used > available + 1, /

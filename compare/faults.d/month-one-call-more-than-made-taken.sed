@@ -1,0 +1,1 @@
+s/^        (counted > most_calls(&counting.state), /        (counted > most_calls(\&counting.state) + 1, /

@@ -1,0 +1,1 @@
+s/^        used += 1 + operands;/        used += operands;/

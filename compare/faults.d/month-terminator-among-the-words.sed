@@ -1,0 +1,1 @@
+s/^    (operations, used)$/    (operations, used + 1)/

@@ -1,0 +1,1 @@
+s/^    let place = match token {$/    let place = match token.min(4) {/

@@ -1,0 +1,1 @@
+s/    status == 0 || status == 1$/    status == 0/
