@@ -2,7 +2,8 @@
 
 use crate::independent;
 use crate::interface::{
-    Asked, Judged, ReadingRecord, Replay, ReplayBuffers, Replayed, Report, Side, Wanted, MALFORMED, SIDES,
+    Added, Asked, Count, Judged, ReadingRecord, Replay, ReplayBuffers, Replayed, Report, Side, Totals, Wanted,
+    MALFORMED, SIDES,
 };
 use crate::journal::UNITS;
 use crate::library;
@@ -273,6 +274,28 @@ pub fn replay(recorded: &Recorded) {
     assert_eq!(report, Report { verdict: 1, offset, number: recorded.calls });
 }
 
+/// The same replays, counted: the report is that of the replay alone, the figures are the independent program's, and a trace
+/// whose last byte is another adds nothing.
+pub fn count(recorded: &Recorded) {
+    let counted = |count: Count, burst: usize| {
+        let mut buffers = ReplayBuffers::new(&recorded.partition.memory);
+        (count(&mut buffers, recorded.replayed(burst)), buffers.memory)
+    };
+    let told = counted(independent::count, usize::MAX);
+    assert_eq!((told.0.number, told.0.report), (0, Report { verdict: 0, offset: 0, number: recorded.calls }));
+    assert_eq!(told.0.totals.token_calls.iter().sum::<u64>(), recorded.calls);
+    for burst in [usize::MAX, BURST, 1_000] {
+        let counted = counted(library::count, burst);
+        assert_eq!(counted.0, told.0);
+        assert!(counted.1 == told.1, "a replay that counts leaves other bytes");
+    }
+    let mut changed = recorded.trace.clone();
+    *changed.last_mut().unwrap() ^= 1;
+    let replayed = Replayed { trace: &changed, ..recorded.replayed(BURST) };
+    let added = library::count(&mut ReplayBuffers::new(&recorded.partition.memory), replayed);
+    assert_eq!((added.number, added.report.verdict, added.totals), (16, 1, Totals::NONE));
+}
+
 /// Records that set memory: each byte is set, and where memory is too short by one, the last record is malformed.
 pub fn settings() {
     let trace = trace::pages(40);
@@ -281,6 +304,10 @@ pub fn settings() {
         let report = library::replay(&mut buffers, replayed_pages(&trace, burst));
         assert_eq!(report, Report { verdict: 0, offset: 0, number: 0 });
         assert!(trace::set_bytes(&trace).eq(buffers.memory.chunks(PAGE)), "a replay sets other bytes");
+        let mut counted = ReplayBuffers::new(&[0; 40 * PAGE]);
+        let added = library::count(&mut counted, replayed_pages(&trace, burst));
+        assert_eq!(added, Added { number: 0, report, totals: Totals::NONE });
+        assert!(counted.memory == buffers.memory, "a replay that counts sets other bytes");
         let mut short = ReplayBuffers::new(&[0; 40 * PAGE - 1]);
         let report = library::replay(&mut short, replayed_pages(&trace, burst));
         assert_eq!(report, Report { verdict: 2, offset: 0, number: 40 });

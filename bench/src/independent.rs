@@ -1,8 +1,8 @@
 //! The independent side: document 01 written out plainly (compare/src/paper), which is not meant to be fast.
 
 use crate::interface::{
-    Answer, Asked, Edit, IndexReading, Judged, NodeReading, PropertyReading, ReadingRecord, Registration,
-    ReplayBuffers, Replayed, Report, Side, Wanted, MALFORMED,
+    Added, Answer, Asked, Edit, IndexReading, Judged, NodeReading, PropertyReading, ReadingRecord, Registration,
+    ReplayBuffers, Replayed, Report, Side, Totals, Wanted, MALFORMED,
 };
 use draugsten_compare::paper::{self, readers, records, scope, Phase};
 
@@ -97,6 +97,27 @@ pub fn replay(buffers: &mut ReplayBuffers, replayed: Replayed) -> Report {
         paper::replay::Report::Differs { call, offset } => Report { verdict: 1, offset: offset as u32, number: call },
         paper::replay::Report::Malformed { record, .. } => Report { verdict: 2, offset: 0, number: record },
     }
+}
+
+/// A whole replay that counts, added to no other. It has no bursts either.
+pub fn count(buffers: &mut ReplayBuffers, replayed: Replayed) -> Added {
+    let Replayed { journal, inventory, edition, trace, .. } = replayed;
+    let over = paper::replay::Over { journal, inventory, edition: u64::from(edition) };
+    let ReplayBuffers { held, args, memory } = buffers;
+    let mut lent = paper::replay_states::Lent { held, args, memory };
+    let start = paper::month::start(u64::from(edition));
+    let counting = paper::month::feed(&mut lent, &over, &start, trace).ok().expect("a replay that begins is taken");
+    let mut figures = [0; 35];
+    let added = paper::month::add(&mut figures, &counting);
+    let (verdict, offset, number) = added.report;
+    let report = Report { verdict: verdict as u32, offset: offset as u32, number };
+    Added { number: added.number, report, totals: totals(&figures.map(|figure| figure as u64)) }
+}
+
+fn totals(figures: &[u64; 35]) -> Totals {
+    let calls = std::array::from_fn(|token| std::array::from_fn(|row| figures[7 * token + row]));
+    let token_calls = std::array::from_fn(|token| figures[28 + token]);
+    Totals { calls, token_calls, operations: figures[32], used: figures[33], available: figures[34] }
 }
 
 fn record_for_paper(flat: &ReadingRecord) -> paper::ReadingRecord {

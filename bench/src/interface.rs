@@ -55,6 +55,32 @@ pub struct Report {
     pub number: u64,
 }
 
+/// Totals over traces: the calls of the tokens 1 to 4 by status, and whatever their status; of update-nodes the operations
+/// that were handed out, the words that they took, and the words available.
+#[repr(C)]
+#[derive(Clone, Copy, PartialEq, Eq, Debug)]
+pub struct Totals {
+    pub calls: [[u64; 7]; 4],
+    pub token_calls: [u64; 4],
+    pub operations: u64,
+    pub used: u64,
+    pub available: u64,
+}
+
+impl Totals {
+    /// Of no trace.
+    pub const NONE: Totals = Totals { calls: [[0; 7]; 4], token_calls: [0; 4], operations: 0, used: 0, available: 0 };
+}
+
+/// What comes of adding a counted trace to no other: the number, its report, and the totals.
+#[repr(C)]
+#[derive(Clone, Copy, PartialEq, Eq, Debug)]
+pub struct Added {
+    pub number: u32,
+    pub report: Report,
+    pub totals: Totals,
+}
+
 /// What is replayed over a journal and an inventory with its edition, in bursts of so many bytes.
 #[derive(Clone, Copy)]
 #[cfg_attr(feature = "stand-in", allow(dead_code))]
@@ -83,6 +109,9 @@ impl ReplayBuffers {
 
 /// A whole replay.
 pub type Replay = fn(&mut ReplayBuffers, Replayed) -> Report;
+
+/// A whole replay that counts.
+pub type Count = fn(&mut ReplayBuffers, Replayed) -> Added;
 
 /// What a node area tells: a refusal with its offset, or the state and the number of operations.
 #[repr(C)]

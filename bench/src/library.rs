@@ -4,13 +4,13 @@
 use crate::interface::{Asked, Judged, Side, Wanted};
 
 #[cfg(feature = "stand-in")]
-pub use crate::independent::replay;
-#[cfg(feature = "stand-in")]
 use crate::independent::{call, edit, no_reading, no_registration, read_indices, read_nodes, read_properties};
-#[cfg(not(feature = "stand-in"))]
-pub use archive::replay;
+#[cfg(feature = "stand-in")]
+pub use crate::independent::{count, replay};
 #[cfg(not(feature = "stand-in"))]
 use archive::{call, edit, no_reading, no_registration, read_indices, read_nodes, read_properties};
+#[cfg(not(feature = "stand-in"))]
+pub use archive::{count, replay};
 
 /// Whether the library itself is measured.
 pub const REAL: bool = cfg!(not(feature = "stand-in"));
@@ -55,8 +55,8 @@ fn search(judged: Judged) -> u32 {
 #[cfg(not(feature = "stand-in"))]
 mod archive {
     use crate::interface::{
-        Answer, Edit, IndexReading, NodeReading, PropertyReading, ReadingRecord, Registration, ReplayBuffers, Replayed,
-        Report,
+        Added, Answer, Edit, IndexReading, NodeReading, PropertyReading, ReadingRecord, Registration, ReplayBuffers,
+        Replayed, Report, Totals,
     };
 
     /// Where a replay stands.
@@ -82,6 +82,28 @@ mod archive {
     struct Ended {
         number: u32,
         report: Report,
+    }
+
+    /// Where a replay stands that counts.
+    #[repr(C)]
+    #[derive(Clone, Copy)]
+    struct Counting {
+        replay: Replay,
+        counts: Counts,
+    }
+
+    #[repr(C)]
+    #[derive(Clone, Copy)]
+    struct Counts {
+        calls: [[u64; 7]; 4],
+        operations: u64,
+        used: u64,
+    }
+
+    #[repr(C)]
+    struct Counted {
+        number: u32,
+        counting: Counting,
     }
 
     extern "C" {
@@ -124,6 +146,26 @@ mod archive {
         ) -> Fed;
 
         fn draugsten_replay_end(replay: Replay) -> Ended;
+
+        fn draugsten_month_start(edition: u32) -> Counting;
+
+        fn draugsten_month_feed(
+            held: *mut u8,
+            held_len: usize,
+            args: *mut u8,
+            args_len: usize,
+            memory: *mut u8,
+            memory_len: usize,
+            journal: *const u8,
+            journal_len: usize,
+            inventory: *const u8,
+            inventory_len: usize,
+            counting: Counting,
+            bytes: *const u8,
+            len: usize,
+        ) -> Counted;
+
+        fn draugsten_month_add(totals: Totals, counting: Counting) -> Added;
 
         fn draugsten_read_nodes(
             area: *const u8,
@@ -217,6 +259,42 @@ mod archive {
                 inventory.as_ptr(),
                 inventory.len(),
                 replay,
+                bytes.as_ptr(),
+                bytes.len(),
+            )
+        }
+    }
+
+    /// A whole replay that counts, added to no other.
+    pub fn count(buffers: &mut ReplayBuffers, replayed: Replayed) -> Added {
+        // SAFETY: the function takes a number alone.
+        let mut counting = unsafe { draugsten_month_start(replayed.edition) };
+        for bytes in replayed.trace.chunks(replayed.burst) {
+            let counted = feed_counting(buffers, &replayed, counting, bytes);
+            assert_eq!(counted.number, 0);
+            counting = counted.counting;
+        }
+        // SAFETY: the function takes figures alone.
+        unsafe { draugsten_month_add(Totals::NONE, counting) }
+    }
+
+    fn feed_counting(buffers: &mut ReplayBuffers, replayed: &Replayed, counting: Counting, bytes: &[u8]) -> Counted {
+        let ReplayBuffers { held, args, memory } = buffers;
+        let Replayed { journal, inventory, .. } = replayed;
+        // SAFETY: each pointer comes with the length of the buffer that it was taken from, and none is kept.
+        unsafe {
+            draugsten_month_feed(
+                held.as_mut_ptr(),
+                held.len(),
+                args.as_mut_ptr(),
+                args.len(),
+                memory.as_mut_ptr(),
+                memory.len(),
+                journal.as_ptr(),
+                journal.len(),
+                inventory.as_ptr(),
+                inventory.len(),
+                counting,
                 bytes.as_ptr(),
                 bytes.len(),
             )

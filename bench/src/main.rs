@@ -122,6 +122,7 @@ fn check_sides(inputs: &Inputs) {
     }
     for (_, _, recorded) in replays::sessions(inputs) {
         check::replay(&recorded);
+        check::count(&recorded);
     }
     check::settings();
     for size in growth::SIZES {
@@ -152,6 +153,7 @@ fn measure(inputs: &Inputs, effort: Effort) -> Measured {
     report::print_replays(&replays);
     let settings = replays::settings(effort);
     report::print_settings(&settings);
+    report::print_counted(&replays, &settings);
     Measured { machine: report::machine(), effort, runs: 1, rows: told, growth, copying, slowest, replays, settings }
 }
 

@@ -1,6 +1,6 @@
 //! The page docs/BENCH.md.
 
-use super::{grouped, micros, range, ratio, ratio_text, warning, Measured};
+use super::{counted, grouped, micros, range, ratio, ratio_text, warning, Measured};
 use crate::library;
 use crate::rows::copying::Copying;
 use crate::rows::growth::{each, Growth};
@@ -55,6 +55,12 @@ fn replay_section(measured: &Measured) -> Vec<String> {
         to the same places, a page at a time.\n",
     ));
     lines.extend(settings(&measured.settings));
+    lines.push(String::from(
+        "\nThe replay that counts, and adds its counts to totals at the end (`draugsten_month_feed` and \
+        `draugsten_month_add`), beside the replay alone (`draugsten_replay_feed` and `draugsten_replay_end`), over the same \
+        traces. The two take turns with the works of the tables above, in the same run.\n",
+    ));
+    lines.extend(counting(measured));
     lines
 }
 
@@ -173,6 +179,19 @@ fn settings(settings: &[Setting]) -> Vec<String> {
         line(&[&cells[..], &fed_cells(&setting.fed)].concat())
     });
     heading(&names, 0).into_iter().chain(lines).collect()
+}
+
+fn counting(measured: &Measured) -> Vec<String> {
+    let one = ["alone, one burst", "counting", "/ alone"];
+    let some = ["alone, bursts of 65,536", "counting", "/ alone", "over the runs"];
+    let names = [&["", "over"][..], &one, &some].concat();
+    let lines = counted(&measured.replays, &measured.settings).map(|each| {
+        let [one, one_counted, some, some_counted, over_the_runs] = fed_cells(each.counted);
+        let [alone_one, alone_some] = [each.alone.one_burst, each.alone.bursts].map(micros);
+        let cells = [each.what.to_string(), each.over, alone_one, one, one_counted];
+        line(&[&cells[..], &[alone_some, some, some_counted, over_the_runs]].concat())
+    });
+    heading(&names, 2).into_iter().chain(lines).collect()
 }
 
 /// Of a replay in one burst and in several: the times, their ratios, and the range of these.

@@ -5,13 +5,14 @@ mod plot;
 mod table;
 
 pub use table::{
-    print_copying, print_growth, print_heading, print_ranges, print_replays, print_row, print_settings, print_slowest,
+    print_copying, print_counted, print_growth, print_heading, print_ranges, print_replays, print_row, print_settings,
+    print_slowest,
 };
 
 use crate::library;
 use crate::rows::copying::Copying;
 use crate::rows::growth::Growth;
-use crate::rows::replays::{Replay, Setting};
+use crate::rows::replays::{Fed, Replay, Setting};
 use crate::rows::slowest::Slowest;
 use crate::rows::{joined, Range, Row};
 use crate::timing::Effort;
@@ -44,9 +45,11 @@ impl Measured {
         }
         for (replay, before) in self.replays.iter_mut().zip(&before.replays) {
             replay.fed.widen(&before.fed);
+            replay.counted.widen(&before.counted);
         }
         for (setting, before) in self.settings.iter_mut().zip(&before.settings) {
             setting.fed.widen(&before.fed);
+            setting.counted.widen(&before.counted);
         }
     }
 
@@ -62,6 +65,27 @@ impl Measured {
         let runs = if self.runs == 1 { String::from("In one run") } else { format!("Over {} runs", self.runs) };
         format!("{runs} the ratios to Rust are {others} for scans, searches, calls and sessions, and {readings} for readings.")
     }
+}
+
+/// A replay alone, and the same that counts: what it is of, its name, and the times of both.
+pub struct Counted<'a> {
+    what: &'static str,
+    over: String,
+    alone: &'a Fed,
+    counted: &'a Fed,
+}
+
+/// All replays that were measured with their counts, those of sessions first.
+fn counted<'a>(replays: &'a [Replay], settings: &'a [Setting]) -> impl Iterator<Item = Counted<'a>> {
+    let of_sessions = replays.iter().map(|replay| {
+        let Replay { what, over, fed, counted, .. } = replay;
+        Counted { what, over: over.clone(), alone: fed, counted }
+    });
+    let of_settings = settings.iter().map(|setting| {
+        let over = format!("{} records", grouped(setting.records as u64));
+        Counted { what: "4,096 bytes set", over, alone: &setting.fed, counted: &setting.counted }
+    });
+    of_sessions.chain(of_settings)
 }
 
 /// The processor's name, as the machine tells it.

@@ -1,6 +1,6 @@
 //! The table as text.
 
-use super::{grouped, micros, range, ratio, ratio_text, warning, Measured};
+use super::{counted, grouped, micros, range, ratio, ratio_text, warning, Measured};
 use crate::library;
 use crate::rows::copying::Copying;
 use crate::rows::growth::{each, Growth};
@@ -81,6 +81,22 @@ pub fn print_settings(settings: &[Setting]) {
     }
 }
 
+/// The replays that count, beside the replays alone.
+pub fn print_counted(replays: &[Replay], settings: &[Setting]) {
+    println!(
+        "\nreplay that counts, beside the replay alone: microseconds, in one burst and in bursts of {}",
+        grouped(BURST as u64)
+    );
+    let columns = format!(" {:>10} {:>10} {:>7}", "alone", "counting", "/alone");
+    println!("{:<18} {:<26}{columns}{columns}", "", "over");
+    for each in counted(replays, settings) {
+        let [one_burst, bursts] = each.counted.medians().map(ratio_text);
+        print!("{:<18} {:<26}", each.what, each.over);
+        print!(" {:>10} {:>10} {one_burst:>7}", micros(each.alone.one_burst), micros(each.counted.one_burst));
+        println!(" {:>10} {:>10} {bursts:>7}", micros(each.alone.bursts), micros(each.counted.bursts));
+    }
+}
+
 /// The columns of a replay in one burst and in several.
 fn fed_heading(ratio: &str) -> String {
     format!(" {:>10} {ratio:>8} {:>10} {ratio:>8}", "one burst", format!("of {}", grouped(BURST as u64)))
@@ -118,5 +134,19 @@ fn print_replay_ranges(measured: &Measured) {
     for (what, over, fed) in replays.chain(settings) {
         let [one_burst, bursts] = fed.medians().map(ratio_text);
         println!("{what:<24} {over:<26} {one_burst:>6} {bursts:>6} {:>16}", range(fed.range(), ratio_text));
+    }
+    print_counted_ranges(measured);
+}
+
+/// The ratios of the replays that count over several runs.
+fn print_counted_ranges(measured: &Measured) {
+    println!(
+        "\nover {} runs: counting to the replay alone, medians in one burst and in several, and range",
+        measured.runs
+    );
+    for each in counted(&measured.replays, &measured.settings) {
+        let [one_burst, bursts] = each.counted.medians().map(ratio_text);
+        let (what, over, range) = (each.what, each.over, range(each.counted.range(), ratio_text));
+        println!("{what:<24} {over:<26} {one_burst:>6} {bursts:>6} {range:>16}");
     }
 }

@@ -1,4 +1,5 @@
-//! Replays: of recorded sessions beside the same calls made directly, and of records that set memory beside memcpy.
+//! Replays: of recorded sessions beside the same calls made directly, and of records that set memory beside memcpy. Of both
+//! also the replay that counts, beside the replay alone.
 
 use super::{joined, Range};
 use crate::bare;
@@ -30,6 +31,7 @@ pub struct Replay {
     pub calling: f64,
     pub reading: f64,
     pub fed: Fed,
+    pub counted: Fed,
 }
 
 /// Records that set so many bytes of memory, with the median times in microseconds.
@@ -38,6 +40,7 @@ pub struct Setting {
     pub bytes: usize,
     pub memcpy: f64,
     pub fed: Fed,
+    pub counted: Fed,
 }
 
 /// The times of a replay in one burst and in several, and their ratios to what it is measured by, of each run.
@@ -48,8 +51,9 @@ pub struct Fed {
 }
 
 impl Fed {
-    fn new(one_burst: f64, bursts: f64, yardstick: f64) -> Fed {
-        let ratios = [one_burst, bursts].map(|time| vec![time / yardstick]);
+    /// Measured by these, in one burst and in several.
+    fn new([one_burst, bursts]: [f64; 2], yardsticks: [f64; 2]) -> Fed {
+        let ratios = [vec![one_burst / yardsticks[0]], vec![bursts / yardsticks[1]]];
         Fed { one_burst, bursts, ratios }
     }
 
@@ -105,14 +109,30 @@ fn replay(what: &'static str, over: String, recorded: &Recorded, effort: Effort)
     let mut partition = recorded.partition.clone();
     let calling: Work = Box::new(move || (0..recorded.sessions).map(|_| partition.session(library)).sum());
     let reading: Work = Box::new(|| bare::streaming(black_box(&recorded.trace)));
-    let [one_burst, bursts] = [usize::MAX, BURST].map(|burst| {
-        let buffers = ReplayBuffers::new(&recorded.partition.memory);
-        replaying(buffers, recorded.replayed(burst))
-    });
-    let [calling, reading, one_burst, bursts] = medians([calling, reading, one_burst, bursts], effort);
+    let memory = &recorded.partition.memory;
+    let [one, one_counted, some, some_counted] = alone_and_counted(memory, |burst| recorded.replayed(burst));
+    let works = [calling, reading, one, one_counted, some, some_counted];
+    let [calling, reading, one, one_counted, some, some_counted] = medians(works, effort);
     let Partition { journal, inventory, .. } = recorded.partition;
     let (bytes, calls, trace) = (journal.len() + inventory.len(), recorded.calls, recorded.trace.len());
-    Replay { what, over, bytes, calls, trace, calling, reading, fed: Fed::new(one_burst, bursts, calling + reading) }
+    let fed = Fed::new([one, some], [calling + reading; 2]);
+    let counted = Fed::new([one_counted, some_counted], [one, some]);
+    Replay { what, over, bytes, calls, trace, calling, reading, fed, counted }
+}
+
+/// The replay alone and the one that counts, in one burst, then both in several.
+fn alone_and_counted<'a>(memory: &[u8], replayed: impl Fn(usize) -> Replayed<'a>) -> [Work<'a>; 4] {
+    let buffers = || ReplayBuffers::new(memory);
+    let [one, some] = [usize::MAX, BURST].map(replayed);
+    [replaying(buffers(), one), counting(buffers(), one), replaying(buffers(), some), counting(buffers(), some)]
+}
+
+fn counting<'a>(mut buffers: ReplayBuffers, replayed: Replayed<'a>) -> Work<'a> {
+    Box::new(move || {
+        let added = library::count(&mut buffers, black_box(replayed));
+        assert_eq!(added.number, 0);
+        added.report.number + added.totals.used
+    })
 }
 
 fn replaying<'a>(mut buffers: ReplayBuffers, replayed: Replayed<'a>) -> Work<'a> {
@@ -130,10 +150,13 @@ pub fn settings(effort: Effort) -> Vec<Setting> {
 
 fn setting(records: usize, effort: Effort) -> Setting {
     let trace = trace::pages(records);
-    let [one_burst, bursts] = [usize::MAX, BURST]
-        .map(|burst| replaying(ReplayBuffers::new(&vec![0; PAGE * records]), replayed_pages(&trace, burst)));
-    let [memcpy, one_burst, bursts] = medians([copying(&trace, records), one_burst, bursts], effort);
-    Setting { records, bytes: PAGE * records, memcpy, fed: Fed::new(one_burst, bursts, memcpy) }
+    let memory = vec![0; PAGE * records];
+    let [one, one_counted, some, some_counted] = alone_and_counted(&memory, |burst| replayed_pages(&trace, burst));
+    let works = [copying(&trace, records), one, one_counted, some, some_counted];
+    let [memcpy, one, one_counted, some, some_counted] = medians(works, effort);
+    let fed = Fed::new([one, some], [memcpy; 2]);
+    let counted = Fed::new([one_counted, some_counted], [one, some]);
+    Setting { records, bytes: PAGE * records, memcpy, fed, counted }
 }
 
 /// Copies the bytes that the records set, a page at a time.
