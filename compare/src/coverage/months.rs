@@ -58,14 +58,11 @@ impl Facts {
         self.number == 0 && self.calls.iter().any(|args| has_number_0(args).is_some_and(|told| holds(told.0, told.1)))
     }
 
-    /// Refused for this figure alone: all before it have room.
+    /// Refused, and the first figure without room is one of these.
     fn first_past(&self, place: std::ops::Range<usize>) -> bool {
-        let figures = self.before.figures().into_iter().zip(of_counts(&self.counts));
-        self.number == 17
-            && figures
-                .enumerate()
-                .find(|(_, (one, more))| u128::from(*one) + more > LARGEST)
-                .is_some_and(|(first, _)| place.contains(&first))
+        let mut figures = self.before.figures().into_iter().zip(of_counts(&self.counts));
+        let first = figures.position(|(one, more)| u128::from(one) + more > LARGEST);
+        self.number == 17 && first.is_some_and(|first| place.contains(&first))
     }
 }
 
@@ -116,7 +113,7 @@ pub const LINES: &[Line<Facts>] = &[
     ("counts unlike the call's own", |f| f.called(|t, counts| (1..=4).contains(&t) && OWN[t as usize - 1] != counts)),
     ("a call of token 0", |f| f.called(|token, _| token == 0)),
     ("a call of token 5", |f| f.called(|token, _| token == 5)),
-    ("to 2^64 - 1 exactly", |f| f.number == 0 && f.totals.figures().contains(&u64::MAX) && f.totals != f.before),
+    ("to 2^64 - 1 exactly", |f| f.number == 0 && f.comes_to_the_limit()),
     ("past it, a status of a token", |f| f.first_past(0..28)),
     ("past it, the calls of a token", |f| f.first_past(28..32)),
     ("past it, the operations", |f| f.first_past(32..33)),
@@ -128,6 +125,12 @@ pub const LINES: &[Line<Facts>] = &[
 impl Facts {
     fn any_past(&self) -> bool {
         past(&self.before.figures(), &of_counts(&self.counts))
+    }
+
+    /// A figure is 2^64 - 1 that was less before.
+    fn comes_to_the_limit(&self) -> bool {
+        let mut figures = self.before.figures().into_iter().zip(self.totals.figures());
+        figures.any(|(before, now)| before < now && now == u64::MAX)
     }
 }
 

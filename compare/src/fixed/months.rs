@@ -1,6 +1,6 @@
 //! The readings of M-111: traces, what they add to totals, and the counts that a replay can have.
 
-use super::replays::{after, agreed, answered, before, called, differs, given, malformed, nodes, set};
+use super::replays::{after, agreed, answered, before, called, differs, given, malformed, nodes, set, structure};
 use super::NONE;
 use crate::buffers::{arguments, journal_record, property_record, words};
 use crate::case::Given;
@@ -127,12 +127,8 @@ fn of_nodes() -> Vec<MonthReading> {
 fn of_others() -> Vec<MonthReading> {
     let asks = |start, outputs| made(2, &[1, 9, 0, 16, start], outputs);
     let sensors = [asks(1, &[1, 2]), asks(2, &[0, 1]), asks(7, &[PARAMETER, 5])];
-    let mut structure = vec![0; 80];
-    for (at, byte) in [(3, 1), (5, 1), (11, 40), (43, 1), (45, 1)] {
-        structure[at] = byte;
-    }
     let command = |status: u32| made(3, &[1, 0, 80], &[status]);
-    let dumps = [set(0, &structure), command(0), command(0xffff_fff7)];
+    let dumps = [set(0, &structure()), command(0), command(0xffff_fff7)];
     let property = property_record(0x2a, b"a", Some(b"b"));
     let asked = [set(0, &words(&[0x2a, 0, 0, 0])), made(4, &[0, 1], &[0]), made(4, &[0, 1, 0], &[PARAMETER])];
     let (read, given) = (totals(&[(2, 1, 1), (2, 0, 1), (2, 3, 1)], [0; 3]), totals(&[(4, 0, 1), (4, 3, 1)], [0; 3]));

@@ -205,12 +205,18 @@ fn settings() -> Vec<TraceReading> {
     ]
 }
 
-/// "starting with no registration and no reading in progress"; each call finds what the one before it left.
-fn handed_on() -> Vec<TraceReading> {
+/// A structure of a kernel dump that can be registered.
+pub fn structure() -> Vec<u8> {
     let mut structure = vec![0; 80];
     for (at, byte) in [(3, 1), (5, 1), (11, 40), (43, 1), (45, 1)] {
         structure[at] = byte;
     }
+    structure
+}
+
+/// "starting with no registration and no reading in progress"; each call finds what the one before it left.
+fn handed_on() -> Vec<TraceReading> {
+    let structure = structure();
     let command = |status: u32| arguments(3, &[1, 0, 80], &[status]);
     let registered = [set(0, &structure), before(&command(5)), after(&command(0))].concat();
     let again = [before(&command(5)), after(&command(0xffff_fff7))].concat();

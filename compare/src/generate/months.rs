@@ -1,7 +1,8 @@
 //! Cases of the month (M-111): traces and totals that they are added to, replays with counts that stand anywhere, totals
 //! that are merged, and shares. Much of it lies about a line.
 
-use super::{replay_states, traces};
+use super::journals::Size;
+use super::{recordings, replay_states, traces};
 use crate::case::{StateCase, TraceCase};
 use crate::library::month::{Counting, Counts, Totals};
 use crate::library::{Replay, Report};
@@ -30,8 +31,15 @@ pub fn case(random: &mut Random) -> MonthCase {
     }
 }
 
+/// Some go over journals that fill an area, so that a call has more to hand out than it can.
 fn trace(random: &mut Random) -> MonthCase {
-    let case = traces::case(random);
+    let case = if random.one_in(20) {
+        let size = random.pick(&[Size::Area, Size::Areas]);
+        let recording = recordings::session_of(random, size, 12);
+        traces::case_of(random, recording)
+    } else {
+        traces::case(random)
+    };
     let Counting { counts, .. } = whole(&case);
     let totals = totals_beside(random, &counts);
     MonthCase::Trace { case, totals }

@@ -39,7 +39,13 @@ struct Asked {
 
 /// A session of up to so many steps: a call, with the bytes that it needs, or bytes that are set alone.
 pub fn session(random: &mut Random, most: usize) -> Recording {
-    let mut recording = begin(random);
+    let size = size(random);
+    session_of(random, size, most)
+}
+
+/// Such a session over a journal of this size.
+pub fn session_of(random: &mut Random, size: Size, most: usize) -> Recording {
+    let mut recording = begin(random, size);
     for _ in 0..random.between(0, most) {
         step(random, &mut recording);
     }
@@ -54,8 +60,8 @@ fn size(random: &mut Random) -> Size {
     }
 }
 
-fn begin(random: &mut Random) -> Recording {
-    let (size, wanted, flag) = (size(random), journals::wanted(random), random.below(2) as u32);
+fn begin(random: &mut Random, size: Size) -> Recording {
+    let (wanted, flag) = (journals::wanted(random), random.below(2) as u32);
     let (kind, entries) = (inventories::good_kind(random, flag), random.below(9));
     let properties = properties::stock(random, size);
     let nodes = journals::journal(random, wanted, size);

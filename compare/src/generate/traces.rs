@@ -14,7 +14,12 @@ const MOST_ENDS: usize = 3;
 
 pub fn case(random: &mut Random) -> TraceCase {
     let steps = if random.one_in(8) { 30 } else { 8 };
-    let mut recording = recordings::session(random, steps);
+    let recording = recordings::session(random, steps);
+    case_of(random, recording)
+}
+
+/// The recording as it is, or damaged.
+pub fn case_of(random: &mut Random, mut recording: Recording) -> TraceCase {
     for _ in 0..random.pick(&[0, 0, 0, 1, 1, 1, 1, 2]) {
         damage(random, &mut recording);
     }
