@@ -6,7 +6,7 @@ use Rattle.totals.proofs.Agreeing.{consistent-claims}
 use Rattle.shares.proofs.Euclid.{share-claims}
 use Rattle.draugsten_replay.specs.MonthClaims.{MonthClaims}
 use Rattle.draugsten_replay.proofs.MonthReadings.{month-readings}
-use Rattle.draugsten_replay.proofs.Refusals.{refusals-in-order, added-consistent, merge-keeps, merge-taken, share-from-sums}
+use Rattle.draugsten_replay.proofs.Refusals.{refusals-in-order, added-consistent, merge-keeps, merge-taken, merged-months, share-from-sums}
 use Rattle.draugsten_replay.proofs.SessionWitness.{whole-session-witness}
 use Rattle.draugsten_replay.proofs.Sessions.{counting-accepted, whole-session}
 use Rattle.draugsten_replay.proofs.Months.{month-sums, month-in-any-order, refused-keeps, month-consistent}
@@ -25,6 +25,7 @@ month-claims =
       added-consistent = added-consistent;
       merge-keeps = merge-keeps;
       merge-taken = merge-taken;
+      merged-months = merged-months;
       share-from-sums = share-from-sums;
       month-readings = month-readings;
       of-calls = count-claims;

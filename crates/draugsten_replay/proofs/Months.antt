@@ -101,21 +101,21 @@ session-rows s = all-within 0 noCounts (callsMade (platformOf s) (begin (s .memo
 pub session-figures : (s : Session) → length (figuresFor s .figures) ≡ 35
 session-figures s = length-figures (countsOf (platformOf s) (s .memory) (s .trace)) (session-rows s)
 
-figures : List Session → List Totals
+unfoldable pub figures : List Session → List Totals
 figures [] = []
 figures (s ∷ ss) = figuresFor s ∷ figures ss
 
-abbrev Going : List Session → Type 0
+abbrev pub Going : List Session → Type 0
 Going [] = Unit {0}
 Going (s ∷ ss) = (isOver (reportFor s) ≡ false) × Going ss
 
-sized : (ss : List Session) → AllSized (figures ss)
+pub sized : (ss : List Session) → AllSized (figures ss)
 unfolding figures
 sized [] = tt
 sized (s ∷ ss) = (session-figures s, sized ss)
 
 -- none is refused, so all go on and all figures are taken
-taken-all : (t : Totals) (ss : List Session) → NoneRefused t ss → (AllTaken t (figures ss) × Going ss) × (monthOf t ss ≡ addedAll t (figures ss))
+pub taken-all : (t : Totals) (ss : List Session) → NoneRefused t ss → (AllTaken t (figures ss) × Going ss) × (monthOf t ss ≡ addedAll t (figures ss))
 unfolding figures monthOf addedAll
 taken-all t [] n = ((tt, tt), refl)
 taken-all t (s ∷ ss) n =
@@ -123,7 +123,7 @@ taken-all t (s ∷ ss) n =
     let r = rw (a .1 .0) at (taken-all (sessionAdded t s .totals) ss (n .1)) in
     (((a .0, r .0 .0), (a .1 .1, r .0 .1)), rw (a .1 .0) (r .1))
 
-none-refused : (t : Totals) (ss : List Session) → AllTaken t (figures ss) → Going ss → NoneRefused t ss × (monthOf t ss ≡ addedAll t (figures ss))
+pub none-refused : (t : Totals) (ss : List Session) → AllTaken t (figures ss) → Going ss → NoneRefused t ss × (monthOf t ss ≡ addedAll t (figures ss))
 unfolding figures monthOf addedAll
 none-refused t [] a g = (tt, refl)
 none-refused t (s ∷ ss) a g =

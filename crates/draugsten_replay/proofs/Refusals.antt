@@ -2,7 +2,7 @@
 use Prim.Native.Nat.{ℕ, _<_, _*_}
 use mathlib.Core.Path.{_≡_, refl, sym, ap, _∙_}
 use mathlib.Core.Bool.{Bool, true, false, cond, true≢false, false≢true}
-use mathlib.Core.List.{List}
+use mathlib.Core.List.{List, [], _∷_, _++_}
 use lib.Dec.{leb}
 use lib.ListN.{length, getD}
 use borrow.Author.Tests.{leb-true}
@@ -27,9 +27,9 @@ use Rattle.replay.specs.Feeding.{endOf}
 use Rattle.replay_states.specs.States.{flatReportOf, reportOf, waits, areCounts}
 use Rattle.draugsten_replay.specs.declared.month.FlatCounting.{FlatCounting}
 use Rattle.draugsten_replay.specs.Month.{isCounting, countsAdded, addedBy, monthAdded, mergedTo, shareIn, Session, reportFor, figuresFor, sessionAdded, monthOf, NoneRefused}
-use Rattle.draugsten_replay.specs.MonthClaims.{figureSum, RefusalsInOrder, AddedConsistent, MergeKeeps, MergeTaken, ShareFromSums}
+use Rattle.draugsten_replay.specs.MonthClaims.{figureSum, RefusalsInOrder, AddedConsistent, MergeKeeps, MergeTaken, MergedMonths, ShareFromSums}
 use Rattle.draugsten_replay.proofs.Sessions.{counts-of}
-use Rattle.draugsten_replay.proofs.Months.{session-figures, month-sums}
+use Rattle.draugsten_replay.proofs.Months.{session-figures, figures, Going, sized, taken-all, none-refused, month-consistent, month-sums}
 
 not-taken : (t m : Totals) → length (t .figures) ≡ 35 → length (m .figures) ≡ 35 → (EachFits t m → ⊥) → addedTo t m .taken ≡ false
 not-taken t m h k n = decide (addedTo t m .taken) (λ e. absurd (n (totals-claims .taken-exactly t m h k .1 e))) (λ e. e)
@@ -109,6 +109,26 @@ merge-taken t more h k = (
     (λ e a. rw (e, totals-claims .taken-exactly t more h k .0 a) (refl, refl)),
   ),
 )
+
+figures-join : (ss rs : List Session) → figures (ss ++ rs) ≡ figures ss ++ figures rs
+unfolding figures
+figures-join [] rs = refl
+figures-join (s ∷ ss) rs = ap (λ (ms : List Totals). figuresFor s ∷ ms) (figures-join ss rs)
+
+going-parts : (ss rs : List Session) → Going (ss ++ rs) → Going ss × Going rs
+going-parts [] rs g = (tt, g)
+going-parts (s ∷ ss) rs g = let r = going-parts ss rs (g .1) in ((g .0, r .0), r .1)
+
+pub merged-months : MergedMonths
+unfolding mergedTo
+merged-months ss rs n =
+    let all = taken-all noTotals (ss ++ rs) n in
+    let e = figures-join ss rs in
+    let j = totals-claims .totals-join (figures ss) (figures rs) (sized ss) (sized rs) (rw e at (all .0 .0)) in
+    let g = going-parts ss rs (all .0 .1) in
+    let first = none-refused noTotals ss (j .0) (g .0) in
+    let second = none-refused noTotals rs (j .1 .0) (g .1) in
+    rw (month-consistent rs (second .0), first .1, second .1, j .1 .1, all .1, e)
 
 -- ---- the share
 

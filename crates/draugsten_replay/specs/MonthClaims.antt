@@ -146,6 +146,10 @@ MergeTaken =
     × ((consistent more ≡ true → (EachFits t more → ⊥) → mergedTo t more .number ≡ 17)
     × (consistent more ≡ true → EachFits t more → (mergedTo t more .number ≡ 0) × (mergedTo t more .totals ≡ addedTo t more .totals)))
 
+-- Two machines: where no session of either would be refused after the other's, the totals of one merged into those of the other are the totals of all.
+abbrev pub MergedMonths : Type 0
+MergedMonths = (ss rs : List Session) → NoneRefused noTotals (ss ++ rs) → mergedTo (monthOf noTotals ss) (monthOf noTotals rs) ≡ record { number = 0; totals = monthOf noTotals (ss ++ rs) }
+
 -- "the share comes from the sums"
 abbrev pub ShareFromSums : Type 0
 ShareFromSums =
@@ -165,6 +169,7 @@ pub record MonthClaims : Type 0 where
   pub added-consistent : AddedConsistent
   pub merge-keeps : MergeKeeps
   pub merge-taken : MergeTaken
+  pub merged-months : MergedMonths
   pub share-from-sums : ShareFromSums
   pub month-readings : MonthReadings
   pub of-calls : CountClaims

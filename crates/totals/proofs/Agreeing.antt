@@ -12,7 +12,7 @@ use Rattle.words.proofs.Choice.{decide, and-left, and-right}
 use Rattle.totals.specs.Adding.{totalsOf, sums}
 use Rattle.totals.specs.Consistent.{sumFrom, callsAgree, wordsAgree, consistent, ConsistentNone, ConsistentKept, ConsistentReadings, ConsistentClaims}
 use Rattle.totals.proofs.Sums.{getD-sums}
-use Rattle.totals.proofs.Claims.{taken}
+use Rattle.totals.proofs.Taken.{taken}
 
 -- two equalities, each from the other
 same-test : (a b c d : ℕ) → (a ≡ b → c ≡ d) → (c ≡ d → a ≡ b) → eqb a b ≡ eqb c d

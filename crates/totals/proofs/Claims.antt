@@ -10,14 +10,9 @@ use Rattle.words.proofs.Choice.{decide}
 use Rattle.totals.specs.declared.adding.Totals.{Totals}
 use Rattle.totals.specs.Adding.{totalsOf, noTotals, sums, allFit, addedTo}
 use Rattle.totals.specs.Claims.{addedAll, AllTaken, AllSized, figureOver, SumsOfAll, NoTrace, FromNothing, exchanged, reordered, Reverses, InAnyOrder, TakenExactly, RefusedWhole, TotalsReadings, TotalsClaims}
+use Rattle.totals.proofs.Taken.{taken}
+use Rattle.totals.proofs.Joining.{totals-join}
 use Rattle.totals.proofs.Sums.{length-sums, getD-sums, sums-swap, fit-before, fit-all, fit-each, both, added, not-added}
-
--- what was taken fits, and is the sums
-pub taken : (t m : Totals) → addedTo t m .taken ≡ true → (allFit (both t m) ≡ true) × (addedTo t m .totals ≡ totalsOf (both t m))
-taken t m e =
-    decide (allFit (both t m))
-    (λ f. (f, rw (added t m f)))
-    (λ f. absurd (false≢true (rw (not-added t m f) at e)))
 
 refused-whole : RefusedWhole
 refused-whole t m e =
@@ -102,6 +97,7 @@ totals-claims =
       from-nothing = from-nothing;
       reverses = reverses;
       in-any-order = in-any-order;
+      totals-join = totals-join;
       taken-exactly = taken-exactly;
       refused-whole = refused-whole;
       readings = readings;

@@ -2,7 +2,7 @@
 use Prim.Native.Nat.{ℕ, zero, suc, _+_, _≤_}
 use mathlib.Core.Path.{_≡_}
 use mathlib.Core.Bool.{Bool, true, false, _&&_}
-use mathlib.Core.List.{List, [], _∷_}
+use mathlib.Core.List.{List, [], _∷_, _++_}
 use lib.Dec.{T}
 use lib.ListN.{length, getD, set}
 use Rattle.words.specs.Cases.{yes, no, agree}
@@ -61,6 +61,12 @@ Reverses = (a b c : Totals) → reordered (0 ∷ 1 ∷ 0 ∷ []) (a ∷ b ∷ c 
 abbrev pub InAnyOrder : Type 0
 InAnyOrder = (t : Totals) (ms : List Totals) (ks : List ℕ) → length (t .figures) ≡ 35 → AllSized ms → AllTaken t ms → AllTaken t (reordered ks ms) × (addedAll t (reordered ks ms) ≡ addedAll t ms)
 
+-- Two lists of traces, each from nothing: where none is refused of both together, none is of either, and their totals added to each other are those of both.
+abbrev pub TotalsJoin : Type 0
+TotalsJoin =
+    (ms ns : List Totals) → AllSized ms → AllSized ns → AllTaken noTotals (ms ++ ns)
+    → AllTaken noTotals ms × (AllTaken noTotals ns × (addedTo (addedAll noTotals ms) (addedAll noTotals ns) ≡ record { taken = true; totals = addedAll noTotals (ms ++ ns) }))
+
 -- no sum passes 2^64 - 1
 abbrev pub EachFits : Totals → Totals → Type 0
 EachFits t m = (i : ℕ) → getD (t .figures) i 0 + getD (m .figures) i 0 ≤ 18446744073709551615
@@ -98,6 +104,7 @@ pub record TotalsClaims : Type 0 where
   pub from-nothing : FromNothing
   pub reverses : Reverses
   pub in-any-order : InAnyOrder
+  pub totals-join : TotalsJoin
   pub taken-exactly : TakenExactly
   pub refused-whole : RefusedWhole
   pub readings : TotalsReadings

@@ -52,17 +52,14 @@ figuresAt (f ∷ fs) = totalsOf (set (figuresAt fs .figures) (f .0) (f .1))
 abbrev pub callsCount : ℕ → ℕ → Bool
 callsCount row calls = agree (λ (n : ℕ). consistent (figuresAt ((row, 1) ∷ (calls, n) ∷ []))) (no 0 ∷ yes 1 ∷ no 2 ∷ [])
 
--- the first and the last such row of each token; the first token's first two have words
+-- so many rows one after the other
+abbrev pub rowsCount : ℕ → ℕ → ℕ → Bool
+rowsCount zero row calls = true
+rowsCount (suc n) row calls = callsCount row calls && rowsCount n (row + 1) calls
+
+-- every row of each token, but for the first token's first two, which have words
 abbrev pub callsCounted : Bool
-callsCounted =
-    callsCount 2 28
-    && (callsCount 6 28
-    && (callsCount 7 29
-    && (callsCount 13 29
-    && (callsCount 14 30
-    && (callsCount 20 30
-    && (callsCount 21 31
-    && callsCount 27 31))))))
+callsCounted = rowsCount 5 2 28 && (rowsCount 7 7 29 && (rowsCount 7 14 30 && rowsCount 7 21 31))
 
 -- one call of update-nodes, in a row: operations, words used and words available
 abbrev pub oneCall : ℕ → ℕ × ℕ × ℕ → Totals
