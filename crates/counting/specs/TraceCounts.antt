@@ -9,7 +9,7 @@ use Rattle.journal.specs.Claims.{short}
 use Rattle.calls.specs.Terms.{minus}
 use Rattle.calls.specs.Readings.{inventoryOf, same, all}
 use Rattle.trace.specs.TraceReadings.{before}
-use Rattle.trace.specs.SessionReadings.{made, updates, lists, places, registers, whole}
+use Rattle.trace.specs.SessionReadings.{made, updates, places, whole}
 use Rattle.counting.specs.declared.counts.Counts.{Counts}
 use Rattle.counting.specs.OfTrace.{countsOf}
 

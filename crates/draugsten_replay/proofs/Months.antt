@@ -35,8 +35,6 @@ use Rattle.totals.proofs.Claims.{totals-claims, sized as add-sized}
 use Rattle.totals.proofs.Agreeing.{consistent-claims}
 use Rattle.replay.specs.Feeding.{endOf}
 use Rattle.replay_states.specs.States.{flatReportOf, reportOf, waits}
-use Rattle.draugsten_replay.specs.declared.month.FlatCounting.{FlatCounting}
-use Rattle.draugsten_replay.specs.declared.month.FlatAdded.{FlatAdded}
 use Rattle.draugsten_replay.specs.Month.{isCounting, countsAdded, addedBy, monthAdded, Session, platformOf, reportFor, figuresFor, sessionAdded, monthOf, NoneRefused}
 use Rattle.draugsten_replay.specs.MonthClaims.{figureSum, MonthSums, MonthInAnyOrder, RefusedKeeps, MonthConsistent}
 

@@ -1,10 +1,10 @@
 -- What adding, merging and the share come to, case by case.
-use Prim.Native.Nat.{ℕ, _<_, _*_}
-use mathlib.Core.Path.{_≡_, refl, sym, ap, _∙_}
-use mathlib.Core.Bool.{Bool, true, false, cond, true≢false, false≢true}
+use Prim.Native.Nat.{_*_}
+use mathlib.Core.Path.{_≡_, refl, ap, _∙_}
+use mathlib.Core.Bool.{true, false, cond, true≢false, false≢true}
 use mathlib.Core.List.{List, [], _∷_, _++_}
 use lib.Dec.{leb}
-use lib.ListN.{length, getD}
+use lib.ListN.{length}
 use borrow.Author.Tests.{leb-true}
 use Rattle.words.proofs.Choice.{decide, and-left, and-right}
 use Rattle.trace.specs.declared.report.Report.{Report}
@@ -21,12 +21,11 @@ use Rattle.totals.specs.Claims.{EachFits}
 use Rattle.totals.specs.Consistent.{consistent}
 use Rattle.totals.proofs.Claims.{totals-claims}
 use Rattle.totals.proofs.Agreeing.{consistent-claims}
-use Rattle.shares.specs.Share.{Lowest, shareOf}
 use Rattle.shares.proofs.Euclid.{share-claims}
 use Rattle.replay.specs.Feeding.{endOf}
 use Rattle.replay_states.specs.States.{flatReportOf, reportOf, waits, areCounts}
 use Rattle.draugsten_replay.specs.declared.month.FlatCounting.{FlatCounting}
-use Rattle.draugsten_replay.specs.Month.{isCounting, countsAdded, addedBy, monthAdded, mergedTo, shareIn, Session, reportFor, figuresFor, sessionAdded, monthOf, NoneRefused}
+use Rattle.draugsten_replay.specs.Month.{isCounting, countsAdded, addedBy, monthAdded, mergedTo, Session, reportFor, figuresFor}
 use Rattle.draugsten_replay.specs.MonthClaims.{figureSum, RefusalsInOrder, AddedConsistent, MergeKeeps, MergeTaken, MergedMonths, ShareFromSums}
 use Rattle.draugsten_replay.proofs.Sessions.{counts-of}
 use Rattle.draugsten_replay.proofs.Months.{session-figures, figures, Going, sized, taken-all, none-refused, month-consistent, month-sums}

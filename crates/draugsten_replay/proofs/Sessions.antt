@@ -1,7 +1,7 @@
 -- A counting replay over bursts is the session of the whole trace: its report, and the counts of its calls.
 use Prim.Native.Nat.{ℕ}
 use mathlib.Core.Path.{_≡_, refl, sym, ap, ap₂, _∙_}
-use mathlib.Core.Bool.{Bool, true, false, cond, _&&_}
+use mathlib.Core.Bool.{Bool, true, false, cond}
 use mathlib.Core.List.{List, [], _∷_, _++_}
 use native.Mathlib.Omega.{arith}
 use lib.Dec.{eqb}
@@ -16,19 +16,17 @@ use Rattle.counting.specs.declared.counts.Counts.{Counts}
 use Rattle.counting.specs.Counts.{noCounts}
 use Rattle.counting.specs.Figures.{sumOf}
 use Rattle.counting.specs.CountsCame.{countsCame}
-use Rattle.counting.specs.OfTrace.{Counting, countStep, counter, countsOf}
+use Rattle.counting.specs.OfTrace.{Counting, counter, countsOf}
 use Rattle.counting.proofs.OfTrace.{counter-state, counter-sticky, counts-of-calls}
-use Rattle.totals.specs.declared.adding.Totals.{Totals}
 use Rattle.replay.specs.Feeding.{endOf}
 use Rattle.replay_states.specs.declared.state.FlatReplay.{FlatReplay}
-use Rattle.replay_states.specs.declared.state.FlatReport.{FlatReport}
 use Rattle.replay_states.specs.States.{flatReportOf, reportOf, waits, isState, areCounts, judged, judgedBy}
 use Rattle.replay_states.proofs.States.{report-back, taken}
 use Rattle.draugsten_replay.specs.declared.feeding.FlatEnded.{FlatEnded}
 use Rattle.draugsten_replay.specs.declared.month.FlatCounting.{FlatCounting}
-use Rattle.draugsten_replay.specs.Feeding.{platform, standingIn, flatStart, flatEndOf}
-use Rattle.draugsten_replay.specs.WholeTrace.{Burst, Fed, Whole, traceIn, lastReplay, lastHeld, lastArgs, lastMemory}
-use Rattle.draugsten_replay.specs.Month.{isCounting, isCountingBy, judgedCounting, judgedCountingBy, flatCountingStart, countingIn, CountingFeeds, addedBy, monthAdded}
+use Rattle.draugsten_replay.specs.Feeding.{platform, standingIn, flatEndOf}
+use Rattle.draugsten_replay.specs.WholeTrace.{Burst, Fed, traceIn, lastReplay}
+use Rattle.draugsten_replay.specs.Month.{isCounting, isCountingBy, judgedCounting, judgedCountingBy, flatCountingStart, countingIn, CountingFeeds, monthAdded}
 use Rattle.draugsten_replay.specs.MonthClaims.{CountingAccepted, CountedBurst, FedCounting, traceFed, lastCounting, AllFed, WholeSession}
 use Rattle.draugsten_replay.proofs.Bursts.{start-accepted}
 use Rattle.draugsten_replay.proofs.WholeTrace.{whole-trace}

@@ -1,14 +1,14 @@
 -- What is claimed of a section holds.
-use Prim.Native.Nat.{ℕ, _+_, _-_, _/_, _%_, _≤_, _<_, min}
+use Prim.Native.Nat.{ℕ, _+_, _-_, _≤_}
 use mathlib.Core.Path.{_≡_, refl, sym, ap, _∙_}
-use mathlib.Core.Bool.{Bool, true}
+use mathlib.Core.Bool.{Bool}
 use mathlib.Core.Logic.{⊎-elim}
 use native.Mathlib.Omega.{arith}
 use lib.Dec.{leb, ltb}
 use borrow.Author.Tests.{leb-true, ltb-true, ltb-false, le-leb, lt-ltb}
 use Rattle.dumping.specs.declared.section.Section.{Section}
 use Rattle.dumping.specs.Section.{has, room, errorFlags, actualLength}
-use Rattle.dumping.specs.Claims.{FlagsExactly, EachFlag, OutsideCopiesNothing, CopiedInside, AllCopied, SectionReadings, SectionClaims}
+use Rattle.dumping.specs.Claims.{FlagsExactly, OutsideCopiesNothing, CopiedInside, AllCopied, SectionReadings, SectionClaims}
 use Rattle.dumping.proofs.Flags.{four, one-if, is-one, Bits, bits, none-set}
 
 module _ (source memory : ℕ) (s : Section) where

@@ -1,9 +1,9 @@
 -- Which call a record made, as the code can tell: a 33 was taken where a 32 waited.
-use mathlib.Core.Path.{_≡_, refl, sym, ap, _∙_}
-use mathlib.Core.Bool.{Bool, true, false, _&&_, not, and-false}
+use mathlib.Core.Path.{_≡_, sym, ap, _∙_}
+use mathlib.Core.Bool.{Bool, true, false, _&&_}
 use mathlib.Core.List.{List, [], _∷_}
 use mathlib.Core.Logic.{_⊎_, inl, inr, ⊎-elim}
-use Prim.Native.Nat.{ℕ, _+_, _<_, _≤_}
+use Prim.Native.Nat.{ℕ, _+_, _≤_}
 use native.Mathlib.Omega.{arith}
 use lib.Dec.{leb, ltb}
 use lib.ListN.{length, take}
@@ -11,19 +11,18 @@ use lib.Seq.{sets, length-take-le}
 use borrow.Author.Tests.{le-ltb, lt-ltb, ltb-true}
 use Rattle.words.proofs.Choice.{choose, decide, and-right}
 use Rattle.records.specs.Records.{kindOf}
-use Rattle.calls.specs.Buffer.{Left, found, numberFor}
+use Rattle.calls.specs.Buffer.{Left, found}
 use Rattle.calls.proofs.Confined.{demand1}
 use Rattle.trace.specs.Trace.{isBefore, isAfter, isSetting, isGood, bodyOf, isSettable}
 use Rattle.trace.specs.Playing.{Platform, Waiting, none, call, State, stopped, faulted, kept, setting, calling, called, played, step}
 use Rattle.trace.proofs.Reader.{ways}
 use Rattle.counting.specs.declared.counts.Counts.{Counts}
-use Rattle.counting.specs.Counts.{counted}
-use Rattle.counting.specs.OfTrace.{isTaken, madeBy, made, countedAll}
+use Rattle.counting.specs.OfTrace.{isTaken, made, countedAll}
 use Rattle.counting.specs.Terms.{Within}
 use Rattle.counting.proofs.OwnBuffer.{own-number}
 use Rattle.counting.proofs.Growing.{within-more, within-later}
 use Rattle.playing.specs.declared.playing.Playing.{Playing}
-use Rattle.playing.specs.Lent.{Lent, storedBy, lentStep}
+use Rattle.playing.specs.Lent.{Lent, lentStep}
 use Rattle.playing.specs.Played.{waitingOf, stateOf, lentOf, leftBy, Steady, Plays}
 use Rattle.playing.proofs.Parts.{stored-front}
 use Rattle.replay.specs.Terms.{carriedOf, carriedStep, countedFront}

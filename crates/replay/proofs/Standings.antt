@@ -18,7 +18,7 @@ use Rattle.trace.specs.Trace.{goodFrame}
 use Rattle.trace.specs.Playing.{Platform, State, begin, isOver, stopped, reader}
 use Rattle.playing.specs.Lent.{Lent, lender}
 use Rattle.playing.specs.Played.{platformOf, stateOf, Steady, Plays, Playable}
-use Rattle.replay.specs.Feeding.{at, standingOf, lentStandingOf, countingOf, Ready, completed, Feeds, startOf}
+use Rattle.replay.specs.Feeding.{at, standingOf, Ready, completed, Feeds, startOf}
 use Rattle.replay.specs.Terms.{Filled, Carried, carriedStep, carrier, carriedOf, carriedStandingOf, Finishes, Passable, Passes}
 use Rattle.playing.specs.declared.playing.Playing.{Playing}
 use Rattle.replay.specs.declared.feeding.Replay.{Replay}

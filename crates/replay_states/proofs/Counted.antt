@@ -21,7 +21,7 @@ use Rattle.counting.specs.Figures.{sumOf}
 use Rattle.counting.specs.Terms.{Within}
 use Rattle.counting.proofs.Summing.{sum-next}
 use Rattle.replay_states.specs.declared.state.FlatReplay.{FlatReplay}
-use Rattle.replay_states.specs.States.{reportOf, replayWith, waitingField, flatReplayOf, isState, areCounts}
+use Rattle.replay_states.specs.States.{reportOf, replayWith, flatReplayOf, isState, areCounts}
 use Rattle.playing.specs.Played as played
 use Rattle.replay.specs.declared.feeding.Replay.{Replay}
 use Rattle.replay.specs.Feeding as replays

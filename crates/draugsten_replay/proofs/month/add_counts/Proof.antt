@@ -1,7 +1,6 @@
 -- `month::add_counts` meets its contract.
-use mathlib.Core.Path.{_≡_, ap, _∙_}
+use mathlib.Core.Path.{ap, _∙_}
 use borrow.Author.Needs.{needs}
-use Rattle.counting.specs.Figures.{figuresOf}
 use Rattle.totals.specs.Adding.{addedTo}
 use Rattle.draugsten_replay.specs.Month.{countsAdded}
 use Rattle.draugsten_replay.proofs.month.add_counts.Statement.{statement}

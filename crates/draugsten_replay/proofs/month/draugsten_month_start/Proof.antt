@@ -1,5 +1,4 @@
 -- `month::draugsten_month_start` meets its contract.
-use mathlib.Core.Path.{refl, ap, _∙_}
 use native.Mathlib.Omega.{arith}
 use borrow.Author.Needs.{needs}
 use Rattle.draugsten_replay.proofs.MonthClaims.{month-claims}

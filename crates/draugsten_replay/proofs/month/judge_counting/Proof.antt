@@ -1,7 +1,7 @@
 -- `month::judge_counting` meets its contract.
 use mathlib.Core.Path.{_≡_, sym, _∙_}
 use borrow.Author.Needs.{needs}
-use borrow.Author.Tests.{eq-eqb, ne-eqb}
+use borrow.Author.Tests.{ne-eqb}
 use denote.Ref.{now}
 use Rattle.replay_states.specs.States.{judgedBy}
 use Rattle.replay_states.proofs.States.{taken-by}

@@ -1,7 +1,6 @@
 -- `section::is_past` meets its contract.
 use mathlib.Core.Path.{sym}
 use native.Mathlib.Omega.{arith}
-use lib.Dec.{ltb}
 use borrow.Author.Tests.{lt-ltb}
 use Rattle.dumping.proofs.Flags.{past-by}
 use Rattle.dumping.proofs.section.is_past.Statement.{statement}

@@ -1,5 +1,5 @@
 -- `feeding::count_front` meets its contract.
-use mathlib.Core.Path.{sym, ap, _∙_}
+use mathlib.Core.Path.{sym}
 use lib.Seq.{length-take-le}
 use borrow.Author.Needs.{needs}
 use Rattle.replay.proofs.feeding.count_front.Statement.{statement}

@@ -1,6 +1,6 @@
 -- `feeding::finish` meets its contract.
-use mathlib.Core.Path.{_≡_, refl, sym, _∙_}
-use mathlib.Core.Bool.{true, false, true≢false}
+use mathlib.Core.Path.{refl, sym, _∙_}
+use mathlib.Core.Bool.{false, true≢false}
 use native.Mathlib.Omega.{arith}
 use borrow.Author.Needs.{needs}
 use borrow.Author.Tests.{ltb-true}
@@ -8,7 +8,6 @@ use denote.Ref.{now}
 use lib.Seq.{length-take-le}
 use Rattle.words.proofs.Choice.{and-right}
 use Rattle.counting.proofs.Growing.{within-later}
-use Rattle.replay.proofs.Made.{Counts-by}
 use Rattle.replay.proofs.Standings.{Gathered, gathered-of, gathered-playable, finish-none, finish-inside, finish-done}
 use Rattle.replay.proofs.feeding.finish.Statement.{statement}
 use Rattle.replay.proofs.feeding.finish.Tie as tie

@@ -1,5 +1,4 @@
 -- `feeding::is_call` meets its contract.
-use mathlib.Core.Path.{refl}
 use Rattle.replay.proofs.feeding.is_call.Statement.{statement}
 use Rattle.replay.proofs.feeding.is_call.Tie as tie
 
