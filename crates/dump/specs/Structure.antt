@@ -59,15 +59,36 @@ eachSection test (suc n) at = test at && eachSection test n (at + sectionSize)
 
 -- 01: "request flags (4), 0 or 0x00000001; type (2), 1, 2, 0x11, 0x12 or 0x100 and up; error flags (2) zero; source (8), requested (8);
 -- actual (8) zero; destination (8)."
+abbrev pub requestFlags : List ℕ → ℕ → ℕ
+requestFlags s at = be32 s at
+
+abbrev pub sectionType : List ℕ → ℕ → ℕ
+sectionType s at = be16 s (at + 4)
+
+abbrev pub sectionErrors : List ℕ → ℕ → ℕ
+sectionErrors s at = be16 s (at + 6)
+
+abbrev pub sectionSource : List ℕ → ℕ → ℕ
+sectionSource s at = be64 s (at + 8)
+
+abbrev pub sectionRequested : List ℕ → ℕ → ℕ
+sectionRequested s at = be64 s (at + 16)
+
+abbrev pub sectionActual : List ℕ → ℕ → ℕ
+sectionActual s at = be64 s (at + 24)
+
+abbrev pub sectionDestination : List ℕ → ℕ → ℕ
+sectionDestination s at = be64 s (at + 32)
+
 unfoldable pub goodType : ℕ → Bool
 goodType t = eqb t 1 || (eqb t 2 || (eqb t 17 || (eqb t 18 || leb 256 t)))
 
 unfoldable pub goodSection : List ℕ → ℕ → Bool
-goodSection s at = leb (be32 s at) 1 && (goodType (be16 s (at + 4)) && (eqb (be16 s (at + 6)) 0 && eqb (be64 s (at + 24)) 0))
+goodSection s at = leb (requestFlags s at) 1 && (goodType (sectionType s at) && (eqb (sectionErrors s at) 0 && eqb (sectionActual s at) 0))
 
 -- request flag 1
 unfoldable pub requested : List ℕ → ℕ → Bool
-requested s at = eqb (be32 s at) 1
+requested s at = eqb (requestFlags s at) 1
 
 -- 01: "Block size 0 means no disk: first block, blocks and path offset are 0 and every section has request flag 1."
 unfoldable pub withoutDisk : List ℕ → Bool

@@ -8,9 +8,29 @@ ghost use Rattle.dump.specs.Claims.{StructureCases};
 // The bytes of a header and of a section, and the most sections.
 pub const HEADER_SIZE: usize = 40;
 
-const SECTION_SIZE: usize = 40;
+pub const SECTION_SIZE: usize = 40;
 
 const SECTION_LIMIT: usize = 10;
+
+// Where the numbers of a header stand that a run needs.
+pub const SECTIONS: usize = 4;
+
+pub const STATUS_FLAGS: usize = 6;
+
+pub const FIRST_SECTION: usize = 8;
+
+// Where the numbers of a section stand, from its first byte on, which the request flags begin at.
+pub const SECTION_TYPE: usize = 4;
+
+pub const SECTION_ERRORS: usize = 6;
+
+pub const SECTION_SOURCE: usize = 8;
+
+pub const SECTION_REQUESTED: usize = 16;
+
+pub const SECTION_ACTUAL: usize = 24;
+
+pub const SECTION_DESTINATION: usize = 32;
 
 // Whether the header's numbers are good and the sections end within the length.
 fn is_header(s: &[u8]) -> bool
@@ -20,17 +40,17 @@ fn is_header(s: &[u8]) -> bool
     if words::read_be32(s, 0) != 1 {
         return false;
     }
-    let sections = words::read_be16(s, 4) as usize;
+    let sections = words::read_be16(s, SECTIONS) as usize;
     if sections < 1 {
         return false;
     }
     if SECTION_LIMIT < sections {
         return false;
     }
-    if words::read_be16(s, 6) != 0 {
+    if words::read_be16(s, STATUS_FLAGS) != 0 {
         return false;
     }
-    let first = words::read_be32(s, 8) as usize;
+    let first = words::read_be32(s, FIRST_SECTION) as usize;
     if first < HEADER_SIZE {
         return false;
     }
@@ -62,13 +82,13 @@ fn is_section(s: &[u8], at: usize) -> bool
     if 1 < words::read_be32(s, at) {
         return false;
     }
-    if !is_type(words::read_be16(s, at + 4)) {
+    if !is_type(words::read_be16(s, at + SECTION_TYPE)) {
         return false;
     }
-    if words::read_be16(s, at + 6) != 0 {
+    if words::read_be16(s, at + SECTION_ERRORS) != 0 {
         return false;
     }
-    words::read_be64(s, at + 24) == 0
+    words::read_be64(s, at + SECTION_ACTUAL) == 0
 }
 
 // Whether so many sections from an offset on are good.
@@ -158,8 +178,8 @@ pub fn is_structure(s: &[u8]) -> bool
     if !is_header(s) {
         return false;
     }
-    let first = words::read_be32(s, 8) as usize;
-    let sections = words::read_be16(s, 4) as usize;
+    let first = words::read_be32(s, FIRST_SECTION) as usize;
+    let sections = words::read_be16(s, SECTIONS) as usize;
     if !are_sections(s, first, sections) {
         return false;
     }

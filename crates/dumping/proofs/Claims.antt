@@ -31,7 +31,7 @@ module _ (source memory : ℕ) (s : Section) where
   told : Bits (errorFlags source memory s) start long destination short
   told = rw flags-are (bits start long destination short)
 
-  exactly : FlagsExactly source memory s
+  exactly : FlagsExactly (errorFlags source memory s) source memory s
   exactly = record {
     start = (λ e. leb-true source (s .start) (is-one start (sym (told .first) ∙ e)), λ h. told .first ∙ ap one-if (le-leb source (s .start) h));
     length = (λ e. ltb-true source (s .start + s .requested) (is-one long (sym (told .second) ∙ e)), λ h. told .second ∙ ap one-if (lt-ltb source (s .start + s .requested) h));

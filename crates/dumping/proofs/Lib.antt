@@ -1,2 +1,7 @@
 pub mod Flags
 pub mod Claims
+pub mod Runs
+pub mod RunReadings
+pub mod OneSection
+pub mod SectionRuns
+pub mod RunClaims

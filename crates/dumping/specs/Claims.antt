@@ -1,11 +1,11 @@
 -- What is claimed of a section's error flags and actual length, cited by the contracts of `error_flags` and `actual_length`.
-use Prim.Native.Nat.{ℕ, _+_, _/_, _%_, _≤_, _<_}
+use Prim.Native.Nat.{ℕ, _+_, _-_, _/_, _%_, _≤_, _<_, min}
 use mathlib.Core.Path.{_≡_}
 use mathlib.Core.Bool.{Bool, _&&_}
 use mathlib.Core.Logic.{_⊎_}
 use lib.Dec.{T, eqb}
 use Rattle.dumping.specs.declared.section.Section.{Section}
-use Rattle.dumping.specs.Section.{has, room, errorFlags, actualLength}
+use Rattle.dumping.specs.Section.{errorFlags, actualLength}
 
 -- each holds where the other does
 abbrev pub Exactly : Type 0 → Type 0 → Type 0
@@ -15,15 +15,15 @@ Exactly a b = (a → b) × (b → a)
 abbrev pub Set : ℕ → ℕ → Type 0
 Set flag flags = flags / flag % 2 ≡ 1
 
--- Each error flag exactly when.
-pub record FlagsExactly (source memory : ℕ) (s : Section) : Type 0 where
-  pub start : Exactly (Set 16384 (errorFlags source memory s)) (source ≤ s .start)
-  pub length : Exactly (Set 8192 (errorFlags source memory s)) (source < s .start + s .requested)
-  pub destination : Exactly (Set 4096 (errorFlags source memory s)) (memory ≤ s .destination)
-  pub small : Exactly (Set 2048 (errorFlags source memory s)) (room memory s < has source s)
+-- Of the error flags of a section, each exactly when, over a source and a memory of so many bytes.
+pub record FlagsExactly (flags source memory : ℕ) (s : Section) : Type 0 where
+  pub start : Exactly (Set 16384 flags) (source ≤ s .start)
+  pub length : Exactly (Set 8192 flags) (source < s .start + s .requested)
+  pub destination : Exactly (Set 4096 flags) (memory ≤ s .destination)
+  pub small : Exactly (Set 2048 flags) (memory - s .destination < min (s .requested) (source - s .start))
 
 abbrev pub EachFlag : Type 0
-EachFlag = (source memory : ℕ) (s : Section) → FlagsExactly source memory s
+EachFlag = (source memory : ℕ) (s : Section) → FlagsExactly (errorFlags source memory s) source memory s
 
 -- "Either start outside copies nothing."
 abbrev pub OutsideCopiesNothing : Type 0
@@ -42,7 +42,7 @@ AllCopied = (source memory : ℕ) (s : Section) → errorFlags source memory s �
 -- a section over a source of 100 bytes and a memory of 1,000: its flags and its actual length
 abbrev pub reads : ℕ → ℕ → ℕ → ℕ → ℕ → Bool
 reads start requested destination flags actual =
-    let s : Section = record { start = start; requested = requested; destination = destination } in
+    let s : Section = record { flags = 1; kind = 1; start = start; requested = requested; destination = destination } in
     eqb (errorFlags 100 1000 s) flags && eqb (actualLength 100 1000 s) actual
 
 abbrev pub SectionReadings : Type 0

@@ -1,2 +1,5 @@
 pub mod Section
 pub mod Claims
+pub mod Running
+pub mod RunReadings
+pub mod RunClaims

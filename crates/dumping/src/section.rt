@@ -6,8 +6,10 @@ ghost use lib.Dec.{leb, ltb};
 ghost use Rattle.dumping.specs.Section.{has, errorFlags, actualLength};
 ghost use Rattle.dumping.specs.Claims.{SectionClaims};
 
-// Where a section begins to read, how many bytes it asks for, and where they go.
+// A section of a structure: its request flags and type, where it begins to read, how many bytes it asks for, and where they go.
 pub struct Section {
+    pub flags: u32,
+    pub kind: u16,
     pub start: u64,
     pub requested: u64,
     pub destination: u64,
