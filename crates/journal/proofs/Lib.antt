@@ -9,3 +9,4 @@ pub mod Claims
 pub mod Limits
 pub mod Walks
 pub mod Operands
+pub mod Joins

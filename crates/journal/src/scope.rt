@@ -1,9 +1,10 @@
 // The scope table.
 ghost use mathlib.Core.Path.{_≡_};
-ghost use Prim.Native.Nat.{_<_};
+ghost use Prim.Native.Nat.{_<_, _≤_};
 ghost use mathlib.Core.Bool.{true};
 ghost use mathlib.Core.List.{[]};
 ghost use lib.ListN.{getD};
+ghost use Rattle.journal.specs.Journal.{largestType};
 ghost use Rattle.journal.specs.Scope.{rows, unitsOf, scopeRow};
 ghost use Rattle.journal.specs.Claims.{ScopeRows};
 
@@ -45,6 +46,15 @@ fn row_at(number: usize) -> [u8; 17]
     ensures { λ r. ⌜ r ≡ getD rows number [] ⌝ }
 {
     ROWS[number]
+}
+
+// The set of opcodes that row number 0 to 3 has for a node type.
+pub fn set_in(number: usize, node: usize) -> u8
+    requires { ⌜ (number < 4) × (node ≤ largestType) ⌝ }
+    ensures { λ r. ⌜ r ≡ getD (getD rows number []) node 0 ⌝ }
+{
+    let row = row_at(number);
+    row[node]
 }
 
 fn valid_row(number: usize) -> Row

@@ -1,0 +1,6 @@
+pub mod Tallies
+pub mod Weighing
+pub mod Keeping
+pub mod Sessions
+pub mod Readings
+pub mod Claims

@@ -1,0 +1,62 @@
+-- The tallies of a journal (document 02, M-106).
+use Prim.Native.Nat.{ℕ, _+_, _<_}
+use mathlib.Core.Bool.{Bool, cond, _&&_}
+use mathlib.Core.List.{List, []}
+use lib.Dec.{leb}
+use lib.ListN.{getD}
+use Rattle.journal.specs.declared.counts.Counts.{Counts}
+use Rattle.journal.specs.declared.scope.Units.the-variants.{All}
+use Rattle.journal.specs.Journal.{wellFormed}
+use Rattle.journal.specs.Scope.{rows, Selection, asking}
+use Rattle.journal.specs.Reportable.{countsOf}
+use Rattle.tallies.specs.declared.tallies.Tallies.{Tallies}
+use Rattle.tallies.specs.declared.tallies.Recount.{Recount}
+
+-- 02: "for each scope row (scope 3 over all units) and opcode": the selection of row number n, 0 of negative scopes, 1 to 3 of these scopes
+abbrev pub row : ℕ → Selection
+row n = asking (getD rows n []) All
+
+-- the four rows, each by a definition over its number
+abbrev pub byRow : (ℕ → Counts) → Tallies
+byRow f = record { negative = f 0; first = f 1; second = f 2; third = f 3 }
+
+-- "how many operations a scope holds": counted anew over the journal's reportable lists
+unfoldable pub recountOf : List ℕ → Tallies
+recountOf j = byRow (λ n. countsOf (row n) j)
+
+abbrev pub noCounts : Counts
+noCounts = record { deletes = 0; updates = 0; additions = 0 }
+
+-- the tallies of an empty journal: "zero tallies"
+abbrev pub noTallies : Tallies
+noTallies = byRow (λ _. noCounts)
+
+-- a malformed or oversized journal has no tallies
+unfoldable pub recountFor : List ℕ → Recount
+recountFor j = cond (wellFormed j) (record { good = wellFormed j; tallies = recountOf j }) (record { good = wellFormed j; tallies = noTallies })
+
+-- ---- sums, and limits
+
+abbrev pub countSum : Counts → Counts → Counts
+countSum a b = record { deletes = a .deletes + b .deletes; updates = a .updates + b .updates; additions = a .additions + b .additions }
+
+abbrev pub tallySum : Tallies → Tallies → Tallies
+tallySum a b = record { negative = countSum (a .negative) (b .negative); first = countSum (a .first) (b .first); second = countSum (a .second) (b .second); third = countSum (a .third) (b .third) }
+
+abbrev pub countsWithin : ℕ → Counts → Bool
+countsWithin limit c = leb (c .deletes) limit && (leb (c .updates) limit && leb (c .additions) limit)
+
+unfoldable pub talliesWithin : ℕ → Tallies → Bool
+talliesWithin limit t = countsWithin limit (t .negative) && (countsWithin limit (t .first) && (countsWithin limit (t .second) && countsWithin limit (t .third)))
+
+-- no sum passes 2^64 - 1
+pub record CountsFit (a b : Counts) : Type 0 where
+  pub deletes : a .deletes + b .deletes < 18446744073709551616
+  pub updates : a .updates + b .updates < 18446744073709551616
+  pub additions : a .additions + b .additions < 18446744073709551616
+
+pub record TalliesFit (a b : Tallies) : Type 0 where
+  pub negative : CountsFit (a .negative) (b .negative)
+  pub first : CountsFit (a .first) (b .first)
+  pub second : CountsFit (a .second) (b .second)
+  pub third : CountsFit (a .third) (b .third)

@@ -1,0 +1,13 @@
+// Tallies kept beside a journal: how many operations of each opcode every scope's row holds.
+mod counting;
+mod keeping;
+mod tallies;
+
+pub use counting::recount;
+pub use keeping::Kept;
+pub use keeping::Outcome;
+pub use keeping::Tallied;
+pub use keeping::append;
+pub use keeping::cleared;
+pub use tallies::Recount;
+pub use tallies::Tallies;
