@@ -1,8 +1,9 @@
 // A journal with its tallies over the C boundary.
 ghost use mathlib.Core.Path.{_≡_};
-ghost use Rattle.tallies.specs.Keeping.{nothing, appendOf};
+ghost use Rattle.tallies.specs.Keeping.{nothing, appendOf, joinOf};
 ghost use Rattle.tallies.specs.Tallies.{recountFor};
 ghost use Rattle.tallies.specs.Claims.{TallyClaims, RecountClaims};
+ghost use Rattle.tallies.specs.Joining.{JoinClaims};
 ghost use Rattle.draugsten_tallies.specs.Flat.{flatTallied, talliedFrom, flatTallies, outcomeNumber, goodNumber, flatLeaves, flatLeft, Crosses};
 use crate::flat::FlatTallied;
 use crate::flat::FlatTallies;
@@ -74,6 +75,19 @@ pub extern "C" fn draugsten_tallies_append(
     ensures claims { λ _. ⌜ TallyClaims × Crosses ⌝ }
 {
     flat_kept(tallies::append(buffer, tallied_from(journal), bytes))
+}
+
+// A whole journal, put behind the bytes in use of the journal's buffer and counted.
+#[no_mangle]
+pub extern "C" fn draugsten_tallies_join(
+    buffer: &mut [u8],
+    journal: FlatTallied,
+    part: &[u8],
+) -> FlatKept
+    ensures { λ r. ⌜ flatLeaves (r .number) (now (buffer .exit)) (r .journal) ≡ flatLeft (joinOf (now (buffer .entry)) (talliedFrom journal) (now (part .entry))) ⌝ }
+    ensures claims { λ _. ⌜ TallyClaims × JoinClaims × Crosses ⌝ }
+{
+    flat_kept(tallies::join(buffer, tallied_from(journal), part))
 }
 
 // The tallies of a journal, counted anew.

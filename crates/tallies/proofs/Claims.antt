@@ -20,7 +20,7 @@ use Rattle.tallies.specs.Tallies.{recountOf, recountFor, talliesWithin}
 use Rattle.tallies.specs.Keeping.{fits, hasRoom, oneRecord, attached}
 use Rattle.tallies.specs.Claims.{Exactly, OneGood, AttachedExactly, EachAppend, EachRecount, RowsOfScopes, RecountClaims, TallyClaims}
 use Rattle.tallies.proofs.Outcomes.{attach-judged, attach-done, attach-refused}
-use Rattle.tallies.proofs.Kept.{tallies-kept, append-keeps, clear-keeps, kept-is-fit}
+use Rattle.tallies.proofs.Kept.{tallies-kept, append-keeps, join-keeps, clear-keeps, kept-is-fit}
 use Rattle.tallies.proofs.Readings.{tally-readings}
 
 -- ---- statements that hold exactly when others do
@@ -55,7 +55,7 @@ unfolding oneRecord
 one-good r = (λ e. (one-record r (and-left (whole r) _ e), one-formed r e), λ p. only-record r (p .0) (p .1))
 
 -- of any part, judged by a test that says when it is good
-attached-exactly : (Good : Type 0) (part : List ℕ) (good : Bool) → Exactly (good ≡ true) Good → (b : List ℕ) (t : Tallied) → AttachedExactly Good b t part (attached b t part good)
+pub attached-exactly : (Good : Type 0) (part : List ℕ) (good : Bool) → Exactly (good ≡ true) Good → (b : List ℕ) (t : Tallied) → AttachedExactly Good b t part (attached b t part good)
 attached-exactly Good part good exact b t =
     let j = attach-judged b t part good in
     record {
@@ -96,4 +96,4 @@ pub recount-claims : RecountClaims
 recount-claims = record { each-recount = each-recount; rows-of-scopes = rows-of-scopes; readings = tally-readings }
 
 pub tally-claims : TallyClaims
-tally-claims = record { tallies-kept = tallies-kept; append-keeps = append-keeps; clear-keeps = clear-keeps; each-append = each-append; kept-is-fit = kept-is-fit; recounts = recount-claims }
+tally-claims = record { tallies-kept = tallies-kept; append-keeps = append-keeps; join-keeps = join-keeps; clear-keeps = clear-keeps; each-append = each-append; kept-is-fit = kept-is-fit; recounts = recount-claims }

@@ -12,19 +12,19 @@ use Rattle.words.proofs.Stores.{sets-before, sets-after}
 use Rattle.journal.specs.Journal.{wellFormed}
 use Rattle.journal.proofs.Joins.{well-formed-join, none-formed, one-formed}
 use Rattle.tallies.specs.declared.keeping.Tallied.{Tallied}
-use Rattle.tallies.specs.declared.keeping.Outcome.the-variants.{Done}
+use Rattle.tallies.specs.declared.keeping.Outcome.the-variants.{Done, Unfit}
 use Rattle.tallies.specs.declared.tallies.Tallies.{Tallies}
 use Rattle.tallies.specs.Tallies.{recountOf, tallySum}
 use Rattle.tallies.specs.Keeping.{Left, fits, oneRecord, attached}
 use Rattle.tallies.specs.Sessions.{Standing, inUse, Counted, OnlyAppends, Keeps, Continues, Turn, standing, Session, fresh, leftAs}
-use Rattle.tallies.specs.Claims.{TalliesKept, AppendKeeps, ClearKeeps, KeptIsFit}
+use Rattle.tallies.specs.Claims.{TalliesKept, AppendKeeps, JoinKeeps, ClearKeeps, KeptIsFit}
 use Rattle.tallies.proofs.Joins.{recount-none, recount-join, recount-within}
 use Rattle.tallies.proofs.Outcomes.{grown, came, attach-judged, done-room, by-outcome}
 
 -- ---- a part put behind the bytes in use
 
 -- the bytes in use afterwards
-use-grown : (buffer part : List ℕ) (used : ℕ) → used + length part ≤ length buffer → take (used + length part) (sets buffer used part) ≡ take used buffer ++ part
+pub use-grown : (buffer part : List ℕ) (used : ℕ) → used + length part ≤ length buffer → take (used + length part) (sets buffer used part) ≡ take used buffer ++ part
 use-grown buffer part used h =
     let n : length (take used buffer ++ part) ≡ used + length part = length-append (take used buffer) part ∙ rw (length-take-le used buffer (omega arith)) in
     ap (take (used + length part)) (sets-eq part buffer used h) ∙ take-at (take used buffer ++ part) (drop (used + length part) buffer) (used + length part) n
@@ -65,9 +65,12 @@ pub append-keeps : AppendKeeps
 unfolding oneRecord
 append-keeps r = attach-keeps r (oneRecord r) (one-formed r)
 
+pub join-keeps : JoinKeeps
+join-keeps part = attach-keeps part (wellFormed part) (λ e. e)
+
 -- ---- an empty journal
 
-fresh-counted : (buffer : List ℕ) → Counted (fresh buffer)
+pub fresh-counted : (buffer : List ℕ) → Counted (fresh buffer)
 fresh-counted buffer = record { inside = omega arith; well-formed = none-formed; tallies = sym recount-none }
 
 pub clear-keeps : ClearKeeps
@@ -84,7 +87,7 @@ found-counted left found c k =
       tallies = ap (λ (t : Tallied). t .tallies) (c .journal) ∙ k .tallies ∙ ap recountOf (sym (c .bytes));
     }
 
-kept-along : (s : Standing) (ts : List Turn) → Counted s → Session s ts → Counted (standing s ts)
+kept-along : (s : Standing) (ts : List (Turn Standing)) → Counted s → Session s ts → Counted (standing s ts)
 unfolding standing
 kept-along s [] k p = k
 kept-along s (t ∷ ts) k p = kept-along ((t .operation) (t .found)) ts (p .1 .0 .counted (t .found) (found-counted s (t .found) (p .0) k)) (p .1 .1)
@@ -100,5 +103,9 @@ counted-fits s k =
     let used = s .journal .used in
     rw (k .tallies, le-leb used (length (s .buffer)) (k .inside)) (recount-within used (inUse s) (omega (arith, length-take-le used (s .buffer) (k .inside))))
 
+-- whatever the part, and however it is judged
+pub attach-is-fit : (s : Standing) → Counted s → (part : List ℕ) (good : Bool) → came (s .buffer) (s .journal) part good ≡ Unfit → ⊥
+attach-is-fit s k part good e = true≢false (sym (counted-fits s k) ∙ attach-judged (s .buffer) (s .journal) part good .unfit .0 e)
+
 pub kept-is-fit : KeptIsFit
-kept-is-fit s k r e = true≢false (sym (counted-fits s k) ∙ attach-judged (s .buffer) (s .journal) r (oneRecord r) .unfit .0 e)
+kept-is-fit s k r = attach-is-fit s k r (oneRecord r)

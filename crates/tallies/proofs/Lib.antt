@@ -5,3 +5,4 @@ pub mod Weights
 pub mod Outcomes
 pub mod Claims
 pub mod Recounts
+pub mod Joining

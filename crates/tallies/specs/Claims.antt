@@ -15,7 +15,7 @@ use Rattle.tallies.specs.declared.keeping.Tallied.{Tallied}
 use Rattle.tallies.specs.declared.keeping.Outcome.the-variants.{Done, Malformed, NoRoom, Unfit}
 use Rattle.tallies.specs.Tallies.{noTallies, recountOf, recountFor, tallySum, talliesWithin}
 use Rattle.tallies.specs.Keeping.{Left, appendOf}
-use Rattle.tallies.specs.Sessions.{Standing, Counted, Keeps, Turn, standing, Session, fresh, appending, clearing}
+use Rattle.tallies.specs.Sessions.{Standing, Counted, Keeps, Turn, standing, Session, fresh, appending, joining, clearing}
 use Rattle.tallies.specs.Readings.{TallyReadings}
 
 -- a statement holds exactly when another does
@@ -24,11 +24,14 @@ Exactly P Q = (P → Q) × (Q → P)
 
 -- After any list of operations that keep the tallies, refused ones between, the bytes in use are a well-formed journal and the tallies equal its recount.
 abbrev pub TalliesKept : Type 0
-TalliesKept = (buffer : List ℕ) (ts : List Turn) → Session (fresh buffer) ts → Counted (standing (fresh buffer) ts)
+TalliesKept = (buffer : List ℕ) (ts : List (Turn Standing)) → Session (fresh buffer) ts → Counted (standing (fresh buffer) ts)
 
--- Appending, whatever is appended, and clearing are such operations.
+-- Appending and joining, whatever is appended or joined, and clearing are such operations.
 abbrev pub AppendKeeps : Type 0
 AppendKeeps = (r : List ℕ) → Keeps (appending r)
+
+abbrev pub JoinKeeps : Type 0
+JoinKeeps = (part : List ℕ) → Keeps (joining part)
 
 abbrev pub ClearKeeps : Type 0
 ClearKeeps = Keeps clearing
@@ -81,6 +84,7 @@ pub record RecountClaims : Type 0 where
 pub record TallyClaims : Type 0 where
   pub tallies-kept : TalliesKept
   pub append-keeps : AppendKeeps
+  pub join-keeps : JoinKeeps
   pub clear-keeps : ClearKeeps
   pub each-append : EachAppend
   pub kept-is-fit : KeptIsFit

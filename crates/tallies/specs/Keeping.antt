@@ -6,7 +6,7 @@ use lib.Dec.{leb}
 use lib.ListN.{length}
 use lib.Seq.{sets}
 use Rattle.records.specs.Records.{whole, sizeLimit}
-use Rattle.journal.specs.Journal.{goodRecord}
+use Rattle.journal.specs.Journal.{goodRecord, wellFormed}
 use Rattle.tallies.specs.declared.keeping.Tallied.{Tallied}
 use Rattle.tallies.specs.declared.keeping.Kept.{Kept}
 use Rattle.tallies.specs.declared.keeping.Outcome.{Outcome}
@@ -59,3 +59,7 @@ attached buffer t part good =
 
 abbrev pub appendOf : List ℕ → Tallied → List ℕ → Left
 appendOf buffer t bytes = attached buffer t bytes (oneRecord bytes)
+
+-- 02, M-108: "two journals, which we join end to end": a whole journal behind the bytes in use
+abbrev pub joinOf : List ℕ → Tallied → List ℕ → Left
+joinOf buffer t part = attached buffer t part (wellFormed part)

@@ -4,3 +4,4 @@ pub mod Keeping
 pub mod Sessions
 pub mod Readings
 pub mod Claims
+pub mod Joining

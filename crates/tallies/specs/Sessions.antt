@@ -9,7 +9,7 @@ use lib.ListN.{length, getD, take}
 use Rattle.journal.specs.Journal.{wellFormed}
 use Rattle.tallies.specs.declared.keeping.Tallied.{Tallied}
 use Rattle.tallies.specs.Tallies.{recountOf}
-use Rattle.tallies.specs.Keeping.{Left, nothing, appendOf}
+use Rattle.tallies.specs.Keeping.{Left, nothing, appendOf, joinOf}
 
 -- What stands between two operations: the buffer, and of it the bytes in use, with their tallies.
 pub record Standing : Type 0 where
@@ -45,15 +45,15 @@ pub record Continues (left found : Standing) : Type 0 where
   pub size : length (found .buffer) ≡ length (left .buffer)
 
 -- One operation of a list, with what it finds.
-pub record Turn : Type 0 where
-  pub found : Standing
-  pub operation : Standing → Standing
+pub record Turn (S : Type 0) : Type 0 where
+  pub found : S
+  pub operation : S → S
 
-unfoldable pub standing : Standing → List Turn → Standing
+unfoldable pub standing : Standing → List (Turn Standing) → Standing
 standing s [] = s
 standing s (t ∷ ts) = standing ((t .operation) (t .found)) ts
 
-abbrev pub Session : Standing → List Turn → Type 0
+abbrev pub Session : Standing → List (Turn Standing) → Type 0
 Session s [] = Unit {0}
 Session s (t ∷ ts) = Continues s (t .found) × (Keeps (t .operation) × Session ((t .operation) (t .found)) ts)
 
@@ -71,3 +71,6 @@ appending r s = leftAs (appendOf (s .buffer) (s .journal) r)
 
 abbrev pub clearing : Standing → Standing
 clearing s = standingAs (s .buffer) nothing
+
+abbrev pub joining : List ℕ → Standing → Standing
+joining part s = leftAs (joinOf (s .buffer) (s .journal) part)

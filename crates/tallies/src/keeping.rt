@@ -3,9 +3,11 @@ ghost use mathlib.Core.Path.{_≡_};
 ghost use mathlib.Core.Bool.{true};
 ghost use Prim.Native.Nat.{_+_, _≤_};
 ghost use lib.ListN.{length};
-ghost use Rattle.tallies.specs.Keeping.{nothing, fits, hasRoom, leaves, attached, appendOf};
+ghost use Rattle.tallies.specs.Keeping.{nothing, fits, hasRoom, leaves, attached, appendOf, joinOf};
 ghost use Rattle.tallies.specs.Tallies.{recountOf};
 ghost use Rattle.tallies.specs.Claims.{TallyClaims};
+ghost use Rattle.tallies.specs.Joining.{JoinClaims};
+use crate::counting::recount;
 use crate::counting::weigh_one;
 use crate::tallies::Recount;
 use crate::tallies::Tallies;
@@ -105,4 +107,12 @@ pub fn append(buffer: &mut [u8], journal: Tallied, bytes: &[u8]) -> Kept
     ensures claims { λ _. ⌜ TallyClaims ⌝ }
 {
     attach(buffer, journal, bytes, weigh_one(bytes))
+}
+
+// A whole journal, put behind the bytes in use; nothing of what is in use is counted anew.
+pub fn join(buffer: &mut [u8], journal: Tallied, part: &[u8]) -> Kept
+    ensures { λ r. ⌜ leaves (now (buffer .exit)) r ≡ joinOf (now (buffer .entry)) journal (now (part .entry)) ⌝ }
+    ensures claims { λ _. ⌜ TallyClaims × JoinClaims ⌝ }
+{
+    attach(buffer, journal, part, recount(part))
 }

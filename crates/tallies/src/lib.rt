@@ -9,5 +9,6 @@ pub use keeping::Outcome;
 pub use keeping::Tallied;
 pub use keeping::append;
 pub use keeping::cleared;
+pub use keeping::join;
 pub use tallies::Recount;
 pub use tallies::Tallies;
