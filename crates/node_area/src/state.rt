@@ -31,6 +31,13 @@ impl StateVariable {
         words::store_be32(area, 0, self.0);
     }
 
+    // How many operations were reported before, as a number with room for more.
+    pub fn reported(self) -> u64
+        ensures { λ r. ⌜ r ≡ self .0 ⌝ }
+    {
+        self.0 as u64
+    }
+
     // Whether operations remain behind the state.
     pub fn has_more(self, all: Counts) -> bool
         requires { ⌜ total all < 18446744073709551616 ⌝ }

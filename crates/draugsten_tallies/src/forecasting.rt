@@ -1,0 +1,30 @@
+// Forecasts over the C boundary.
+ghost use mathlib.Core.Path.{_≡_};
+ghost use Rattle.calls.specs.Status.{statusWord};
+ghost use Rattle.forecast.specs.Forecast.{forecastOf};
+ghost use Rattle.forecast.specs.Claims.{ForecastClaims};
+ghost use Rattle.draugsten_tallies.specs.Flat.{talliesFrom};
+use crate::flat::FlatTallies;
+use crate::flat::tallies_from;
+use node_area::StateVariable;
+
+// What update-nodes would answer: its status as a word, and the state that it would leave.
+#[repr(C)]
+pub struct FlatForecast {
+    pub status: u32,
+    pub next: u64,
+}
+
+// What a scope and state would answer, from the tallies of a journal alone.
+#[no_mangle]
+pub extern "C" fn draugsten_forecast(tallies: FlatTallies, scope: u32, state: u32) -> FlatForecast
+    ensures { λ r. ⌜ (r .status ≡ statusWord (forecastOf (talliesFrom tallies) scope state .status)) × (r .next ≡ forecastOf (talliesFrom tallies) scope state .next) ⌝ }
+    ensures claims { λ _. ⌜ ForecastClaims ⌝ }
+{
+    let told = forecast::forecast_from(tallies_from(tallies), scope, StateVariable(state));
+    let status = told.status;
+    FlatForecast {
+        status: calls::status_word(status),
+        next: told.next,
+    }
+}

@@ -1,0 +1,68 @@
+-- Forecasts on both sides of each line, in numbers, cited by the contract of `forecast_from`.
+use Prim.Native.Nat.{ℕ}
+use mathlib.Core.Bool.{Bool, _&&_}
+use mathlib.Core.List.{List, [], _∷_}
+use lib.Dec.{T, eqb}
+use Rattle.words.specs.Cases.{all}
+use Rattle.journal.specs.declared.counts.Counts.{Counts}
+use Rattle.tallies.specs.declared.tallies.Tallies.{Tallies}
+use Rattle.calls.specs.Status.{statusWord}
+use Rattle.calls.specs.Terms.{minus}
+use Rattle.forecast.specs.Forecast.{forecastOf}
+
+abbrev pub counts : ℕ → ℕ → ℕ → Counts
+counts deletes updates additions = record { deletes = deletes; updates = updates; additions = additions }
+
+-- tallies that have the same counts in every row, and different ones
+abbrev pub alike : Counts → Tallies
+alike c = record { negative = c; first = c; second = c; third = c }
+
+abbrev pub unlike : Tallies
+unlike = record { negative = counts 1019 0 0; first = counts 0 1020 0; second = counts 0 0 600; third = counts 9 9 9 }
+
+-- a scope and a state over tallies: the status as its word, and the next state
+abbrev pub tells : Tallies → ℕ → ℕ → ℕ → ℕ → Bool
+tells t scope state status next = eqb (statusWord (forecastOf t scope state .status)) status && eqb (forecastOf t scope state .next) next
+
+abbrev pub cases : List Bool
+cases =
+    -- the state and the length of the list
+    tells (alike (counts 0 0 0)) 1 0 0 0
+    ∷ tells (alike (counts 0 0 0)) 1 1 (minus 3) 0
+    ∷ tells (alike (counts 1 0 0)) 1 1 (minus 3) 0
+    ∷ tells (alike (counts 1 1 0)) 1 1 0 0
+    ∷ tells (alike (counts 1 1 0)) 1 2 (minus 3) 0
+    ∷ tells (alike (counts 0 0 1)) 1 4294967295 (minus 3) 0
+    -- 1,018 deletes, and 1,019
+    ∷ tells (alike (counts 1018 0 0)) 1 0 0 0
+    ∷ tells (alike (counts 1019 0 0)) 1 0 1 1018
+    ∷ tells (alike (counts 1019 0 0)) 1 1018 0 0
+    ∷ tells (alike (counts 1019 0 0)) 1 1019 (minus 3) 0
+    -- 509 additions, and 510; all three opcodes
+    ∷ tells (alike (counts 0 0 509)) 1 0 0 0
+    ∷ tells (alike (counts 0 0 510)) 1 0 1 509
+    ∷ tells (alike (counts 1 1013 1)) 1 0 0 0
+    ∷ tells (alike (counts 1 1014 1)) 1 0 1 1015
+    ∷ tells (alike (counts 1 1014 1)) 1 1015 0 0
+    -- each scope by its row
+    ∷ tells unlike 2147483648 0 1 1018
+    ∷ tells unlike 4294967295 0 1 1018
+    ∷ tells unlike 1 0 1 1018
+    ∷ tells unlike 1 1018 0 0
+    ∷ tells unlike 2 0 1 509
+    ∷ tells unlike 2 509 0 0
+    -- all others, scope 3 too
+    ∷ tells unlike 0 0 (minus 3) 0
+    ∷ tells unlike 3 0 (minus 3) 0
+    ∷ tells unlike 4 0 (minus 3) 0
+    ∷ tells unlike 2147483647 0 (minus 3) 0
+    -- counts that no journal has
+    ∷ tells (alike (counts 1099511627776 0 0)) 1 4294967295 1 4294968313
+    ∷ tells (alike (counts 18446744073709551615 18446744073709551615 18446744073709551615)) 1 4294967295 1 4294968313
+    ∷ tells (alike (counts 0 0 18446744073709551615)) 2 0 1 509
+    ∷ tells (alike (counts 4294967295 0 0)) 1 4294967295 (minus 3) 0
+    ∷ tells (alike (counts 4294967295 18446744073709551615 0)) 1 4294967295 1 4294968313
+    ∷ []
+
+abbrev pub ForecastReadings : Type 0
+ForecastReadings = T (all (λ (b : Bool). b) cases)
