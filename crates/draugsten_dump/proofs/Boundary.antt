@@ -82,7 +82,7 @@ module _ (platform memory : List ℕ) (f : FlatRegistration) where
   unfolding flatRunOf
   not-given e = rw e
 
-  exactly-given : isRegistration f ≡ true → FlatExactly memory f (flatLeaves 0 (word (x .verdict)) (x .memory) (flatOf (x .next)))
+  exactly-given : isRegistration f ≡ true → FlatExactly platform memory f (flatLeaves 0 (word (x .verdict)) (x .memory) (flatOf (x .next)))
   exactly-given is =
       let b = bounds f is in
       let exact = run-claims .each-verdict platform memory (registrationOf f) in
@@ -99,9 +99,11 @@ module _ (platform memory : List ℕ) (f : FlatRegistration) where
         parameter = λ a d. ap word (exact .otherwise (λ e. a (active .1 e)) (λ e. d (done .1 e)));
         refused = λ d. let k = exact .refused (λ e. d (done .1 e)) in (k .0, ap flatOf (k .1) ∙ faithful f is);
         becomes-active = λ e. let k = exact .becomes-active (done .0 e) in (ap phaseNumber (k .0), k .1);
+        ran = λ e b. run-claims .each-section platform memory (registrationOf f) b (done .0 e);
+        status-of-13 = λ e. absurd (omega arith);
       }
 
-  exactly-not : isRegistration f ≡ false → FlatExactly memory f (flatLeaves 13 4294967293 memory f)
+  exactly-not : isRegistration f ≡ false → FlatExactly platform memory f (flatLeaves 13 4294967293 memory f)
   exactly-not is =
       record {
         no-registration = (λ _. too-large f is, λ _. refl);
@@ -111,6 +113,8 @@ module _ (platform memory : List ℕ) (f : FlatRegistration) where
         parameter = λ a d. refl;
         refused = λ d. (refl, refl);
         becomes-active = λ e. absurd (omega arith);
+        ran = λ e. absurd (omega arith);
+        status-of-13 = λ _. refl;
       }
 
 pub each-flat-run : EachFlatRun

@@ -5,7 +5,7 @@ use mathlib.Core.Bool.{true}
 use mathlib.Core.List.{List, []}
 use mathlib.Core.Logic.{_⊎_}
 use lib.ListN.{take}
-use Rattle.words.specs.Numbers.{be32}
+use Rattle.words.specs.Numbers.{Bytes, be32}
 use Rattle.dump.specs.declared.registration.Phase.the-variants.{Unregistered}
 use Rattle.dump.specs.declared.registration.Registration.{Registration}
 use Rattle.dump.specs.declared.registration.Verdict.the-variants.{Done, DumpActive}
@@ -15,24 +15,29 @@ use Rattle.calls.specs.Terms.{minus, Exactly, Asks, HasStatus, statusOf}
 use Rattle.calls.specs.ExactDump.{Holds}
 use Rattle.crossing.specs.declared.registration.FlatRegistration.{FlatRegistration}
 use Rattle.dumping.specs.Running.{runOf}
+use Rattle.dumping.specs.RunClaims.{Ran}
 use Rattle.draugsten_dump.specs.Running.{FlatLeft, flatRunOf}
 
 -- ---- a run over the C boundary, in the header's numbers
 
-pub record FlatExactly (memory : List ℕ) (f : FlatRegistration) (x : FlatLeft) : Type 0 where
+pub record FlatExactly (platform memory : List ℕ) (f : FlatRegistration) (x : FlatLeft) : Type 0 where
   pub no-registration : Exactly (x .number ≡ 13) ((2 < f .phase) ⊎ (512 < f .length))
   pub otherwise : (x .number ≡ 13 → ⊥) → x .number ≡ 0
   -- "Refusals: -10 when active, -3 when nothing is registered or the copy isn't a good structure."
   pub active : x .number ≡ 0 → Exactly (x .status ≡ minus 10) (f .phase ≡ 2)
   pub done : x .number ≡ 0 → Exactly (x .status ≡ 0) ((f .phase ≡ 1) × (goodStructure (take (f .length) (f .copy)) ≡ true))
   pub parameter : (x .status ≡ minus 10 → ⊥) → (x .status ≡ 0 → ⊥) → x .status ≡ minus 3
+  -- 13 says it alone: beside it stands -3
+  pub status-of-13 : x .number ≡ 13 → x .status ≡ minus 3
   -- refused, also with 13: nothing changes
   pub refused : (x .status ≡ 0 → ⊥) → (x .memory ≡ memory) × (x .registration ≡ f)
   -- "and the registration becomes active"
   pub becomes-active : x .status ≡ 0 → (x .registration .phase ≡ 2) × (x .registration .length ≡ f .length)
+  -- the sections, memory and the copy: as of a run below the boundary
+  pub ran : x .status ≡ 0 → Bytes (f .copy) → Ran platform memory (x .memory) (f .copy) (x .registration .copy)
 
 abbrev pub EachFlatRun : Type 0
-EachFlatRun = (platform memory : List ℕ) (f : FlatRegistration) → FlatExactly memory f (flatRunOf platform memory f)
+EachFlatRun = (platform memory : List ℕ) (f : FlatRegistration) → FlatExactly platform memory f (flatRunOf platform memory f)
 
 -- What a run hands back is taken again, by a run and by a call.
 abbrev pub RunHandedOn : Type 0

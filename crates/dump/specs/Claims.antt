@@ -90,6 +90,11 @@ diskCases =
     -- "first block and blocks may hold anything"; a request flag of 0
     ∷ yes (from 40 (disk 1 40 80) (asked 1 ++ (letters 1 ++ (0 ∷ []))))
     ∷ yes (from 40 (disk 1 40 80) (section 0 1 0 0 ++ (letters 1 ++ (0 ∷ []))))
+    -- type 0x11 need not be asked for; any block size but 0, any blocks, any milliseconds
+    ∷ yes (from 40 (disk 1 40 80) (section 0 17 0 0 ++ (letters 1 ++ (0 ∷ []))))
+    ∷ yes
+    (take 36 (headerBytes (record { version = 1; sections = 1; statusFlags = 0; first = 40; blockSize = 4294967295; firstBlock = 0; blocks = 0; path = 80 }))
+    ++ (beBytes 4 4294967295 ++ (asked 1 ++ (letters 1 ++ (0 ∷ [])))))
     -- "the path starts at 40 or later"
     ∷ yes (from 40 (disk 1 42 40) (letters 1 ++ (0 ∷ asked 1)))
     ∷ no (from 40 (disk 1 42 39) (letters 1 ++ (0 ∷ asked 1)))

@@ -37,6 +37,7 @@ module _ (source memory : ℕ) (s : Section) where
     length = (λ e. ltb-true source (s .start + s .requested) (is-one long (sym (told .second) ∙ e)), λ h. told .second ∙ ap one-if (lt-ltb source (s .start + s .requested) h));
     destination = (λ e. leb-true memory (s .destination) (is-one destination (sym (told .third) ∙ e)), λ h. told .third ∙ ap one-if (le-leb memory (s .destination) h));
     small = (λ e. ltb-true (room memory s) (has source s) (is-one short (sym (told .fourth) ∙ e)), λ h. told .fourth ∙ ap one-if (lt-ltb (room memory s) (has source s) h));
+    no-other = told .rest;
   }
 
 outside : OutsideCopiesNothing

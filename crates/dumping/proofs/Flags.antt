@@ -1,5 +1,5 @@
 -- Four flags, each there or not, and the test of a wide sum.
-use Prim.Native.Nat.{ℕ, _+_, _-_, _/_, _%_, _≤_}
+use Prim.Native.Nat.{ℕ, _+_, _-_, _/_, _%_, _≤_, _<_}
 use mathlib.Core.Path.{_≡_, refl, sym, _∙_}
 use mathlib.Core.Bool.{Bool, true, false, cond}
 use native.Mathlib.Omega.{arith}
@@ -30,25 +30,26 @@ pub record Bits (n : ℕ) (a b c d : Bool) : Type 0 where
   pub second : n / 8192 % 2 ≡ one-if b
   pub third : n / 4096 % 2 ≡ one-if c
   pub fourth : n / 2048 % 2 ≡ one-if d
+  pub rest : (n % 2048 ≡ 0) × (n < 32768)
 
 pub bits : (a b c d : Bool) → Bits (four a b c d) a b c d
 unfolding four
-bits true true true true = record { first = refl; second = refl; third = refl; fourth = refl }
-bits true true true false = record { first = refl; second = refl; third = refl; fourth = refl }
-bits true true false true = record { first = refl; second = refl; third = refl; fourth = refl }
-bits true true false false = record { first = refl; second = refl; third = refl; fourth = refl }
-bits true false true true = record { first = refl; second = refl; third = refl; fourth = refl }
-bits true false true false = record { first = refl; second = refl; third = refl; fourth = refl }
-bits true false false true = record { first = refl; second = refl; third = refl; fourth = refl }
-bits true false false false = record { first = refl; second = refl; third = refl; fourth = refl }
-bits false true true true = record { first = refl; second = refl; third = refl; fourth = refl }
-bits false true true false = record { first = refl; second = refl; third = refl; fourth = refl }
-bits false true false true = record { first = refl; second = refl; third = refl; fourth = refl }
-bits false true false false = record { first = refl; second = refl; third = refl; fourth = refl }
-bits false false true true = record { first = refl; second = refl; third = refl; fourth = refl }
-bits false false true false = record { first = refl; second = refl; third = refl; fourth = refl }
-bits false false false true = record { first = refl; second = refl; third = refl; fourth = refl }
-bits false false false false = record { first = refl; second = refl; third = refl; fourth = refl }
+bits true true true true = record { first = refl; second = refl; third = refl; fourth = refl; rest = (refl, omega arith) }
+bits true true true false = record { first = refl; second = refl; third = refl; fourth = refl; rest = (refl, omega arith) }
+bits true true false true = record { first = refl; second = refl; third = refl; fourth = refl; rest = (refl, omega arith) }
+bits true true false false = record { first = refl; second = refl; third = refl; fourth = refl; rest = (refl, omega arith) }
+bits true false true true = record { first = refl; second = refl; third = refl; fourth = refl; rest = (refl, omega arith) }
+bits true false true false = record { first = refl; second = refl; third = refl; fourth = refl; rest = (refl, omega arith) }
+bits true false false true = record { first = refl; second = refl; third = refl; fourth = refl; rest = (refl, omega arith) }
+bits true false false false = record { first = refl; second = refl; third = refl; fourth = refl; rest = (refl, omega arith) }
+bits false true true true = record { first = refl; second = refl; third = refl; fourth = refl; rest = (refl, omega arith) }
+bits false true true false = record { first = refl; second = refl; third = refl; fourth = refl; rest = (refl, omega arith) }
+bits false true false true = record { first = refl; second = refl; third = refl; fourth = refl; rest = (refl, omega arith) }
+bits false true false false = record { first = refl; second = refl; third = refl; fourth = refl; rest = (refl, omega arith) }
+bits false false true true = record { first = refl; second = refl; third = refl; fourth = refl; rest = (refl, omega arith) }
+bits false false true false = record { first = refl; second = refl; third = refl; fourth = refl; rest = (refl, omega arith) }
+bits false false false true = record { first = refl; second = refl; third = refl; fourth = refl; rest = (refl, omega arith) }
+bits false false false false = record { first = refl; second = refl; third = refl; fourth = refl; rest = (refl, omega arith) }
 
 -- a flag that is there or not is at most itself
 pub flag-most : (t : Bool) (n m : ℕ) → m ≡ cond t n 0 → m ≤ n

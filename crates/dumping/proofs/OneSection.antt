@@ -52,13 +52,13 @@ module _ (platform memory : List ℕ) (x : Section) where
 
   -- ---- its error flags and its actual length
 
-  pub asked-errors : (source : List ℕ) → x .flags ≡ 1 → Reads platform memory source (x .kind) → errorsOf platform memory x ≡ errorFlags (length source) (length memory) x
+  pub asked-errors : (source : List ℕ) → x .request ≡ 1 → Reads platform memory source (x .kind) → errorsOf platform memory x ≡ errorFlags (length source) (length memory) x
   unfolding errorsOf
-  asked-errors source a r = rw (eq-eqb (x .flags) 1 a, source-is source r)
+  asked-errors source a r = rw (eq-eqb (x .request) 1 a, source-is source r)
 
-  pub asked-actual : (source : List ℕ) → x .flags ≡ 1 → Reads platform memory source (x .kind) → actualOf platform memory x ≡ actualLength (length source) (length memory) x
+  pub asked-actual : (source : List ℕ) → x .request ≡ 1 → Reads platform memory source (x .kind) → actualOf platform memory x ≡ actualLength (length source) (length memory) x
   unfolding actualOf
-  asked-actual source a r = rw (eq-eqb (x .flags) 1 a, source-is source r)
+  asked-actual source a r = rw (eq-eqb (x .request) 1 a, source-is source r)
 
   flags-most : (source size : ℕ) → errorFlags source size x ≤ 30720
   unfolding errorFlags

@@ -118,7 +118,7 @@ module _ (platform memory copy : List ℕ) where
         record {
           flags = λ a source r. rw (errors-after k h ∙ asked-errors platform memory x source a r) (section-claims .each-flag (length source) (length memory) x);
           actual = λ a source r. actual-after k h ∙ asked-actual platform memory x source a r;
-          unasked = λ u. let none = not-asked platform memory x (ne-eqb (x .flags) 1 u) in (errors-after k h ∙ sym (none .flags), actual-after k h ∙ sym (none .bytes));
+          unasked = λ u. let none = not-asked platform memory x (ne-eqb (x .request) 1 u) in (errors-after k h ∙ sym (none .flags), actual-after k h ∙ sym (none .bytes));
         }
 
     in-order : InOrder platform memory left copy after

@@ -109,7 +109,7 @@ module _ (platform memory copy : List ℕ) where
   section-registered k =
       let at = place copy k in
       λ i. record {
-        flags = registered k 4 at (omega arith) i;
+        request = registered k 4 at (omega arith) i;
         kind = registered k 2 (at + 4) (omega arith) i;
         start = registered k 8 (at + 8) (omega arith) i;
         requested = registered k 8 (at + 16) (omega arith) i;

@@ -21,6 +21,8 @@ pub record FlagsExactly (flags source memory : ℕ) (s : Section) : Type 0 where
   pub length : Exactly (Set 8192 flags) (source < s .start + s .requested)
   pub destination : Exactly (Set 4096 flags) (memory ≤ s .destination)
   pub small : Exactly (Set 2048 flags) (memory - s .destination < min (s .requested) (source - s .start))
+  -- and no other bit
+  pub no-other : (flags % 2048 ≡ 0) × (flags < 32768)
 
 abbrev pub EachFlag : Type 0
 EachFlag = (source memory : ℕ) (s : Section) → FlagsExactly (errorFlags source memory s) source memory s
@@ -42,7 +44,7 @@ AllCopied = (source memory : ℕ) (s : Section) → errorFlags source memory s �
 -- a section over a source of 100 bytes and a memory of 1,000: its flags and its actual length
 abbrev pub reads : ℕ → ℕ → ℕ → ℕ → ℕ → Bool
 reads start requested destination flags actual =
-    let s : Section = record { flags = 1; kind = 1; start = start; requested = requested; destination = destination } in
+    let s : Section = record { request = 1; kind = 1; start = start; requested = requested; destination = destination } in
     eqb (errorFlags 100 1000 s) flags && eqb (actualLength 100 1000 s) actual
 
 abbrev pub SectionReadings : Type 0

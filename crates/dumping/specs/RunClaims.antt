@@ -34,7 +34,7 @@ Asked copy k = be32 copy (place copy k) ≡ 1
 abbrev pub sectionOf : List ℕ → ℕ → Section
 sectionOf copy k =
     let at = place copy k in
-    record { flags = be32 copy at; kind = be16 copy (at + 4); start = be64 copy (at + 8); requested = be64 copy (at + 16); destination = be64 copy (at + 32) }
+    record { request = be32 copy at; kind = be16 copy (at + 4); start = be64 copy (at + 8); requested = be64 copy (at + 16); destination = be64 copy (at + 32) }
 
 -- "types 1 and 2 read platform memory at a byte offset, the others partition memory at an address"
 pub record Reads (platform memory source : List ℕ) (kind : ℕ) : Type 0 where

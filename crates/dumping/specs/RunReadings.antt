@@ -51,6 +51,7 @@ same [] (y ∷ ys) = eqb 0 1
 same (x ∷ xs) [] = eqb 0 1
 same (x ∷ xs) (y ∷ ys) = eqb x y && same xs ys
 
+-- a verdict as its status without the sign
 abbrev pub number : Verdict → ℕ
 number Done = 0
 number Parameter = 3
@@ -100,7 +101,7 @@ copying =
     ∷ leaves (ran 2 (section 1 1 0 3 0 ++ section 1 17 0 3 5)) (101 ∷ 102 ∷ 103 ∷ 3 ∷ 4 ∷ 101 ∷ 102 ∷ 103 ∷ 8 ∷ 9 ∷ []) 32768
     ∷ leaves (ran 2 (section 1 17 0 2 4 ++ section 1 17 4 2 0)) (0 ∷ 1 ∷ 2 ∷ 3 ∷ 0 ∷ 1 ∷ 6 ∷ 7 ∷ 8 ∷ 9 ∷ []) 32768
     ∷ leaves (ran 2 (section 1 1 0 2 0 ++ section 1 1 2 1 1)) (101 ∷ 103 ∷ 2 ∷ 3 ∷ 4 ∷ 5 ∷ 6 ∷ 7 ∷ 8 ∷ 9 ∷ []) 32768
-    -- ten sections, each one byte further
+    -- ten sections
     ∷ tells (ran 10 (times 10 (section 1 17 0 1 5))) 9 0 1
     ∷ leaves (ran 10 (times 9 (section 1 17 0 1 5) ++ section 1 1 2 1 9)) (0 ∷ 1 ∷ 2 ∷ 3 ∷ 4 ∷ 0 ∷ 6 ∷ 7 ∷ 8 ∷ 103 ∷ []) 32768
     ∷ []

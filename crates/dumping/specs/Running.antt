@@ -20,7 +20,7 @@ use Rattle.dumping.specs.Section.{errorFlags, actualLength}
 
 abbrev pub sectionAt : List ℕ → ℕ → Section
 sectionAt s at =
-    record { flags = requestFlags s at; kind = sectionType s at; start = sectionSource s at; requested = sectionRequested s at; destination = sectionDestination s at }
+    record { request = requestFlags s at; kind = sectionType s at; start = sectionSource s at; requested = sectionRequested s at; destination = sectionDestination s at }
 
 -- 02: "types 1 and 2 read platform memory at a byte offset, the others partition memory at an address"
 unfoldable pub sourceOf : List ℕ → List ℕ → Section → List ℕ
@@ -28,7 +28,7 @@ sourceOf platform memory x = cond (eqb (x .kind) 1 || eqb (x .kind) 2) platform 
 
 -- "With request flag 1 the bytes go to the destination", "Sections without flag 1 count zero bytes and get no error flag."
 abbrev pub isAsked : Section → Bool
-isAsked x = eqb (x .flags) 1
+isAsked x = eqb (x .request) 1
 
 unfoldable pub errorsOf : List ℕ → List ℕ → Section → ℕ
 errorsOf platform memory x = cond (isAsked x) (errorFlags (length (sourceOf platform memory x)) (length memory) x) 0

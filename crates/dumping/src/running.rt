@@ -37,7 +37,7 @@ fn section_at(s: &[u8], at: usize) -> Section
     ensures { λ r. ⌜ r ≡ sectionAt (now (s .entry)) at ⌝ }
 {
     Section {
-        flags: words::read_be32(s, at),
+        request: words::read_be32(s, at),
         kind: words::read_be16(s, at + dump::SECTION_TYPE),
         start: words::read_be64(s, at + dump::SECTION_SOURCE),
         requested: words::read_be64(s, at + dump::SECTION_REQUESTED),
@@ -51,9 +51,9 @@ fn load_section(section: Section, memory: &mut [u8], platform: &[u8]) -> Copied
     ensures { λ r. ⌜ now (memory .exit) ≡ sets (now (memory .entry)) (section .destination) (take (r .actual) (drop (section .start) (now (platform .entry)))) ⌝ }
 {
     let source = platform.len() as u64;
-    let room = memory.len() as u64;
-    let errors = error_flags(source, room, section);
-    let actual = actual_length(source, room, section);
+    let size = memory.len() as u64;
+    let errors = error_flags(source, size, section);
+    let actual = actual_length(source, size, section);
     if actual < 1 {
         return Copied { errors, actual };
     }
@@ -68,9 +68,9 @@ fn move_section(section: Section, memory: &mut [u8]) -> Copied
     ensures { λ r. ⌜ (r .errors ≡ errorFlags (length (now (memory .entry))) (length (now (memory .entry))) section) × (r .actual ≡ actualLength (length (now (memory .entry))) (length (now (memory .entry))) section) ⌝ }
     ensures { λ r. ⌜ now (memory .exit) ≡ sets (now (memory .entry)) (section .destination) (take (r .actual) (drop (section .start) (now (memory .entry)))) ⌝ }
 {
-    let room = memory.len() as u64;
-    let errors = error_flags(room, room, section);
-    let actual = actual_length(room, room, section);
+    let size = memory.len() as u64;
+    let errors = error_flags(size, size, section);
+    let actual = actual_length(size, size, section);
     if actual < 1 {
         return Copied { errors, actual };
     }
@@ -95,7 +95,7 @@ fn copy_section(section: Section, memory: &mut [u8], platform: &[u8]) -> Copied
     ensures { λ r. ⌜ (r .errors ≡ errorsOf (now (platform .entry)) (now (memory .entry)) section) × (r .actual ≡ actualOf (now (platform .entry)) (now (memory .entry)) section) ⌝ }
     ensures { λ _. ⌜ now (memory .exit) ≡ memoryAfter (now (platform .entry)) (now (memory .entry)) section ⌝ }
 {
-    if section.flags != 1 {
+    if section.request != 1 {
         return Copied {
             errors: 0,
             actual: 0,

@@ -8,7 +8,7 @@ ghost use Rattle.dumping.specs.Claims.{SectionClaims};
 
 // A section of a structure: its request flags and type, where it begins to read, how many bytes it asks for, and where they go.
 pub struct Section {
-    pub flags: u32,
+    pub request: u32,
     pub kind: u16,
     pub start: u64,
     pub requested: u64,

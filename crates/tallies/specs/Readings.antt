@@ -114,6 +114,9 @@ appends =
     ∷ shows (appendOf (replicate 10 7) nothing gone) 0 gone 10 0
     ∷ shows (appendOf (replicate 11 7) nothing changed) 0 changed 11 0
     ∷ shows (appendOf (replicate 18 7) nothing (unit 16 1)) 0 (unit 16 1) 18 0
+    -- a phandle of 0 and a unit of 0 are as good as any
+    ∷ shows (appendOf (replicate 10 7) nothing (8 ∷ 0 ∷ 1 ∷ 0 ∷ 6 ∷ 0 ∷ 0 ∷ 0 ∷ 0 ∷ 0 ∷ [])) 0 (8 ∷ 0 ∷ 1 ∷ 0 ∷ 6 ∷ 0 ∷ 0 ∷ 0 ∷ 0 ∷ 0 ∷ []) 10 1
+    ∷ shows (appendOf (replicate 18 7) nothing (unit 15 0)) 0 (unit 15 0) 18 0
     -- malformed with no room
     ∷ shows (appendOf (replicate 3 7) nothing (delete 15)) 1 (replicate 3 7) 0 0
     -- a use beyond the buffer, and a count above the use, before malformed; a count equal to the use is taken

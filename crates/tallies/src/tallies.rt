@@ -11,7 +11,7 @@ pub struct Tallies {
     pub third: Counts,
 }
 
-// What a count of a whole buffer gives: whether it is good, and its tallies; where it is not, there are none.
+// What a count of a whole buffer gives: whether it is good, and where it is, its tallies.
 pub struct Recount {
     pub good: bool,
     pub tallies: Tallies,

@@ -3,12 +3,12 @@ use mathlib.Core.Path.{ap, _∙_}
 use borrow.Author.Needs.{needs}
 use Rattle.tallies.proofs.Claims.{tally-claims}
 use Rattle.draugsten_tallies.specs.Flat.{flatTallied}
-use Rattle.draugsten_tallies.proofs.Crossed.{crosses}
+use Rattle.draugsten_tallies.proofs.Crossed.{crossing-claims}
 use Rattle.draugsten_tallies.proofs.keeping.draugsten_tallies_cleared.Statement.{statement}
 use Rattle.draugsten_tallies.proofs.keeping.draugsten_tallies_cleared.Tie as tie
 
 returns : tie.Need-returns
-returns c = (c .flat-tallied .ensures ∙ ap flatTallied (c .before .cleared .ensures .0), (tally-claims, crosses))
+returns c = (c .flat-tallied .ensures ∙ ap flatTallied (c .before .cleared .ensures .0), (tally-claims, crossing-claims))
 
 pub draugsten-tallies-cleared-spec : {M : Type 1} → statement M
 draugsten-tallies-cleared-spec = tie.close (tie.spec (λ c κs. search needs) (λ c κs. search needs) returns)
