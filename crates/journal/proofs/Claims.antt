@@ -18,7 +18,8 @@ use Rattle.journal.specs.Property.{nameOf, valueOf, propertyFrame, goodP
 use Rattle.journal.specs.Journal.{goodFrame, nodeType, goodNode, goodRecord, operationOf, unitOf, wellFormed}
 use Rattle.journal.specs.Scope.{negative, rowOf, unitsOf}
 use Rattle.journal.specs.Reportable.{reports}
-use Rattle.journal.specs.Claims.{WellFormedCases, SizeLimit, ScopeRows, UnitReported, PropertiesPassed}
+use Rattle.journal.specs.Claims.{WellFormedCases, SizeLimit, ScopeRows, OperandsFree, UnitReported, PropertiesPassed}
+use Rattle.journal.proofs.PropertyLaws.{frame-kind}
 
 pub well-formed-cases : WellFormedCases
 unfolding wellFormed wellFormedBy goodRecord goodNode goodFrame nodeType goodProperty propertyFrame nameOf valueOf isEnded untilNul records recordsFrom whole allGood lengthOf kindOf le
@@ -52,6 +53,10 @@ unit-reported unit r good four = ⊎-elim
   where
     eq-or-above : 15 ≤ nodeType r → (nodeType r ≡ 15) ⊎ (15 < nodeType r)
     eq-or-above h = ⊎-elim (λ q. inl (sym q)) inr (eq-or-lt-of-le h)
+
+pub operands-free : OperandsFree
+unfolding goodRecord goodNode goodProperty
+operands-free r s few len kind node = rw (frame-kind (lengthOf r) (kindOf r) (omega arith), frame-kind (lengthOf s) (kindOf s) (omega arith), len, kind, node)
 
 pub properties-passed : PropertiesPassed
 unfolding reports

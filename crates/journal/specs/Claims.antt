@@ -7,8 +7,8 @@ use lib.Dec.{T, leb, eqb}
 use lib.ListN.{length, replicate}
 use Rattle.words.specs.Cases.{Case, yes, no, agree}
 use Rattle.words.specs.Numbers.{le}
-use Rattle.records.specs.Records.{kindOf, records, allGood}
-use Rattle.journal.specs.Journal.{within, goodRecord, entryOf, wellFormed}
+use Rattle.records.specs.Records.{lengthOf, kindOf, records, allGood}
+use Rattle.journal.specs.Journal.{within, nodeType, goodRecord, entryOf, wellFormed}
 use Rattle.journal.specs.Scope.{rowOf, Selection, selectionOf}
 use Rattle.journal.specs.Reportable.{reports}
 
@@ -114,6 +114,10 @@ WellFormedCases = T (agree wellFormed cases)
 -- 01: "Journal, at most 1,048,576 bytes", ".. or an oversized buffer is malformed."
 abbrev pub SizeLimit : Type 0
 SizeLimit = (j : List ℕ) → allGood goodRecord (records j) ≡ true → (length j ≤ 1048576 → wellFormed j ≡ true) × (1048576 < length j → wellFormed j ≡ false)
+
+-- Of kinds 1 to 4 length, kind and node type decide, whatever the operands and the unit are: every phandle and every unit address is as good as any.
+abbrev pub OperandsFree : Type 0
+OperandsFree = (r s : List ℕ) → kindOf r ≤ 4 → lengthOf r ≡ lengthOf s → kindOf r ≡ kindOf s → nodeType r ≡ nodeType s → goodRecord r ≡ goodRecord s
 
 -- 02, M-100: in scope 3 a call "reports only that unit's records": of good records of kind 4 those whose eight bytes are the unit's, as updates
 abbrev pub UnitReported : Type 0

@@ -5,20 +5,20 @@ use native.Mathlib.Omega.{arith}
 use lib.ListN.{length}
 use borrow.Author.Needs.{needs}
 use denote.Ref.{now}
-use Rattle.journal.proofs.Claims.{well-formed-cases, too-large, size-limit, unit-reported, properties-passed}
+use Rattle.journal.proofs.Claims.{well-formed-cases, too-large, size-limit, operands-free, unit-reported, properties-passed}
 use Rattle.journal.proofs.Limits.{property-limits}
 use Rattle.scanning.proofs.NoteLaws.{marked-none, marked-note, noted-length}
 use Rattle.scanning.proofs.Reaching.{position, reached-none, reached-end, malformed, advanced-bad, advanced-upto}
 use Rattle.journal.specs.Scope.{asking}
-use Rattle.journal.specs.Claims.{WellFormedCases, SizeLimit, PropertyLimits, UnitReported, PropertiesPassed}
+use Rattle.journal.specs.Claims.{WellFormedCases, SizeLimit, OperandsFree, PropertyLimits, UnitReported, PropertiesPassed}
 use Rattle.journal.specs.Marks.{Marked}
 use Rattle.scanning.specs.Terms.{Reached}
 use Rattle.journal.specs.declared.counts.Judgement.the-variants.{Counted}
 use Rattle.scanning.proofs.counting.scan.Statement.{statement}
 use Rattle.scanning.proofs.counting.scan.Tie as tie
 
-rules : WellFormedCases × SizeLimit × PropertyLimits × UnitReported × PropertiesPassed
-rules = (well-formed-cases, size-limit, property-limits, unit-reported, properties-passed)
+rules : WellFormedCases × SizeLimit × OperandsFree × PropertyLimits × UnitReported × PropertiesPassed
+rules = (well-formed-cases, size-limit, operands-free, property-limits, unit-reported, properties-passed)
 
 abbrev Inv-loop : tie.InvT-loop
 Inv-loop j row units marks₀ noted₀ weights at₀ counts₀ marks noted at counts = Reached (asking row units) j (position at counts) × Marked (asking row units) j marks noted × (length marks ≡ 128)
