@@ -3,22 +3,23 @@ use mathlib.Core.Path.{_≡_, refl, sym, _∙_}
 use mathlib.Core.Bool.{Bool, true, false, _&&_, true≢false}
 use mathlib.Core.List.{List}
 use mathlib.Core.Logic.{_⊎_, inl, inr, ⊎-elim}
-use Prim.Native.Nat.{ℕ, _+_, _<_}
+use Prim.Native.Nat.{ℕ, _+_, _≤_, _<_}
 use native.Mathlib.Omega.{arith}
 use lib.Dec.{leb}
 use lib.ListN.{length}
-use borrow.Author.Tests.{leb-false, lt-leb, le-leb, ne-eqb}
-use Rattle.words.proofs.Choice.{decide, and-left}
+use borrow.Author.Tests.{leb-true, leb-false, lt-leb, le-leb, ne-eqb}
+use Rattle.words.proofs.Choice.{decide, and-left, and-right}
 use Rattle.records.specs.Records.{whole, sizeLimit}
 use Rattle.records.proofs.Joining.{one-record}
+use Rattle.journal.specs.declared.counts.Counts.{Counts}
 use Rattle.journal.specs.Journal.{wellFormed}
 use Rattle.journal.specs.Scope.{rows, rowOf, negative, unitsOf}
 use Rattle.journal.proofs.Joins.{one-formed, only-record}
 use Rattle.journal.proofs.Claims.{too-large}
 use Rattle.tallies.specs.declared.keeping.Tallied.{Tallied}
-use Rattle.tallies.specs.Tallies.{recountOf, recountFor, talliesWithin}
+use Rattle.tallies.specs.Tallies.{recountOf, recountFor, countSum, countsWithin, talliesWithin}
 use Rattle.tallies.specs.Keeping.{fits, hasRoom, oneRecord, attached}
-use Rattle.tallies.specs.Claims.{Exactly, OneGood, AttachedExactly, EachAppend, EachRecount, RowsOfScopes, RecountClaims, TallyClaims}
+use Rattle.tallies.specs.Claims.{Exactly, OneGood, AttachedExactly, CountsBelow, EachWithin, CountsAdd, EachSum, EachAppend, EachRecount, RowsOfScopes, RecountClaims, TallyClaims}
 use Rattle.tallies.proofs.Outcomes.{attach-judged, attach-done, attach-refused}
 use Rattle.tallies.proofs.Kept.{tallies-kept, append-keeps, join-keeps, clear-keeps, kept-is-fit}
 use Rattle.tallies.proofs.Readings.{tally-readings}
@@ -39,6 +40,38 @@ fails t f = (λ e p. true≢false (sym (f .1 p) ∙ e), λ n. decide t (λ e. ab
 
 above : (n limit : ℕ) → Exactly (leb n limit ≡ false) (limit < n)
 above n limit = (leb-false n limit, lt-leb n limit)
+
+-- both of two tests hold
+both : {P Q : Type 0} (a b : Bool) → Exactly (a ≡ true) P → Exactly (b ≡ true) Q → Exactly ((a && b) ≡ true) (P × Q)
+both a b f g = (λ e. (f .0 (and-left a b e), g .0 (and-right a b e)), λ p. rw (f .1 (p .0)) (g .1 (p .1)))
+
+at-most : (n limit : ℕ) → Exactly (leb n limit ≡ true) (n ≤ limit)
+at-most n limit = (leb-true n limit, le-leb n limit)
+
+-- ---- counts, row by row
+
+below : (limit : ℕ) (c : Counts) → Exactly (countsWithin limit c ≡ true) (CountsBelow limit c)
+below limit c =
+    let e = both (leb (c .deletes) limit) _ (at-most (c .deletes) limit) (both (leb (c .updates) limit) (leb (c .additions) limit) (at-most (c .updates) limit) (at-most (c .additions) limit)) in
+    (λ h. let p = e .0 h in record { deletes = p .0; updates = p .1 .0; additions = p .1 .1 }, λ p. e .1 (p .deletes, (p .updates, p .additions)))
+
+each-within : EachWithin
+unfolding talliesWithin
+each-within limit t =
+    both (countsWithin limit (t .negative)) _ (below limit (t .negative)) (both (countsWithin limit (t .first)) _ (below limit (t .first))
+    (both (countsWithin limit (t .second)) (countsWithin limit (t .third)) (below limit (t .second)) (below limit (t .third))))
+
+counts-add : (a b : Counts) → CountsAdd a b (countSum a b)
+counts-add a b = record { deletes = refl; updates = refl; additions = refl }
+
+each-sum : EachSum
+each-sum a b =
+    record {
+      negative = counts-add (a .negative) (b .negative);
+      first = counts-add (a .first) (b .first);
+      second = counts-add (a .second) (b .second);
+      third = counts-add (a .third) (b .third);
+    }
 
 -- ---- an append
 
@@ -96,4 +129,4 @@ pub recount-claims : RecountClaims
 recount-claims = record { each-recount = each-recount; rows-of-scopes = rows-of-scopes; readings = tally-readings }
 
 pub tally-claims : TallyClaims
-tally-claims = record { tallies-kept = tallies-kept; append-keeps = append-keeps; join-keeps = join-keeps; clear-keeps = clear-keeps; each-append = each-append; kept-is-fit = kept-is-fit; recounts = recount-claims }
+tally-claims = record { tallies-kept = tallies-kept; append-keeps = append-keeps; join-keeps = join-keeps; clear-keeps = clear-keeps; each-append = each-append; each-within = each-within; each-sum = each-sum; kept-is-fit = kept-is-fit; recounts = recount-claims }

@@ -114,7 +114,7 @@ unfolding behind
 joined-to-nothing buffer b formed h =
     let k = fresh-counted buffer in
     let room : Room (fresh buffer) (length b) = record { lent = omega arith; limit = omega (arith, within-limit b formed) } in
-    (join-taken (fresh buffer) k b formed room .1, ap (λ (s : Standing). s .journal .tallies) (joined-is (fresh buffer) k b formed room) ∙ simp zero-add)
+    (taken (fresh buffer) k b formed room, (join-taken (fresh buffer) k b formed room .1, ap (λ (s : Standing). s .journal .tallies) (joined-is (fresh buffer) k b formed room) ∙ simp zero-add))
 
 -- ---- a part that was counted
 
@@ -133,7 +133,7 @@ each-join b t part = attached-exactly (wellFormed part ≡ true) part (wellForme
 
 join-readings : JoinReadings
 unfolding le untilNul isEnded lengthOf kindOf recordsFrom records whole allGood wellFormedBy chosenBy nameOf valueOf propertyFrame goodProperty goodFrame nodeType goodNode goodRecord
-    wellFormed operationOf unitOf entries rows reports recountOf talliesWithin fits hasRoom outcomeOf attached
+    wellFormed operationOf unitOf entries rows negative rowOf unitsOf reports recountOf talliesWithin fits hasRoom outcomeOf attached
 join-readings = tt
 
 pub join-claims : JoinClaims

@@ -1,4 +1,4 @@
--- What is claimed of tallies, cited by the contracts of `append`, `cleared` and `recount` (document 02, M-106).
+-- What is claimed of tallies, cited by the contracts of `append`, `join` and `cleared`, and of the recount by that of `recount` (document 02, M-106).
 use Prim.Native.Nat.{ℕ, _+_, _≤_, _<_}
 use mathlib.Core.Path.{_≡_}
 use mathlib.Core.Bool.{true, false}
@@ -7,10 +7,12 @@ use mathlib.Core.Logic.{_⊎_}
 use lib.ListN.{length}
 use lib.Seq.{sets}
 use Rattle.records.specs.Records.{records}
+use Rattle.journal.specs.declared.counts.Counts.{Counts}
 use Rattle.journal.specs.declared.scope.Units.the-variants.{All}
 use Rattle.journal.specs.Journal.{wellFormed}
 use Rattle.journal.specs.Scope.{rowOf, asking, selectionOf}
 use Rattle.journal.specs.Reportable.{countsOf}
+use Rattle.tallies.specs.declared.tallies.Tallies.{Tallies}
 use Rattle.tallies.specs.declared.keeping.Tallied.{Tallied}
 use Rattle.tallies.specs.declared.keeping.Outcome.the-variants.{Done, Malformed, NoRoom, Unfit}
 use Rattle.tallies.specs.Tallies.{noTallies, recountOf, recountFor, tallySum, talliesWithin}
@@ -55,6 +57,32 @@ pub record AttachedExactly (Good : Type 0) (b : List ℕ) (t : Tallied) (part : 
 abbrev pub EachAppend : Type 0
 EachAppend = (b : List ℕ) (t : Tallied) (r : List ℕ) → AttachedExactly (OneGood r) b t r (appendOf b t r)
 
+-- a count above the use, row by row and opcode by opcode
+pub record CountsBelow (limit : ℕ) (c : Counts) : Type 0 where
+  pub deletes : c .deletes ≤ limit
+  pub updates : c .updates ≤ limit
+  pub additions : c .additions ≤ limit
+
+abbrev pub EachWithin : Type 0
+EachWithin =
+    (limit : ℕ) (t : Tallies) → Exactly (talliesWithin limit t ≡ true)
+    (CountsBelow limit (t .negative) × (CountsBelow limit (t .first) × (CountsBelow limit (t .second) × CountsBelow limit (t .third))))
+
+-- each count of a sum is the sum of the two counts of its row and opcode
+pub record CountsAdd (a b c : Counts) : Type 0 where
+  pub deletes : c .deletes ≡ a .deletes + b .deletes
+  pub updates : c .updates ≡ a .updates + b .updates
+  pub additions : c .additions ≡ a .additions + b .additions
+
+pub record TalliesAdd (a b c : Tallies) : Type 0 where
+  pub negative : CountsAdd (a .negative) (b .negative) (c .negative)
+  pub first : CountsAdd (a .first) (b .first) (c .first)
+  pub second : CountsAdd (a .second) (b .second) (c .second)
+  pub third : CountsAdd (a .third) (b .third) (c .third)
+
+abbrev pub EachSum : Type 0
+EachSum = (a b : Tallies) → TalliesAdd a b (tallySum a b)
+
 -- Over tallies that are kept nothing is unfit.
 abbrev pub KeptIsFit : Type 0
 KeptIsFit = (s : Standing) → Counted s → (r : List ℕ) → appendOf (s .buffer) (s .journal) r .outcome ≡ Unfit → ⊥
@@ -87,5 +115,7 @@ pub record TallyClaims : Type 0 where
   pub join-keeps : JoinKeeps
   pub clear-keeps : ClearKeeps
   pub each-append : EachAppend
+  pub each-within : EachWithin
+  pub each-sum : EachSum
   pub kept-is-fit : KeptIsFit
   pub recounts : RecountClaims

@@ -7,13 +7,14 @@ use lib.Dec.{T, eqb}
 use lib.ListN.{length, replicate}
 use Rattle.words.specs.Cases.{all}
 use Rattle.records.specs.Records.{records}
-use Rattle.journal.specs.Journal.{wellFormed, entries}
+use Rattle.journal.specs.declared.operation.Operation.{Operation}
+use Rattle.journal.specs.Journal.{wellFormed, operands, entries}
 use Rattle.journal.specs.Scope.{selectionOf}
 use Rattle.journal.specs.Reportable.{chosen, reportable}
 use Rattle.tallies.specs.declared.keeping.Tallied.{Tallied}
 use Rattle.tallies.specs.declared.keeping.Outcome.the-variants.{Done, Unfit}
 use Rattle.tallies.specs.Tallies.{recountOf, tallySum}
-use Rattle.tallies.specs.Keeping.{joinOf}
+use Rattle.tallies.specs.Keeping.{nothing, joinOf}
 use Rattle.tallies.specs.Sessions.{Standing, inUse, Counted, fresh, joining}
 use Rattle.tallies.specs.Claims.{AttachedExactly}
 use Rattle.tallies.specs.Readings.{delete, update, addition, unit, changed, same, tells, number}
@@ -73,37 +74,48 @@ NothingJoined = (s : Standing) → Counted s → (joinOf (s .buffer) (s .journal
 abbrev pub JoinedToNothing : Type 0
 JoinedToNothing =
     (buffer b : List ℕ) → wellFormed b ≡ true → length b ≤ length buffer
-    → (inUse (joining b (fresh buffer)) ≡ b) × (joining b (fresh buffer) .journal .tallies ≡ recountOf b)
+    → (joinOf buffer nothing b .outcome ≡ Done) × ((inUse (joining b (fresh buffer)) ≡ b) × (joining b (fresh buffer) .journal .tallies ≡ recountOf b))
 
 abbrev pub KeptIsFitToJoin : Type 0
 KeptIsFitToJoin = (s : Standing) → Counted s → (part : List ℕ) → joinOf (s .buffer) (s .journal) part .outcome ≡ Unfit → ⊥
 
 -- ---- in bytes: three journals joined both ways
 
-abbrev pub first : List ℕ
-first = delete 10 ++ update 3
+abbrev pub january : List ℕ
+january = delete 10 ++ update 3
 
-abbrev pub second : List ℕ
-second = changed ++ addition 12
+abbrev pub june : List ℕ
+june = changed ++ addition 12
 
-abbrev pub third : List ℕ
-third = unit 15 7 ++ delete 10
+abbrev pub july : List ℕ
+july = unit 15 7 ++ delete 10
+
+-- a delete of the node with a phandle, and the operands of operations
+abbrev pub deleted : ℕ → List ℕ
+deleted phandle = 8 ∷ 0 ∷ 1 ∷ 0 ∷ 6 ∷ 0 ∷ phandle ∷ 0 ∷ 0 ∷ 0 ∷ []
+
+abbrev pub phandles : List Operation → List ℕ
+phandles [] = []
+phandles (o ∷ os) = operands o ++ phandles os
 
 abbrev pub bothWays : List Bool
 bothWays =
-    let a = joining first (fresh (replicate 90 7)) in
-    let left = joining third (joining second a) in
-    let right = joining (second ++ third) a in
-    let whole = first ++ (second ++ third) in
+    let a = joining january (fresh (replicate 90 7)) in
+    let left = joining july (joining june a) in
+    let right = joining (june ++ july) a in
+    let whole = january ++ (june ++ july) in
     same (inUse left) whole
     ∷ same (left .buffer) (right .buffer)
     ∷ (eqb (left .journal .used) 73 && eqb (right .journal .used) 73)
     ∷ tells (left .journal .tallies) (2 ∷ 0 ∷ 1 ∷ 2 ∷ 1 ∷ 1 ∷ 0 ∷ 1 ∷ 0 ∷ 0 ∷ 1 ∷ 0 ∷ [])
     ∷ tells (right .journal .tallies) (2 ∷ 0 ∷ 1 ∷ 2 ∷ 1 ∷ 1 ∷ 0 ∷ 1 ∷ 0 ∷ 0 ∷ 1 ∷ 0 ∷ [])
+    -- the list of an opcode, in order
+    ∷ same (phandles (chosen (selectionOf 1 0) 1 (entries (inUse (joining (deleted 3) (joining (deleted 2) (joining (deleted 1) (fresh (replicate 30 7))))))))) (1 ∷ 2 ∷ 3 ∷ [])
+    ∷ same (phandles (chosen (selectionOf 1 0) 1 (entries (inUse (joining (deleted 2 ++ deleted 3) (joining (deleted 1) (fresh (replicate 30 7)))))))) (1 ∷ 2 ∷ 3 ∷ [])
     -- exactly full, and one byte short; a part with a byte more
-    ∷ eqb (number (joinOf (replicate 20 7) (fresh [] .journal) first .outcome)) 0
-    ∷ eqb (number (joinOf (replicate 19 7) (fresh [] .journal) first .outcome)) 2
-    ∷ eqb (number (joinOf (replicate 19 7) (fresh [] .journal) (first ++ (0 ∷ [])) .outcome)) 1
+    ∷ eqb (number (joinOf (replicate 20 7) nothing january .outcome)) 0
+    ∷ eqb (number (joinOf (replicate 19 7) nothing january .outcome)) 2
+    ∷ eqb (number (joinOf (replicate 19 7) nothing (january ++ (0 ∷ [])) .outcome)) 1
     ∷ []
 
 abbrev pub JoinReadings : Type 0
