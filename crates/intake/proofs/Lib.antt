@@ -1,0 +1,5 @@
+pub mod Readings
+pub mod Fronts
+pub mod Steps
+pub mod Standings
+pub mod Claims

@@ -1,0 +1,5 @@
+pub mod Taking
+pub mod Bursts
+pub mod Terms
+pub mod Readings
+pub mod Claims
