@@ -3,3 +3,4 @@ pub mod Fronts
 pub mod Steps
 pub mod Standings
 pub mod Claims
+pub mod Taken

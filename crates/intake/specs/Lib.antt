@@ -3,3 +3,4 @@ pub mod Bursts
 pub mod Terms
 pub mod Readings
 pub mod Claims
+pub mod States

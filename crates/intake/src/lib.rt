@@ -1,6 +1,7 @@
 // A journal that arrives in bursts, which may break anywhere: complete records go to a tallied journal in a lent buffer.
 mod bursts;
 mod filling;
+mod states;
 mod taking;
 
 pub use bursts::Ending;
@@ -8,3 +9,5 @@ pub use bursts::Intake;
 pub use bursts::burst;
 pub use bursts::end;
 pub use bursts::start;
+pub use states::is_ready;
+pub use taking::Place;

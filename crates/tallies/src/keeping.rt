@@ -47,7 +47,7 @@ pub fn cleared() -> Tallied
 }
 
 // Whether the use and the tallies can be those of a journal in a buffer of this size.
-fn is_fit(size: usize, journal: Tallied) -> bool
+pub fn is_fit(size: usize, journal: Tallied) -> bool
     ensures { λ r. ⌜ r ≡ fits size journal ⌝ }
 {
     if size < journal.used {
