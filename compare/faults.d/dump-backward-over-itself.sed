@@ -1,0 +1,1 @@
+s/^    for (place, byte) in (0..).zip(held) {$/    for (place, byte) in (0..actual).rev().map(|place| (place, held[place as usize])) { let byte = if section.reads_platform() { byte } else { memory[(section.source + place) as usize] };/

@@ -1,0 +1,1 @@
+s/^    Ok(Registration { phase: Phase::Active, length: registration.length, copy })$/    copy[registration.length as usize..].fill(0); Ok(Registration { phase: Phase::Active, length: registration.length, copy })/

@@ -1,0 +1,1 @@
+s/^        memory\[(section.destination + place) as usize\] = byte;$/        memory[(section.destination + place) as usize] = if section.reads_platform() { byte } else { memory[(section.source + place) as usize] };/

@@ -1,0 +1,1 @@
+s/^    let actual = has.min(room);$/    let actual = if has > room { 0 } else { has };/

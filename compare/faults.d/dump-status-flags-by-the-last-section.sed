@@ -1,0 +1,1 @@
+s/if errors.contains(&true) {/if errors.last() == Some(\&true) {/
