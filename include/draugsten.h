@@ -1,8 +1,10 @@
 /*
  * Draugsten: the RTAS calls ibm,update-nodes, ibm,get-indices, ibm,configure-kernel-dump and ibm,update-properties on the
- * platform's side, the replay of a recorded session of them, totals over such sessions, and readers of the work areas that
- * all but the dump fill. Link libdraugsten.a, and libdraugsten_replay.a for the functions of the replay and of the month;
- * both are for x86-64, and neither needs the other.
+ * platform's side, the run of a registered kernel dump, the replay of a recorded session of calls, totals over such
+ * sessions, a journal that is kept with its tallies, forecasts from these, and readers of the work areas that all but the
+ * dump fill. Link libdraugsten.a, libdraugsten_dump.a for draugsten_run_dump, libdraugsten_replay.a for the functions of the
+ * replay and of the month, and libdraugsten_tallies.a for those of the tallies and draugsten_forecast; all are for x86-64,
+ * and none needs another.
  *
  * For every function:
  * - It takes any contents and any lengths, and returns.
@@ -13,7 +15,8 @@
  *   several threads, where none writes a buffer that another one uses.
  *
  * For firmware, of each archive as it is built (tests/link holds it to this):
- * - It needs two symbols, memcpy and memset, and nothing else of a C library.
+ * - It needs two symbols and nothing else of a C library: libdraugsten_dump.a memcpy and memmove, libdraugsten.a and
+ *   libdraugsten_replay.a memcpy and memset. libdraugsten_tallies.a needs none.
  * - It is code and constants for any x86-64, position independent, with the System V calling convention. It uses the
  *   registers xmm0 to xmm15 as SSE2 has them, no AVX and no x87. It may write up to 128 bytes below the stack pointer (the
  *   red zone), so an interrupt that runs on the same stack has to leave these.
@@ -54,13 +57,14 @@ extern "C" {
 
 /*
  * Bytes of stack that a function takes, with its return address and what it writes below the stack pointer, but without
- * its arguments and its result, which the caller has on its own stack, and without what memcpy and memset take. There is
- * no recursion, so it depends on no buffer. tests/stack.c measures them; they are stated with room.
+ * its arguments and its result, which the caller has on its own stack, and without what memcpy, memmove and memset take.
+ * There is no recursion, so it depends on no buffer. tests/stack.c measures them; they are stated with room.
  */
 #define DRAUGSTEN_STACK_CALL 6144
 #define DRAUGSTEN_STACK_NO_REGISTRATION 128
 #define DRAUGSTEN_STACK_NO_READING 128
 #define DRAUGSTEN_STACK_EDIT 128
+#define DRAUGSTEN_STACK_RUN_DUMP 1536
 #define DRAUGSTEN_STACK_REPLAY_START 128
 #define DRAUGSTEN_STACK_REPLAY_FEED 11264
 #define DRAUGSTEN_STACK_REPLAY_END 1024
@@ -69,6 +73,11 @@ extern "C" {
 #define DRAUGSTEN_STACK_MONTH_ADD 3072
 #define DRAUGSTEN_STACK_MONTH_MERGE 1536
 #define DRAUGSTEN_STACK_MONTH_SHARE 128
+#define DRAUGSTEN_STACK_TALLIES_CLEARED 128
+#define DRAUGSTEN_STACK_TALLIES_APPEND 512
+#define DRAUGSTEN_STACK_TALLIES_JOIN 768
+#define DRAUGSTEN_STACK_TALLIES_RECOUNT 512
+#define DRAUGSTEN_STACK_FORECAST 128
 #define DRAUGSTEN_STACK_READ_NODES 256
 #define DRAUGSTEN_STACK_READ_INDICES 256
 #define DRAUGSTEN_STACK_READ_PROPERTIES 256
@@ -114,14 +123,14 @@ enum draugsten_command {
 enum draugsten_phase {
     DRAUGSTEN_PHASE_NONE = 0,
     DRAUGSTEN_PHASE_REGISTERED = 1,
-    DRAUGSTEN_PHASE_ACTIVE = 2                  /* no call makes a registration active */
+    DRAUGSTEN_PHASE_ACTIVE = 2                  /* the dump ran: draugsten_run_dump makes it active, and no call does */
 };
 
 /* A partition's kernel dump registration. */
 struct draugsten_registration {
     uint32_t phase;                             /* enum draugsten_phase */
     size_t length;                              /* bytes of the copied structure, 0 to 512 */
-    uint8_t copy[DRAUGSTEN_STRUCTURE_LIMIT];    /* the structure, then zero bytes */
+    uint8_t copy[DRAUGSTEN_STRUCTURE_LIMIT];    /* the structure, after a run with what came of it; then zero bytes */
 };
 
 /*
@@ -137,7 +146,8 @@ struct draugsten_reading {
 
 /*
  * What a call gives. The platform keeps the registration and the reading record, one of each for each partition, and gives
- * each call those that the partition's call before it handed back. So the calls of one partition come one after the other.
+ * each call those that the partition's call before it handed back; a run of its dump takes the registration and hands it
+ * back as a call does. So the calls and runs of one partition come one after the other.
  */
 struct draugsten_answer {
     uint32_t number;                            /* enum draugsten_number */
@@ -197,7 +207,7 @@ struct draugsten_edited draugsten_edit(uint32_t edition);
  * inventory  What get-indices lists; no other call looks at it. Records, little-endian: length (2), kind 16 (2),
  *            0 indicator or 1 sensor (2), type (4), index (4), location code (1 to 1,023 bytes, none zero).
  * edition    The edition of this inventory. Only get-indices looks at it.
- * registration  As the partition's last call gave it. Only an answered configure-kernel-dump changes it.
+ * registration  As the partition's last call or run gave it. Only an answered configure-kernel-dump changes it.
  * reading    The reading record, as the partition's last call gave it; no other call than get-indices looks at it. With
  *            status 1 a get-indices makes it name the flag, the type, the Next Starting Number and the edition; with 0 or
  *            -4 it clears it to no reading in progress. With any other status, and by any other call, it stays.
@@ -230,6 +240,54 @@ struct draugsten_answer draugsten_call(uint8_t *args, size_t args_length, uint8_
                                        const uint8_t *journal, size_t journal_length, const uint8_t *inventory,
                                        size_t inventory_length, uint32_t edition,
                                        struct draugsten_registration registration, struct draugsten_reading reading);
+
+/* ---- the run of a dump */
+
+/* The status flags of a dump that ran, in the header of the copied structure. */
+#define DRAUGSTEN_DUMP_PERFORMED 0x8000u
+#define DRAUGSTEN_DUMP_ERROR 0x2000u                        /* a section has an error flag */
+
+/* The error flags of a section, each set where it applies, whatever the others are. */
+#define DRAUGSTEN_SECTION_SOURCE 0x4000u                    /* the source starts at or past the end of its buffer */
+#define DRAUGSTEN_SECTION_LENGTH 0x2000u                    /* start plus requested length is past that end */
+#define DRAUGSTEN_SECTION_DESTINATION 0x1000u               /* the destination starts at or past the end of memory */
+#define DRAUGSTEN_SECTION_ROOM 0x0800u                      /* memory has less room there than the source has bytes */
+
+/* What a run gives. */
+struct draugsten_run {
+    uint32_t number;                            /* DRAUGSTEN_NUMBER_STATUS or DRAUGSTEN_NUMBER_NO_REGISTRATION */
+    uint32_t status;                            /* DRAUGSTEN_STATUS_DONE, _PARAMETER or _DUMP_ACTIVE; -3 with 13 */
+    struct draugsten_registration registration; /* the one to give the partition's next call */
+};
+
+/*
+ * Runs the registered kernel dump of a partition, as the platform does when the partition goes down. No argument buffer
+ * asks for it. The checks come in this order: what is no registration (number 13); an active one (-10); none, and a copy
+ * whose first `length` bytes are no good structure (-3). With any of these nothing changes.
+ *
+ * The structure, big-endian, by the offsets of its header: version (4 bytes at 0), number of sections (2 at 4), status
+ * flags (2 at 6), offset of the first section (4 at 8), block size (4 at 12), first block (8 at 16), blocks (8 at 24),
+ * path offset (4 at 32), milliseconds (4 at 36). Each section has 40 bytes, and they follow each other: request flags (4
+ * bytes at 0), type (2 at 4), error flags (2 at 6), source (8 at 8), requested length (8 at 16), actual length (8 at 24),
+ * destination (8 at 32).
+ *
+ * Each section with request flag 1, in order, copies bytes to its destination, an address in partition memory. Those of
+ * types 1 and 2 come from platform memory, where the source is a byte offset, and those of every other type from
+ * partition memory, where it is an address. As many are copied as are requested, as the source has from its start on, and
+ * as there is room for from the destination on; this is the actual length. The destination gets what the source held when
+ * the section began, also where the two overlap; what earlier sections copied is there already. A section without request
+ * flag 1 copies nothing, and has no error flag. No sum of a start and a length wraps.
+ *
+ * registration   As the partition's last call gave it. After a run it is active, with the same length, and its copy has
+ *                the actual length and the error flags of each section, and in the header's status flags 0x8000 and,
+ *                where a section has an error flag, 0x2000. Never: any other byte of the copy. configure-kernel-dump then
+ *                gives -10 for the commands 1 and 2, and command 3 completes the dump.
+ * memory         The partition's memory, from address 0 on. Written: the bytes at the destination of each section, as
+ *                many as its actual length says. Never: any other byte; so the structure there is not updated.
+ * platform       The platform's memory. Only read.
+ */
+struct draugsten_run draugsten_run_dump(struct draugsten_registration registration, uint8_t *memory,
+                                        size_t memory_length, const uint8_t *platform, size_t platform_length);
 
 /* ---- replays */
 
@@ -429,6 +487,111 @@ struct draugsten_merged draugsten_month_merge(struct draugsten_totals totals, st
 
 /* The share of the available words that were used: 0 over 1 where no call of update-nodes was answered. */
 struct draugsten_share draugsten_month_share(struct draugsten_totals totals);
+
+/* ---- tallies */
+
+/*
+ * A journal that is kept in a lent buffer, of which a number of bytes are in use, and beside it its tallies: how many
+ * operations each scope holds, by opcode. A journal starts with what draugsten_tallies_cleared gives; records are appended
+ * and whole journals joined to it, and each operation is given the buffer, the use and the tallies that the one before it
+ * left. Where nobody else writes any of them, the bytes in use are a well-formed journal after every operation, and its
+ * tallies are those of draugsten_tallies_recount; bytes of the buffer behind the use may be any, and may change.
+ *
+ * The checks come in this order: 52; 50; 51. With any number but 0 use and tallies are handed back as they came, and no
+ * byte of the buffer changes.
+ */
+enum draugsten_tallies_number {
+    DRAUGSTEN_TALLIES_DONE = 0,
+    DRAUGSTEN_TALLIES_MALFORMED = 50,           /* what is given is not one good record, or not a well-formed journal */
+    DRAUGSTEN_TALLIES_NO_ROOM = 51,             /* it would pass the buffer's end, or 1,048,576 bytes */
+    DRAUGSTEN_TALLIES_NO_JOURNAL = 52           /* more bytes in use than the buffer has, or a count above the use */
+};
+
+/* How many operations of each opcode a scope holds. */
+struct draugsten_tally {
+    uint64_t deletes;
+    uint64_t updates;
+    uint64_t additions;
+};
+
+/*
+ * The tallies of a journal. Records of kind 4 are updates of scope 3 and of no other; records of kinds 5 and 6 are counted
+ * nowhere.
+ */
+struct draugsten_tallies {
+    struct draugsten_tally negative;            /* any negative scope */
+    struct draugsten_tally first;               /* scope 1 */
+    struct draugsten_tally second;              /* scope 2 */
+    struct draugsten_tally third;               /* scope 3, all units together */
+};
+
+/* What is kept beside the buffer of a journal. Keep it as it is handed back. */
+struct draugsten_tallied {
+    size_t used;                                /* bytes in use, from the buffer's front on */
+    struct draugsten_tallies tallies;           /* of the journal that they are */
+};
+
+/* What an operation gives. */
+struct draugsten_kept {
+    uint32_t number;                            /* enum draugsten_tallies_number */
+    struct draugsten_tallied journal;           /* the one to give the next operation */
+};
+
+/* What counting a whole journal anew gives. */
+struct draugsten_recount {
+    uint32_t number;                            /* DRAUGSTEN_TALLIES_DONE or DRAUGSTEN_TALLIES_MALFORMED */
+    struct draugsten_tallies tallies;           /* of the journal; all zero, where it is malformed */
+};
+
+/*
+ * What update-nodes would answer. With tallies that no journal has, the next state can pass 2^32 - 1, so it has 64 bits.
+ */
+struct draugsten_forecast_answer {
+    uint32_t status;                            /* DRAUGSTEN_STATUS_DONE, _CALL_AGAIN or _PARAMETER */
+    uint64_t next;                              /* with status 1 the state that the call would leave; otherwise 0 */
+};
+
+/*
+ * The use and the tallies of an empty journal: 0 bytes, and zero counts. A journal starts with them, and is cleared by going
+ * on with them; no byte of its buffer changes by that.
+ */
+struct draugsten_tallied draugsten_tallies_cleared(void);
+
+/*
+ * Appends one record to a journal. What it takes does not depend on the bytes in use: none of them is looked at.
+ *
+ * buffer   Where the journal stands, from the front on. Written, with number 0: the bytes of the record, right behind those
+ *          in use. Never: any other byte. Exactly full is room: of the buffer, and of the 1,048,576 bytes of a journal.
+ * journal  As the operation before it gave it. A use above the buffer's length is refused with 52, and so is a count above
+ *          the use. A use above 1,048,576 bytes in a longer buffer has no room for a record.
+ * record   Exactly one record of kinds 1 to 6, as draugsten_call takes it in a journal; no bytes, two records, or a record
+ *          and a byte more are malformed. Only read.
+ */
+struct draugsten_kept draugsten_tallies_append(uint8_t *buffer, size_t buffer_length, struct draugsten_tallied journal,
+                                               const uint8_t *record, size_t record_length);
+
+/*
+ * Joins a whole journal to a journal, end to end, and adds its tallies. What is in use already is not counted anew.
+ *
+ * buffer, journal  As draugsten_tallies_append takes them. Written, with number 0: the bytes of the part, right behind those
+ *                  in use. Never: any other byte.
+ * part             A well-formed journal; one of more than 1,048,576 bytes is malformed. An empty one is joined, where the
+ *                  use is at most 1,048,576 bytes, and changes nothing. Only read.
+ */
+struct draugsten_kept draugsten_tallies_join(uint8_t *buffer, size_t buffer_length, struct draugsten_tallied journal,
+                                             const uint8_t *part, size_t part_length);
+
+/* The tallies of a journal, counted anew in one pass. It is only read. */
+struct draugsten_recount draugsten_tallies_recount(const uint8_t *journal, size_t journal_length);
+
+/*
+ * What an update-nodes call would answer in this scope from this state on, told from the tallies of its journal alone: the
+ * status of the call on a good address and zero reserved bytes, and the state that it would leave. Scopes are as in an
+ * argument buffer: 0x80000000 and above are negative. All scopes but the negative ones, 1 and 2 get -3, scope 3 too, since
+ * its tallies are over all units. Any tallies are taken, and no sum of them wraps: the answer is that of a list with so many
+ * operations.
+ */
+struct draugsten_forecast_answer draugsten_forecast(struct draugsten_tallies tallies, uint32_t scope, uint32_t state);
 
 /* ---- readers */
 

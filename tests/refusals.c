@@ -1,7 +1,8 @@
 /*
- * Makes feeds and ends that the replay refuses, and feeds, additions and merges that the month does, and some beside them
- * that are taken: each has to give its number, and a refused one the replay, its counts or the totals as they were, with no
- * byte of any buffer changed. Holds the structures of the month to their layout. Exits with 1 where something is not so.
+ * Makes feeds and ends that the replay refuses, feeds, additions and merges that the month does, and runs of a dump that are
+ * refused, and some beside them that are taken: each has to give its number, and a refused one the replay, its counts, the
+ * totals or the registration as they were, with no byte of any buffer changed. Holds the structures of the month and of the
+ * run to their layout. Exits with 1 where something is not so.
  */
 #include "draugsten.h"
 
@@ -309,6 +310,97 @@ static void merge_refused(void)
     merge("totals of nothing", full, totals_of(0), DRAUGSTEN_MONTH_ADDED);
 }
 
+/* ---- the run of a dump */
+
+/* A good structure of one section, without a disk: eight bytes from address 0 on, to address 8. */
+static struct draugsten_registration registered(void)
+{
+    struct draugsten_registration registration = draugsten_no_registration();
+    uint8_t *copy = registration.copy, *section = copy + 40;
+
+    registration.phase = DRAUGSTEN_PHASE_REGISTERED;
+    registration.length = 80;
+    copy[3] = copy[5] = 1;              /* version, number of sections */
+    copy[11] = 40;                      /* offset of the first */
+    section[3] = 1;                     /* request flag */
+    section[5] = 0x11;                  /* type */
+    section[23] = section[39] = 8;      /* requested length, destination */
+    return registration;
+}
+
+/* A run that is refused: its number, its status, and nothing changes. */
+static void refuse_run(const char *what, struct draugsten_registration registration, uint32_t number, uint32_t status)
+{
+    static const uint8_t platform[BEHIND];
+    static struct buffers buffers, before;
+    struct draugsten_run run;
+
+    memset(&buffers, PAINT, sizeof buffers);
+    before = buffers;
+    run = draugsten_run_dump(registration, buffers.memory, sizeof buffers.memory, platform, sizeof platform);
+    expect(run.number == number && run.status == status, what, "the run has its number and its status");
+    expect(same_registration(&run.registration, &registration), what, "the registration is as it was");
+    expect(memcmp(&buffers, &before, sizeof buffers) == 0, what, "no byte of a buffer changes");
+}
+
+/* The checks come in the order 13, -10, -3: what each one gives, others behind it would refuse too. */
+static void run_refused(void)
+{
+    struct draugsten_registration wrong = registered();
+
+    wrong.phase = 3;
+    refuse_run("phase 3", wrong, DRAUGSTEN_NUMBER_NO_REGISTRATION, DRAUGSTEN_STATUS_PARAMETER);
+    wrong.phase = DRAUGSTEN_PHASE_ACTIVE;
+    wrong.length = DRAUGSTEN_STRUCTURE_LIMIT + 1;
+    refuse_run("active, length 513", wrong, DRAUGSTEN_NUMBER_NO_REGISTRATION, DRAUGSTEN_STATUS_PARAMETER);
+    wrong.length = SIZE_MAX;
+    refuse_run("active, the largest length", wrong, DRAUGSTEN_NUMBER_NO_REGISTRATION, DRAUGSTEN_STATUS_PARAMETER);
+    wrong.length = 0;
+    refuse_run("active, length 0", wrong, DRAUGSTEN_NUMBER_STATUS, DRAUGSTEN_STATUS_DUMP_ACTIVE);
+    wrong.phase = DRAUGSTEN_PHASE_REGISTERED;
+    refuse_run("registered, length 0", wrong, DRAUGSTEN_NUMBER_STATUS, DRAUGSTEN_STATUS_PARAMETER);
+    wrong.length = 79;
+    refuse_run("registered, length 79", wrong, DRAUGSTEN_NUMBER_STATUS, DRAUGSTEN_STATUS_PARAMETER);
+    wrong = registered();
+    wrong.phase = DRAUGSTEN_PHASE_NONE;
+    refuse_run("nothing registered", wrong, DRAUGSTEN_NUMBER_STATUS, DRAUGSTEN_STATUS_PARAMETER);
+    wrong = registered();
+    wrong.copy[6] = DRAUGSTEN_DUMP_PERFORMED >> 8;
+    refuse_run("a dump that ran, registered", wrong, DRAUGSTEN_NUMBER_STATUS, DRAUGSTEN_STATUS_PARAMETER);
+}
+
+/* The same without a fault, over as many bytes of memory: it runs, and the bytes behind these stay. */
+static void run_taken(size_t length, uint8_t actual, uint32_t flags)
+{
+    static struct buffers buffers;
+    struct draugsten_run run;
+    const uint8_t *copy = run.registration.copy;
+
+    memset(&buffers, PAINT, sizeof buffers);
+    memset(buffers.memory, 1, 8);
+    run = draugsten_run_dump(registered(), buffers.memory, length, buffers.held, 0);
+    expect(run.number == DRAUGSTEN_NUMBER_STATUS && run.status == DRAUGSTEN_STATUS_DONE, "a good run", "it is done");
+    expect(run.registration.phase == DRAUGSTEN_PHASE_ACTIVE, "a good run", "it is active");
+    expect(run.registration.length == 80, "a good run", "its structure has as many bytes as before");
+    expect(copy[71] == actual && copy[46] == flags >> 8, "a good run", "the copy tells of its section");
+    expect(memcmp(buffers.memory, buffers.memory + 8, actual) == 0, "a good run", "the bytes are copied");
+    for (size_t i = 8 + actual; i < BEHIND; i++)
+        expect(buffers.memory[i] == PAINT, "a good run", "no byte behind them is written");
+}
+
+/* The sizes and places that rust/src/ffi.rs has too. */
+static void check_run_layout(void)
+{
+    static const size_t found[] = {
+        sizeof(struct draugsten_registration), offsetof(struct draugsten_registration, length),
+        offsetof(struct draugsten_registration, copy),
+        sizeof(struct draugsten_run), offsetof(struct draugsten_run, status),
+        offsetof(struct draugsten_run, registration)};
+    static const size_t said[] = {528, 8, 16, 536, 4, 8};
+
+    expect(sizeof found == sizeof said && memcmp(found, said, sizeof said) == 0, "the run of a dump", "its layout");
+}
+
 /* The sizes and places that rust/src/ffi.rs has too. */
 static void check_layout(void)
 {
@@ -338,6 +430,11 @@ int main(void)
     count_tries();
     add_refused();
     merge_refused();
+    run_refused();
+    run_taken(16, 8, 0);
+    run_taken(15, 7, DRAUGSTEN_SECTION_ROOM);
+    run_taken(8, 0, DRAUGSTEN_SECTION_DESTINATION | DRAUGSTEN_SECTION_ROOM);
+    check_run_layout();
     check_layout();
     return faults != 0;
 }

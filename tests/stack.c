@@ -24,11 +24,14 @@ enum {
     LONG_RECORD = NODES_SIZE + 12 + 11,                     /* where that of the long value begins */
     RETURN_ADDRESS = 8,
     SHORT_AREA_SIZE = 16,                                   /* of the short code alone */
-    TRACE_SIZE = 1024
+    TRACE_SIZE = 1024,
+    DUMP_SECTIONS = 4,
+    DUMP_SIZE = 40 + 40 * DUMP_SECTIONS,
+    DUMP_LENGTH = 5000                                      /* bytes that a section copies */
 };
 
 static uint8_t stack[STACK] __attribute__((aligned(16)));
-static uint8_t memory[0x4000], args[40];
+static uint8_t memory[0x4000], args[40], dumped[0x4000];
 static uint8_t held[DRAUGSTEN_TRACE_RECORD_LIMIT], trace_args[DRAUGSTEN_TRACE_BODY_LIMIT], trace[TRACE_SIZE];
 static size_t trace_length, whole_length;                  /* the whole records alone */
 static uint32_t words[64];
@@ -42,6 +45,16 @@ void *memcpy(void *to, const void *from, size_t length)
     void *start = to;
     __asm__ volatile("rep movsb" : "+D"(to), "+S"(from), "+c"(length) : : "memory");
     return start;
+}
+
+void *memmove(void *to, const void *from, size_t length)
+{
+    uint8_t *last = (uint8_t *)to + length - 1;
+    const uint8_t *last_from = (const uint8_t *)from + length - 1;
+    if ((uintptr_t)to <= (uintptr_t)from)
+        return memcpy(to, from, length);
+    __asm__ volatile("std\n\trep movsb\n\tcld" : "+D"(last), "+S"(last_from), "+c"(length) : : "memory");
+    return to;
 }
 
 void *memset(void *to, int byte, size_t length)
@@ -61,6 +74,7 @@ static __typeof__(draugsten_no_registration) *no_registration;
 static __typeof__(draugsten_no_reading) *no_reading;
 static __typeof__(draugsten_edit) *edit;
 static __typeof__(draugsten_call) *call;
+static __typeof__(draugsten_run_dump) *run_dump;
 static __typeof__(draugsten_replay_start) *replay_start;
 static __typeof__(draugsten_replay_feed) *replay_feed;
 static __typeof__(draugsten_replay_end) *replay_end;
@@ -69,6 +83,11 @@ static __typeof__(draugsten_month_feed) *month_feed;
 static __typeof__(draugsten_month_add) *month_add;
 static __typeof__(draugsten_month_merge) *month_merge;
 static __typeof__(draugsten_month_share) *month_share;
+static __typeof__(draugsten_tallies_cleared) *cleared;
+static __typeof__(draugsten_tallies_append) *append;
+static __typeof__(draugsten_tallies_join) *join;
+static __typeof__(draugsten_tallies_recount) *recount;
+static __typeof__(draugsten_forecast) *forecast;
 static __typeof__(draugsten_read_nodes) *read_nodes;
 static __typeof__(draugsten_read_indices) *read_indices;
 static __typeof__(draugsten_read_properties) *read_properties;
@@ -80,6 +99,7 @@ static void choose(int library)
     no_reading = library ? draugsten_no_reading : (__typeof__(no_reading))nothing;
     edit = library ? draugsten_edit : (__typeof__(edit))nothing;
     call = library ? draugsten_call : (__typeof__(call))nothing;
+    run_dump = library ? draugsten_run_dump : (__typeof__(run_dump))nothing;
     replay_start = library ? draugsten_replay_start : (__typeof__(replay_start))nothing;
     replay_feed = library ? draugsten_replay_feed : (__typeof__(replay_feed))nothing;
     replay_end = library ? draugsten_replay_end : (__typeof__(replay_end))nothing;
@@ -88,6 +108,11 @@ static void choose(int library)
     month_add = library ? draugsten_month_add : (__typeof__(month_add))nothing;
     month_merge = library ? draugsten_month_merge : (__typeof__(month_merge))nothing;
     month_share = library ? draugsten_month_share : (__typeof__(month_share))nothing;
+    cleared = library ? draugsten_tallies_cleared : (__typeof__(cleared))nothing;
+    append = library ? draugsten_tallies_append : (__typeof__(append))nothing;
+    join = library ? draugsten_tallies_join : (__typeof__(join))nothing;
+    recount = library ? draugsten_tallies_recount : (__typeof__(recount))nothing;
+    forecast = library ? draugsten_forecast : (__typeof__(forecast))nothing;
     read_nodes = library ? draugsten_read_nodes : (__typeof__(read_nodes))nothing;
     read_indices = library ? draugsten_read_indices : (__typeof__(read_indices))nothing;
     read_properties = library ? draugsten_read_properties : (__typeof__(read_properties))nothing;
@@ -119,12 +144,18 @@ static const uint32_t trace_calls[CALLS][10] = {
     {DRAUGSTEN_TOKEN_CONFIGURE_KERNEL_DUMP, 3, 1, DRAUGSTEN_COMMAND_REGISTER, 0, 80},
 };
 
+/* Type, source and destination of a dump's sections: from the platform, apart, and overlapping in each direction. */
+static const uint16_t dump_sections[DUMP_SECTIONS][3] = {
+    {1, 0, 0}, {0x11, 0, 6000}, {0x12, 6000, 6001}, {0x100, 6001, 5901}};
+
 static const struct draugsten_reading in_progress = {1, 7, 2, EDITION};
 static struct draugsten_registration registration;
 static struct draugsten_reading reading;
 static struct draugsten_edited edited;
 static struct draugsten_answer answer;
 static int answered;
+static struct draugsten_registration dump;
+static struct draugsten_run ran;
 static struct draugsten_replay replay;
 static struct draugsten_fed fed;
 static struct draugsten_ended ended;
@@ -134,6 +165,11 @@ static const struct draugsten_totals totals;
 static struct draugsten_added added;
 static struct draugsten_merged merged;
 static struct draugsten_share share;
+static const struct draugsten_tallied empty;
+static struct draugsten_tallied tallied;
+static struct draugsten_kept appended, joined;
+static struct draugsten_recount counted_anew;
+static struct draugsten_forecast_answer forecasted;
 static struct draugsten_node_reading node_reading;
 static struct draugsten_index_reading index_reading;
 static struct draugsten_property_reading property_reading;
@@ -177,6 +213,11 @@ static void calling(void)
                       EDITION, registration, in_progress);
         answered += is_answered(args + 12 + 4 * calls[i][1]);
     }
+}
+
+static void running(void)
+{
+    ran = run_dump(dump, dumped, sizeof dumped, journal, sizeof journal);
 }
 
 static void starting_replay(void)
@@ -226,6 +267,33 @@ static void merging(void)
 static void sharing(void)
 {
     share = month_share(added.totals);
+}
+
+static void clearing(void)
+{
+    tallied = cleared();
+}
+
+/* The addition, and the record of the long value, which is the last of the journal. */
+static void appending(void)
+{
+    appended = append(dumped, sizeof dumped, empty, journal + 20, NODES_SIZE - 20);
+    appended = append(dumped, sizeof dumped, appended.journal, journal + LONG_RECORD, sizeof journal - LONG_RECORD);
+}
+
+static void joining(void)
+{
+    joined = join(dumped, sizeof dumped, appended.journal, journal, sizeof journal);
+}
+
+static void recounting(void)
+{
+    counted_anew = recount(journal, sizeof journal);
+}
+
+static void forecasting(void)
+{
+    forecasted = forecast(joined.journal.tallies, 1, 3);
 }
 
 static void reading_nodes(void)
@@ -293,6 +361,42 @@ static void prepare(void)
     memset(inventory + 17 + 14, 'U', DRAUGSTEN_CODE_LIMIT);
 }
 
+static void put_two(uint8_t *to, unsigned number)
+{
+    to[0] = (uint8_t)(number / 256);
+    to[1] = (uint8_t)(number % 256);
+}
+
+/* The registration of a dump without a disk. */
+static void register_dump(void)
+{
+    dump = draugsten_no_registration();
+    dump.phase = DRAUGSTEN_PHASE_REGISTERED;
+    dump.length = DUMP_SIZE;
+    put_two(dump.copy + 2, 1);
+    put_two(dump.copy + 4, DUMP_SECTIONS);
+    put_two(dump.copy + 10, 40);
+    for (int i = 0; i < DUMP_SECTIONS; i++) {
+        uint8_t *section = dump.copy + 40 + 40 * i;
+        put_two(section + 2, 1);
+        put_two(section + 4, dump_sections[i][0]);
+        put_two(section + 14, dump_sections[i][1]);
+        put_two(section + 22, DUMP_LENGTH);
+        put_two(section + 38, dump_sections[i][2]);
+    }
+}
+
+/* Whether each section of the dump that ran copied all of its bytes. */
+static int is_dumped(void)
+{
+    int whole = 0;
+    for (int i = 0; i < DUMP_SECTIONS; i++) {
+        const uint8_t *actual = ran.registration.copy + 40 + 40 * i + 24;
+        whole += actual[6] == DUMP_LENGTH / 256 && actual[7] == DUMP_LENGTH % 256;
+    }
+    return ran.status == DRAUGSTEN_STATUS_DONE && whole == DUMP_SECTIONS;
+}
+
 static void put_record(uint8_t kind, const uint8_t *body, size_t size)
 {
     uint8_t head[4] = {(uint8_t)((2 + size) % 256), (uint8_t)((2 + size) / 256), kind, 0};
@@ -325,13 +429,44 @@ static void make_trace(void)
     trace_length--;
 }
 
+static void check(int done, const char *what)
+{
+    if (!done) {
+        printf("stack: %s did not do its work\n", what);
+        faults++;
+    }
+}
+
+/* What was measured came to what it has to come to. */
+static void check_work(void)
+{
+    check(is_dumped(), "a run");
+    check(fed.replay.report.number == CALLS && fed.replay.registration.length == 80 && fed.replay.held == 23 &&
+              ended.report.verdict == DRAUGSTEN_VERDICT_MALFORMED && ended.report.number == 2 + 2 * CALLS,
+          "a replay");
+    check(counted.number == 0 && added.number == 0 && added.report.number == CALLS && merged.number == 0 &&
+              merged.totals.token_calls[1] == 4 && merged.totals.operations == 6 && share.part == 7 &&
+              share.whole == 1019,
+          "a month");
+    check(tallied.used == 0 && appended.number == 0 && appended.journal.used == 24 + LONG_VALUE && joined.number == 0 &&
+              joined.journal.used == 24 + LONG_VALUE + sizeof journal && joined.journal.tallies.first.additions == 2 &&
+              counted_anew.number == 0 && counted_anew.tallies.first.deletes == 1 && forecasted.status == 0,
+          "the tallies");
+    check(reading.number == 1 && edited.edition == EDITION + 1 && answered == CALLS &&
+              answer.registration.length == 80 && node_reading.entries == 3 && index_reading.entries == 2 &&
+              property_reading.entries == 3,
+          "a call or a reading");
+}
+
 int main(void)
 {
     prepare();
+    register_dump();
     make_trace();
     measure("draugsten_no_registration", starting_registration, DRAUGSTEN_STACK_NO_REGISTRATION);
     measure("draugsten_no_reading", starting_reading, DRAUGSTEN_STACK_NO_READING);
     measure("draugsten_edit", editing, DRAUGSTEN_STACK_EDIT);
+    measure("draugsten_run_dump", running, DRAUGSTEN_STACK_RUN_DUMP);
     measure("draugsten_replay_start", starting_replay, DRAUGSTEN_STACK_REPLAY_START);
     measure("draugsten_replay_feed", feeding, DRAUGSTEN_STACK_REPLAY_FEED);
     measure("draugsten_replay_end", ending, DRAUGSTEN_STACK_REPLAY_END);
@@ -341,24 +476,15 @@ int main(void)
     measure("draugsten_month_add", adding, DRAUGSTEN_STACK_MONTH_ADD);
     measure("draugsten_month_merge", merging, DRAUGSTEN_STACK_MONTH_MERGE);
     measure("draugsten_month_share", sharing, DRAUGSTEN_STACK_MONTH_SHARE);
+    measure("draugsten_tallies_cleared", clearing, DRAUGSTEN_STACK_TALLIES_CLEARED);
+    measure("draugsten_tallies_append", appending, DRAUGSTEN_STACK_TALLIES_APPEND);
+    measure("draugsten_tallies_join", joining, DRAUGSTEN_STACK_TALLIES_JOIN);
+    measure("draugsten_tallies_recount", recounting, DRAUGSTEN_STACK_TALLIES_RECOUNT);
+    measure("draugsten_forecast", forecasting, DRAUGSTEN_STACK_FORECAST);
     measure("draugsten_call", calling, DRAUGSTEN_STACK_CALL);
     measure("draugsten_read_nodes", reading_nodes, DRAUGSTEN_STACK_READ_NODES);
     measure("draugsten_read_indices", reading_indices, DRAUGSTEN_STACK_READ_INDICES);
     measure("draugsten_read_properties", reading_properties, DRAUGSTEN_STACK_READ_PROPERTIES);
-    if (fed.replay.report.number != CALLS || fed.replay.registration.length != 80 || fed.replay.held != 23 ||
-        ended.report.verdict != DRAUGSTEN_VERDICT_MALFORMED || ended.report.number != 2 + 2 * CALLS) {
-        puts("stack: a replay did not do its work");
-        faults++;
-    }
-    if (counted.number != 0 || added.number != 0 || added.report.number != CALLS || merged.number != 0 ||
-        merged.totals.token_calls[1] != 4 || merged.totals.operations != 6 || share.part != 7 || share.whole != 1019) {
-        puts("stack: a month did not do its work");
-        faults++;
-    }
-    if (reading.number != 1 || edited.edition != EDITION + 1 || answered != CALLS || answer.registration.length != 80 ||
-        node_reading.entries != 3 || index_reading.entries != 2 || property_reading.entries != 3) {
-        puts("stack: a call or a reading did not do its work");
-        faults++;
-    }
+    check_work();
     return faults ? 1 : 0;
 }

@@ -1,13 +1,19 @@
 //! Holds the three sides to each other before they are measured: every answer and every byte.
 
+mod tallies;
+
+pub use tallies::tallies;
+
+use crate::dump::{registered, Section};
 use crate::independent;
 use crate::interface::{
-    Added, Asked, Count, Judged, ReadingRecord, Replay, ReplayBuffers, Replayed, Report, Side, Totals, Wanted,
+    Added, Asked, Count, Judged, ReadingRecord, Replay, ReplayBuffers, Replayed, Report, RunDump, Side, Totals, Wanted,
     MALFORMED, SIDES,
 };
 use crate::journal::UNITS;
 use crate::library;
 use crate::partition::{Partition, AREA_SIZE};
+use crate::rows::dumps::SECTIONS;
 use crate::rows::replays::{replayed_pages, BURST};
 use crate::trace::{self, Recorded, PAGE};
 use std::fmt::Debug;
@@ -294,6 +300,37 @@ pub fn count(recorded: &Recorded) {
     let replayed = Replayed { trace: &changed, ..recorded.replayed(BURST) };
     let added = library::count(&mut ReplayBuffers::new(&recorded.partition.memory), replayed);
     assert_eq!((added.number, added.report.verdict, added.totals), (16, 1, Totals::NONE));
+}
+
+/// The runs of dumps that are measured, by the independent program and by the library: the registration is the same, and
+/// memory is left as memmove leaves it. Where memory is short of a byte, so is the section, and a run that is refused changes
+/// nothing.
+pub fn dumps() {
+    for (over, section) in &SECTIONS {
+        let (memory, platform) = (section.memory(), section.platform());
+        dump(over, section, &memory, &platform);
+        dump(over, section, &memory[..memory.len() - 1], &platform);
+        let mut moved = memory.clone();
+        section.move_bytes(&mut moved, &platform);
+        let mut own = memory.clone();
+        let run = library::run_dump(registered(section), &mut own, &platform);
+        assert!(own == moved, "{over}: a run leaves other bytes than memmove");
+        let again = library::run_dump(run.registration, &mut own, &platform);
+        assert_eq!((again.number, again.status as i32, again.registration), (0, -10, run.registration));
+        assert!(own == moved, "{over}: a refused run changes memory");
+    }
+}
+
+/// One run by both, from the same bytes.
+fn dump(over: &str, section: &Section, memory: &[u8], platform: &[u8]) {
+    let run = |run: RunDump| {
+        let mut own = memory.to_vec();
+        (run(registered(section), &mut own, platform), own)
+    };
+    let (told, other) = (run(independent::run_dump), run(library::run_dump));
+    assert_eq!((told.0.number, told.0.status), (0, 0));
+    assert_eq!(told.0, other.0, "{over}");
+    assert!(told.1 == other.1, "{over}: the runs leave other bytes");
 }
 
 /// Records that set memory: each byte is set, and where memory is too short by one, the last record is malformed.

@@ -2,9 +2,12 @@
 
 use crate::interface::{
     Added, Answer, Asked, Edit, IndexReading, Judged, NodeReading, PropertyReading, ReadingRecord, Registration,
-    ReplayBuffers, Replayed, Report, Side, Totals, Wanted, MALFORMED,
+    ReplayBuffers, Replayed, Report, Run, Side, Totals, Wanted, MALFORMED,
 };
 use draugsten_compare::paper::{self, readers, records, scope, Phase};
+
+/// The status -3.
+const PARAMETER: u32 = -3_i32 as u32;
 
 pub const SIDE: Side = Side {
     name: "independent",
@@ -85,6 +88,17 @@ pub fn call(
     let told = paper::call(args, memory, &platform);
     let (registration, reading) = (from_paper(&told.registration), record_from_paper(&told.reading));
     Answer { number: told.number, registration, reading }
+}
+
+/// The run of a registered dump.
+pub fn run_dump(registration: Registration, memory: &mut [u8], platform: &[u8]) -> Run {
+    let Some(given) = for_paper(&registration) else {
+        return Run { number: 13, status: PARAMETER, registration };
+    };
+    match paper::dump_run::run_dump(&given, memory, platform) {
+        Ok(after) => Run { number: 0, status: 0, registration: from_paper(&after) },
+        Err(refusal) => Run { number: 0, status: refusal.status as u32, registration },
+    }
 }
 
 /// A whole replay. It has no bursts: the trace is read at once.

@@ -45,6 +45,15 @@ pub struct Answer {
     pub reading: ReadingRecord,
 }
 
+/// What comes of the run of a dump: its number, its status, and the registration afterwards.
+#[repr(C)]
+#[derive(Clone, Copy, PartialEq, Eq, Debug)]
+pub struct Run {
+    pub number: u32,
+    pub status: u32,
+    pub registration: Registration,
+}
+
 /// What a replay comes to: verdict 0 agreed, with the number of calls; 1 differs, with the call and the offset of the byte;
 /// 2 malformed, with the record.
 #[repr(C)]
@@ -106,6 +115,9 @@ impl ReplayBuffers {
         ReplayBuffers { held: vec![0; 4104], args: vec![0; 4100], memory: memory.to_vec() }
     }
 }
+
+/// The run of a registered dump, over partition memory and platform memory.
+pub type RunDump = fn(Registration, &mut [u8], &[u8]) -> Run;
 
 /// A whole replay.
 pub type Replay = fn(&mut ReplayBuffers, Replayed) -> Report;

@@ -6,11 +6,11 @@ use crate::interface::{Asked, Judged, Side, Wanted};
 #[cfg(feature = "stand-in")]
 use crate::independent::{call, edit, no_reading, no_registration, read_indices, read_nodes, read_properties};
 #[cfg(feature = "stand-in")]
-pub use crate::independent::{count, replay};
+pub use crate::independent::{count, replay, run_dump};
 #[cfg(not(feature = "stand-in"))]
 use archive::{call, edit, no_reading, no_registration, read_indices, read_nodes, read_properties};
 #[cfg(not(feature = "stand-in"))]
-pub use archive::{count, replay};
+pub use archive::{count, replay, run_dump};
 
 /// Whether the library itself is measured.
 pub const REAL: bool = cfg!(not(feature = "stand-in"));
@@ -56,7 +56,7 @@ fn search(judged: Judged) -> u32 {
 mod archive {
     use crate::interface::{
         Added, Answer, Edit, IndexReading, NodeReading, PropertyReading, ReadingRecord, Registration, ReplayBuffers,
-        Replayed, Report, Totals,
+        Replayed, Report, Run, Totals,
     };
 
     /// Where a replay stands.
@@ -126,6 +126,14 @@ mod archive {
             registration: Registration,
             reading: ReadingRecord,
         ) -> Answer;
+
+        fn draugsten_run_dump(
+            registration: Registration,
+            memory: *mut u8,
+            memory_len: usize,
+            platform: *const u8,
+            platform_len: usize,
+        ) -> Run;
 
         fn draugsten_replay_start(edition: u32) -> Replay;
 
@@ -225,6 +233,13 @@ mod archive {
                 reading,
             )
         }
+    }
+
+    /// The run of a registered dump.
+    pub fn run_dump(registration: Registration, memory: &mut [u8], platform: &[u8]) -> Run {
+        let (bytes, length) = (memory.as_mut_ptr(), memory.len());
+        // SAFETY: each pointer comes with the length of the slice that it was taken from, and none is kept.
+        unsafe { draugsten_run_dump(registration, bytes, length, platform.as_ptr(), platform.len()) }
     }
 
     /// A whole replay.

@@ -3,6 +3,7 @@
 
 mod bare;
 mod check;
+mod dump;
 mod independent;
 mod inputs;
 mod interface;
@@ -14,13 +15,14 @@ mod plain;
 mod random;
 mod report;
 mod rows;
+mod tallies;
 mod timing;
 mod trace;
 
 use inputs::Inputs;
 use report::Measured;
 use rows::copying::{self, Copying};
-use rows::{get_indices, growth, readers, replays, scans, slowest, update_nodes, update_properties, Row};
+use rows::{dumps, get_indices, growth, readers, replays, scans, slowest, update_nodes, update_properties, Row};
 use std::panic;
 use std::path::PathBuf;
 use std::process::ExitCode;
@@ -125,6 +127,8 @@ fn check_sides(inputs: &Inputs) {
         check::count(&recorded);
     }
     check::settings();
+    check::dumps();
+    check::tallies();
     for size in growth::SIZES {
         check::update_nodes(&journal::mixed(size), inputs::SCOPE_1);
     }
@@ -147,6 +151,10 @@ fn measure(inputs: &Inputs, effort: Effort) -> Measured {
     report::print_growth(&growth);
     let copying = copies(inputs, effort);
     report::print_copying(&copying);
+    let dumps = dumps::dumps(effort);
+    report::print_dumps(&dumps);
+    let tallies = rows::tallies::tallies(effort);
+    report::print_tallies(&tallies);
     let slowest = slowest::slowest(inputs, effort);
     report::print_slowest(&slowest);
     let replays = replays::replays(inputs, effort);
@@ -154,7 +162,8 @@ fn measure(inputs: &Inputs, effort: Effort) -> Measured {
     let settings = replays::settings(effort);
     report::print_settings(&settings);
     report::print_counted(&replays, &settings);
-    Measured { machine: report::machine(), effort, runs: 1, rows: told, growth, copying, slowest, replays, settings }
+    let machine = report::machine();
+    Measured { machine, effort, runs: 1, rows: told, growth, copying, dumps, tallies, slowest, replays, settings }
 }
 
 /// So many runs: the last one, with the ranges over all.

@@ -2,7 +2,9 @@
 
 use crate::library::{ReadingRecord, Registration, Replay};
 use crate::month::case::MonthCase;
+use crate::paper::dump_run::{section, section_places, Section};
 use crate::subject::Platform;
+use crate::tallies::case::TalliesCase;
 use crate::text;
 
 /// One call through the argument buffer, with everything that it is given.
@@ -93,6 +95,34 @@ impl Listing {
     }
 }
 
+/// What is done with the dump of a partition.
+#[derive(Clone, Copy, PartialEq, Eq)]
+pub enum Step {
+    Run,
+    /// A command of configure-kernel-dump.
+    Command(u32),
+}
+
+impl Step {
+    pub fn text(&self) -> String {
+        match self {
+            Step::Run => String::from("run"),
+            Step::Command(command) => format!("command {command}"),
+        }
+    }
+}
+
+/// A registration, the memories of the partition and of the platform, and what is done with them, one step after the
+/// other. The commands name the structure at this address, of the registration's length.
+#[derive(Clone)]
+pub struct RunCase {
+    pub registration: Registration,
+    pub memory: Vec<u8>,
+    pub platform: Vec<u8>,
+    pub address: u32,
+    pub steps: Vec<Step>,
+}
+
 /// What a replay is given beside its trace. `held` and `args` may hold anything at first.
 #[derive(Clone)]
 pub struct Given {
@@ -131,6 +161,7 @@ pub struct StateCase {
 #[allow(clippy::large_enum_variant)]
 pub enum Case {
     Call(CallCase),
+    Run(RunCase),
     /// An edit of an inventory of this edition.
     Edit(u32),
     ReadNodes {
@@ -143,6 +174,7 @@ pub enum Case {
     Trace(TraceCase),
     State(StateCase),
     Month(MonthCase),
+    Tallies(TalliesCase),
 }
 
 impl CallCase {
@@ -157,15 +189,43 @@ impl CallCase {
     }
 
     pub fn text(&self) -> String {
-        let Registration { phase, length, copy } = &self.registration;
         let mut text = String::from("call\n");
         text += &text::buffer("arguments", &self.args);
         text += &text::buffer("memory", &self.memory);
         text += &text::records("journal", &self.journal);
         text += &text::records("inventory", &self.inventory);
         text += &format!("  edition {:#x}\n  reading record: {}\n", self.edition, self.reading.text());
-        text += &format!("  registration: phase {phase}, length {length}\n");
-        text + &text::buffer("copy", copy)
+        text + &self.registration.text()
+    }
+}
+
+impl Registration {
+    fn text(&self) -> String {
+        let Registration { phase, length, copy } = self;
+        format!("  registration: phase {phase}, length {length}\n") + &text::buffer("copy", copy)
+    }
+}
+
+impl RunCase {
+    pub fn text(&self) -> String {
+        let steps: Vec<String> = self.steps.iter().map(Step::text).collect();
+        let mut text = format!("dump, with the structure at {:#x}: {}\n", self.address, steps.join(", "));
+        text += &text::buffer("memory", &self.memory);
+        text += &text::buffer("platform memory", &self.platform);
+        text + &self.registration.text() + &self.sections_text()
+    }
+
+    /// The sections of the copy, as far as they are inside.
+    fn sections_text(&self) -> String {
+        let places = section_places(&self.registration.copy).into_iter().take_while(|at| at + 40 <= 512);
+        let sections = places.take(10).map(|at| section(&self.registration.copy[at..at + 40]));
+        let text = |section: Section| {
+            let Section { request, kind, source, requested, destination } = section;
+            format!(
+                "  request {request:#x}, type {kind:#x}: {requested:#x} bytes from {source:#x} to {destination:#x}\n"
+            )
+        };
+        sections.map(text).collect()
     }
 }
 
@@ -173,6 +233,7 @@ impl Case {
     pub fn text(&self) -> String {
         match self {
             Case::Call(call) => call.text(),
+            Case::Run(run) => run.text(),
             Case::Edit(edition) => format!("an edit of edition {edition:#x}\n"),
             Case::ReadNodes { scope, read } => {
                 format!("node area, scope {scope:#010x}, out {}\n", read.out) + &text::buffer("area", &read.area)
@@ -185,6 +246,7 @@ impl Case {
             Case::Trace(trace) => trace.text(),
             Case::State(state) => state.text(),
             Case::Month(month) => month.text(),
+            Case::Tallies(case) => case.text(),
         }
     }
 }

@@ -3,11 +3,13 @@
 use crate::buffers::{word_at, Lent};
 use crate::case::{CallCase, Case, ReadCase};
 use crate::coverage::Coverage;
+use crate::dump;
 use crate::library::{Reading, ReadingRecord, Registration};
 use crate::month;
 use crate::replay;
 use crate::session;
 use crate::subject::{Answered, Subject};
+use crate::tallies;
 use crate::text::hex;
 
 /// The two sides.
@@ -178,6 +180,7 @@ pub fn difference(sides: Sides, case: &Case, coverage: &mut Coverage) -> Option<
             coverage.call(call, &pair.paper);
             call_difference(sides, &pair)
         }
+        Case::Run(case) => dump::difference(sides, case, coverage),
         Case::Edit(edition) => {
             coverage.edit(*edition);
             edit_difference(sides, *edition)
@@ -202,6 +205,7 @@ pub fn difference(sides: Sides, case: &Case, coverage: &mut Coverage) -> Option<
         Case::Trace(case) => replay::difference(sides, case, coverage),
         Case::State(case) => replay::states::difference(sides, case, coverage),
         Case::Month(case) => month::difference(sides, case, coverage),
+        Case::Tallies(case) => tallies::difference(sides, case, coverage),
     }
 }
 

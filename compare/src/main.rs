@@ -5,6 +5,7 @@ mod case;
 mod compare;
 mod coverage;
 mod crash;
+mod dump;
 mod fixed;
 mod generate;
 mod library;
@@ -15,6 +16,7 @@ mod replay;
 mod session;
 mod shrink;
 mod subject;
+mod tallies;
 mod text;
 
 use case::Case;
@@ -45,7 +47,8 @@ fn main() -> ExitCode {
     println!("draugsten-compare: document 01 written out ({}) against {}", sides.paper.name(), sides.tested.name());
     println!(
         "compared: every answer, and every byte of the argument buffer, of memory, of the registration, of the reading \
-        record and of out; what a replay comes to, which states of one are refused, and every figure of a month"
+        record and of out; every byte that a dump copies and tells; what a replay comes to, which states of one are \
+        refused, and every figure of a month; every byte, tally and refusal of a journal that is kept, and forecasts"
     );
     crash::install();
     if options.fixed && options.only.is_none() && !run_fixed(sides) {

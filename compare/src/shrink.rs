@@ -1,7 +1,7 @@
 //! Makes a case with a difference smaller, as long as the difference stays.
 
-use crate::buffers::record_places;
-use crate::case::{Asked, CallCase, Case, Given, Listing, ReadCase, SessionCase, TraceCase};
+use crate::buffers::{put_word, record_places, word_at};
+use crate::case::{Asked, CallCase, Case, Given, Listing, ReadCase, RunCase, SessionCase, Step, TraceCase};
 use crate::library::ReadingRecord;
 use crate::month::case::MonthCase;
 use std::time::{Duration, Instant};
@@ -14,16 +14,34 @@ enum Part {
     Memory,
     Arguments,
     Copy,
+    Platform,
     Area,
     Session,
     Trace,
 }
 
-const ALL: [Part; 8] =
-    [Part::Trace, Part::Journal, Part::Inventory, Part::Session, Part::Memory, Part::Area, Part::Arguments, Part::Copy];
+const ALL: [Part; 9] = [
+    Part::Trace,
+    Part::Journal,
+    Part::Inventory,
+    Part::Session,
+    Part::Memory,
+    Part::Platform,
+    Part::Area,
+    Part::Arguments,
+    Part::Copy,
+];
 /// All but the copy, which has 512 bytes always.
-const OF_ANY_LENGTH: [Part; 7] =
-    [Part::Trace, Part::Journal, Part::Inventory, Part::Session, Part::Memory, Part::Area, Part::Arguments];
+const OF_ANY_LENGTH: [Part; 8] = [
+    Part::Trace,
+    Part::Journal,
+    Part::Inventory,
+    Part::Session,
+    Part::Memory,
+    Part::Platform,
+    Part::Area,
+    Part::Arguments,
+];
 const OF_RECORDS: [Part; 4] = [Part::Trace, Part::Journal, Part::Inventory, Part::Session];
 const MOST_TIME: Duration = Duration::from_secs(10);
 
@@ -34,12 +52,16 @@ fn bytes_of(case: &Case, part: Part) -> &[u8] {
         (Case::Call(call), Part::Memory) => &call.memory,
         (Case::Call(call), Part::Arguments) => &call.args,
         (Case::Call(call), Part::Copy) => &call.registration.copy,
+        (Case::Run(run), Part::Memory) => &run.memory,
+        (Case::Run(run), Part::Platform) => &run.platform,
+        (Case::Run(run), Part::Copy) => &run.registration.copy,
         (Case::ReadNodes { read, .. } | Case::ReadIndices(read) | Case::ReadProperties(read), Part::Area) => &read.area,
         (Case::Session(session), Part::Session) => &session.records,
         (Case::Trace(case) | Case::Month(MonthCase::Trace { case, .. }), Part::Trace) => &case.trace,
         (Case::State(case) | Case::Month(MonthCase::State { case, .. }), Part::Trace) => &case.burst,
         (Case::Trace(case) | Case::Month(MonthCase::Trace { case, .. }), _) => given_bytes(&case.given, part),
         (Case::State(case) | Case::Month(MonthCase::State { case, .. }), _) => given_bytes(&case.given, part),
+        (Case::Tallies(case), _) => tallies_place(part).and_then(|place| case.part(place)).map_or(&[], Vec::as_slice),
         _ => &[],
     }
 }
@@ -62,6 +84,9 @@ fn with_bytes(case: &Case, part: Part, bytes: Vec<u8>) -> Case {
         (Case::Call(call), Part::Memory) => call.memory = bytes,
         (Case::Call(call), Part::Arguments) => call.args = bytes,
         (Case::Call(call), Part::Copy) if bytes.len() == 512 => call.registration.copy.copy_from_slice(&bytes),
+        (Case::Run(run), Part::Memory) => run.memory = bytes,
+        (Case::Run(run), Part::Platform) => run.platform = bytes,
+        (Case::Run(run), Part::Copy) if bytes.len() == 512 => run.registration.copy.copy_from_slice(&bytes),
         (Case::ReadNodes { read, .. } | Case::ReadIndices(read) | Case::ReadProperties(read), Part::Area) => {
             read.area = bytes
         }
@@ -70,9 +95,23 @@ fn with_bytes(case: &Case, part: Part, bytes: Vec<u8>) -> Case {
         (Case::State(case) | Case::Month(MonthCase::State { case, .. }), Part::Trace) => case.burst = bytes,
         (Case::Trace(case) | Case::Month(MonthCase::Trace { case, .. }), _) => give(&mut case.given, part, bytes),
         (Case::State(case) | Case::Month(MonthCase::State { case, .. }), _) => give(&mut case.given, part, bytes),
+        (Case::Tallies(case), _) => {
+            let place = tallies_place(part).and_then(|place| case.part_mut(place));
+            place.into_iter().for_each(|place| *place = bytes.clone())
+        }
         _ => {}
     }
     changed
+}
+
+/// The journals of a case of the tallies, which has three at the most.
+fn tallies_place(part: Part) -> Option<usize> {
+    match part {
+        Part::Journal => Some(0),
+        Part::Session => Some(1),
+        Part::Inventory => Some(2),
+        _ => None,
+    }
 }
 
 fn give(given: &mut Given, part: Part, bytes: Vec<u8>) {
@@ -85,7 +124,10 @@ fn give(given: &mut Given, part: Part, bytes: Vec<u8>) {
 }
 
 /// Changes of what is no buffer, each of one sort of case; of several of one thing the simplest is the last.
-const SIMPLER: [fn(&mut Case); 13] = [
+const SIMPLER: [fn(&mut Case); 16] = [
+    |case| of_run(case, |run| run.steps.truncate(2)),
+    |case| of_run(case, |run| run.steps.truncate(1)),
+    |case| of_run(case, |run| run.steps = vec![Step::Run]),
     |case| of_trace(case, |trace| trace.bursts.iter_mut().for_each(|burst| burst.end = false)),
     |case| of_trace(case, |trace| trace.bursts.clear()),
     |case| of_session(case, |session| session.plain = true),
@@ -101,9 +143,25 @@ const SIMPLER: [fn(&mut Case); 13] = [
     |case| of_call(case, |call| (call.edition, call.reading) = (0, ReadingRecord::NONE)),
 ];
 
+/// A structure's copy without its last section, and without its first.
+const FEWER_SECTIONS: [fn(&mut [u8; 512]); 2] = [
+    |copy| copy[5] = copy[5].wrapping_sub(1),
+    |copy| {
+        copy[5] = copy[5].wrapping_sub(1);
+        let first = word_at(copy, 8).unwrap_or(0);
+        put_word(copy, 8, first.wrapping_add(40));
+    },
+];
+
 fn of_session(case: &mut Case, change: impl Fn(&mut SessionCase)) {
     if let Case::Session(session) = case {
         change(session);
+    }
+}
+
+fn of_run(case: &mut Case, change: impl Fn(&mut RunCase)) {
+    if let Case::Run(run) = case {
+        change(run);
     }
 }
 
@@ -141,7 +199,9 @@ struct Shrinking<'a> {
 pub fn shrink(case: Case, differs: &mut dyn FnMut(&Case) -> bool) -> Case {
     let mut shrinking = Shrinking { best: case, differs, end: Instant::now() + MOST_TIME };
     shrinking.simplify();
+    shrinking.remove_sections();
     shrinking.zero_figures();
+    shrinking.remove_operations();
     for _ in 0..2 {
         OF_RECORDS.into_iter().for_each(|part| shrinking.remove_records(part));
         OF_ANY_LENGTH.into_iter().for_each(|part| shrinking.shorten(part));
@@ -174,6 +234,19 @@ impl Shrinking<'_> {
         }
     }
 
+    /// Leaves out sections of a dump, from the last one on and from the first one on.
+    fn remove_sections(&mut self) {
+        for change in FEWER_SECTIONS {
+            for _ in 0..9 {
+                let mut candidate = self.best.clone();
+                if let Case::Run(run) = &mut candidate {
+                    change(&mut run.registration.copy);
+                    self.keep(candidate);
+                }
+            }
+        }
+    }
+
     /// Sets the figures of a case of the month to zero, one after the other.
     fn zero_figures(&mut self) {
         for place in 0..100 {
@@ -181,6 +254,18 @@ impl Shrinking<'_> {
             if let Case::Month(month) = &mut candidate {
                 month.figures_mut().into_iter().nth(place).into_iter().for_each(|figure| *figure = 0);
                 self.keep(candidate);
+            }
+        }
+    }
+
+    /// Leaves out operations on a kept journal, from the last one on.
+    fn remove_operations(&mut self) {
+        for place in (0..120).rev() {
+            let mut candidate = self.best.clone();
+            if let Case::Tallies(case) = &mut candidate {
+                if case.without_operation(place) {
+                    self.keep(candidate);
+                }
             }
         }
     }
@@ -253,11 +338,13 @@ mod tests {
     use crate::compare::{self, Sides};
     use crate::coverage::Coverage;
     use crate::generate;
-    use crate::library::{Edit, Reading, Replay};
+    use crate::library::{Edit, Reading, Registration, Replay};
     use crate::month::subject::Month;
-    use crate::subject::{Answered, Ended, Fed, Feeding, Paper, Platform, Subject};
+    use crate::subject::{Answered, Ended, Fed, Feeding, Paper, Platform, Ran, Subject};
+    use crate::tallies::subject::Keeping;
 
-    /// Gives number 9 where the journal holds a delete of node type 6, and clears the record where its number is 0.
+    /// Gives number 9 where the journal holds a delete of node type 6, and where a dump copied a byte to address 0; clears the
+    /// record where its number is 0.
     struct Faulty;
 
     impl Subject for Faulty {
@@ -274,6 +361,12 @@ mod tests {
                 answered.reading = ReadingRecord::NONE;
             }
             answered
+        }
+
+        fn run_dump(&self, registration: &Registration, memory: &mut [u8], platform: &[u8]) -> Ran {
+            let before = memory.first().copied();
+            let ran = Paper.run_dump(registration, memory, platform);
+            Ran { number: if memory.first().copied() == before { ran.number } else { 9 }, ..ran }
         }
 
         fn no_reading(&self) -> ReadingRecord {
@@ -300,6 +393,10 @@ mod tests {
             Paper.month()
         }
 
+        fn keeping(&self) -> &dyn Keeping {
+            Paper.keeping()
+        }
+
         fn read_nodes(&self, area: &[u8], scope: u32, out: &mut [u32]) -> Reading {
             Paper.read_nodes(area, scope, out)
         }
@@ -313,17 +410,20 @@ mod tests {
         }
     }
 
-    /// The first call with a difference for which this holds, made small.
-    fn small_call(holds: impl Fn(&CallCase) -> bool) -> CallCase {
+    /// The first case with a difference for which this holds, made small.
+    fn small(holds: impl Fn(&Case) -> bool) -> Case {
         let sides = Sides { paper: &Paper, tested: &Faulty };
         let mut coverage = Coverage::new();
-        let mut differs = |case: &Case| {
-            let held = matches!(case, Case::Call(call) if holds(call));
-            held && compare::difference(sides, case, &mut coverage).is_some()
-        };
+        let mut differs = |case: &Case| holds(case) && compare::difference(sides, case, &mut coverage).is_some();
         let found = (0..4000).map(|number| generate::case(1, number)).find(|case| differs(case)).unwrap();
         let small = shrink(found, &mut differs);
         assert!(differs(&small));
+        small
+    }
+
+    /// The first call of this sort, made small.
+    fn small_call(holds: impl Fn(&CallCase) -> bool) -> CallCase {
+        let small = small(|case| matches!(case, Case::Call(call) if holds(call)));
         match small {
             Case::Call(call) => call,
             _ => panic!("no call: {}", small.text()),
@@ -336,6 +436,15 @@ mod tests {
         assert_eq!((call.args.len(), call.memory.len()), (0, 0));
         assert!(call.journal.len() <= 10, "{}", call.text());
         assert_eq!((call.edition, call.reading), (0, ReadingRecord::NONE));
+    }
+
+    #[test]
+    fn a_run_is_made_small() {
+        let Case::Run(run) = small(|case| matches!(case, Case::Run(run) if run.steps.len() > 1)) else {
+            panic!("no run");
+        };
+        assert!(run.memory.len() <= 2 && run.platform.len() <= 1, "{}", run.text());
+        assert_eq!((run.steps.len(), run.registration.copy[5]), (2, 1));
     }
 
     #[test]

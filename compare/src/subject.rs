@@ -1,8 +1,9 @@
 //! The two sides of the comparison behind one trait.
 
-use crate::library::{Edit, Reading, ReadingRecord, Registration, Replay, Report, NO_REGISTRATION};
+use crate::library::{Edit, Reading, ReadingRecord, Registration, Replay, Report, NO_REGISTRATION, PARAMETER};
 use crate::month::subject::Month;
 use crate::paper;
+use crate::tallies::subject::Keeping;
 
 /// With no library at hand the other side is a second copy of the paper's implementation.
 #[cfg(feature = "without-library")]
@@ -24,6 +25,14 @@ pub struct Answered {
     pub number: u32,
     pub registration: Registration,
     pub reading: ReadingRecord,
+    pub rule: &'static str,
+}
+
+/// What a run of a dump gives back. The rule that refused it is told by the paper's side only.
+pub struct Ran {
+    pub number: u32,
+    pub status: u32,
+    pub registration: Registration,
     pub rule: &'static str,
 }
 
@@ -50,11 +59,15 @@ pub struct Ended {
     pub report: Report,
 }
 
-/// One side: the calls, the replay, the month and the readers as the library's C interface has them.
+/// One side: the calls, the run of a dump, the replay, the month, the tallies and the readers as the library's C interface
+/// has them.
 pub trait Subject {
     fn name(&self) -> &'static str;
 
     fn call(&self, args: &mut [u8], memory: &mut [u8], platform: &Platform) -> Answered;
+
+    /// The run of a registered dump, over the memories of the partition and of the platform.
+    fn run_dump(&self, registration: &Registration, memory: &mut [u8], platform: &[u8]) -> Ran;
 
     /// The record that a partition starts with.
     fn no_reading(&self) -> ReadingRecord;
@@ -73,6 +86,9 @@ pub trait Subject {
 
     /// Replays that count, and totals over them.
     fn month(&self) -> &dyn Month;
+
+    /// A journal that is kept with its tallies, and forecasts.
+    fn keeping(&self) -> &dyn Keeping;
 
     /// With entries, writes three words for each that fits in `out`, and nothing else.
     fn read_nodes(&self, area: &[u8], scope: u32, out: &mut [u32]) -> Reading;
@@ -191,6 +207,20 @@ macro_rules! paper_subject {
                 Answered { number: told.number, registration, reading, rule: told.rule }
             }
 
+            fn run_dump(&self, given: &Registration, memory: &mut [u8], platform: &[u8]) -> Ran {
+                let Some(registration) = Self::registration_given(given) else {
+                    let (number, status, rule) = (NO_REGISTRATION, PARAMETER, "no registration");
+                    return Ran { number, status, registration: *given, rule };
+                };
+                match $rules::dump_run::run_dump(&registration, memory, platform) {
+                    Ok(after) => Ran { number: 0, status: 0, registration: Self::registration(&after), rule: "" },
+                    Err(refusal) => {
+                        let (status, rule) = (refusal.status as u32, refusal.rule);
+                        Ran { number: 0, status, registration: *given, rule }
+                    }
+                }
+            }
+
             fn no_reading(&self) -> ReadingRecord {
                 Self::record(&$rules::NO_READING)
             }
@@ -224,6 +254,10 @@ macro_rules! paper_subject {
             }
 
             fn month(&self) -> &dyn Month {
+                self
+            }
+
+            fn keeping(&self) -> &dyn Keeping {
                 self
             }
 

@@ -15,7 +15,7 @@ pub enum Answer {
     CallAgain = 1,
 }
 
-/// Why a call is refused: by a status below 0, or by a number above 0, which leaves no status.
+/// Why a call is refused, or the run of a dump: by a status below 0, or by a number above 0, which leaves no status.
 #[derive(Clone, Copy, PartialEq, Eq, Debug)]
 pub enum Fault {
     /// Number 10: the argument buffer has under 12 bytes, or fewer than it declares.
@@ -24,11 +24,12 @@ pub enum Fault {
     NoOutputs = 11,
     /// Number 12: inputs or outputs above 16.
     TooMany = 12,
-    /// Number 13: no registration. `Registration::restore` gives it; no call does, since every `Registration` is one.
+    /// Number 13: no registration. `Registration::restore` gives it; no call and no run does, since every `Registration` is
+    /// one.
     NoRegistration = 13,
     /// Status -1: the journal or inventory is malformed.
     Malformed = -1,
-    /// Status -3: an input, the token, the counts or the work area.
+    /// Status -3: an input, the token, the counts or the work area; of a run, that no good structure is registered.
     Parameter = -3,
     /// Status -4: the inventory's edition is not the reading's. The partition begins again with Starting Number 1.
     Changed = -4,

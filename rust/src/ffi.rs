@@ -1,6 +1,8 @@
-//! The C interface, as `include/draugsten.h` has it. All unsafe code of the crate stands in this file.
+//! The C interface, as `include/draugsten.h` has it. All unsafe code of the crate stands here and in the folder beside.
 
 #![allow(unsafe_code)]
+
+pub mod tallies;
 
 /// A phase above 2 or a length above 512 is no registration.
 #[repr(C)]
@@ -26,6 +28,13 @@ pub struct Answer {
     pub number: u32,
     pub registration: Registration,
     pub reading: Reading,
+}
+
+#[repr(C)]
+pub struct Run {
+    pub number: u32,
+    pub status: u32,
+    pub registration: Registration,
 }
 
 #[repr(C)]
@@ -166,6 +175,14 @@ extern "C" {
         reading: Reading,
     ) -> Answer;
 
+    fn draugsten_run_dump(
+        registration: Registration,
+        memory: *mut u8,
+        memory_length: usize,
+        platform: *const u8,
+        platform_length: usize,
+    ) -> Run;
+
     fn draugsten_replay_start(edition: u32) -> Replay;
 
     fn draugsten_replay_feed(
@@ -269,6 +286,11 @@ pub fn call(
             reading,
         )
     }
+}
+
+pub fn run_dump(registration: Registration, memory: &mut [u8], platform: &[u8]) -> Run {
+    // SAFETY: both pointers are slices', with their lengths; `memory`, which is written, is borrowed by `&mut`.
+    unsafe { draugsten_run_dump(registration, memory.as_mut_ptr(), memory.len(), platform.as_ptr(), platform.len()) }
 }
 
 pub fn replay_start(edition: u32) -> Replay {
@@ -380,11 +402,20 @@ pub fn read_properties(area: &[u8], out: &mut [u32]) -> PropertyReading {
     unsafe { draugsten_read_properties(area.as_ptr(), area.len(), out.as_mut_ptr(), out.len()) }
 }
 
-/// The sizes and places of the month's fields, which tests/refusals.c holds the header to.
+/// The sizes and places of fields, which tests/refusals.c holds the header to.
 #[cfg(test)]
 mod tests {
-    use super::{Added, Counted, Counting, Counts, Merged, Share, Totals};
+    use super::{Added, Counted, Counting, Counts, Merged, Registration, Run, Share, Totals};
     use std::mem::{offset_of, size_of};
+
+    #[test]
+    fn the_layout_of_a_registration_and_a_run() {
+        assert_eq!([size_of::<Registration>(), size_of::<Run>()], [528, 536]);
+        let registration =
+            [offset_of!(Registration, phase), offset_of!(Registration, length), offset_of!(Registration, copy)];
+        assert_eq!(registration, [0, 8, 16]);
+        assert_eq!([offset_of!(Run, number), offset_of!(Run, status), offset_of!(Run, registration)], [0, 4, 8]);
+    }
 
     #[test]
     fn the_layout_of_counts_and_totals() {

@@ -1,7 +1,8 @@
-//! Safe Rust over `libdraugsten.a` and `libdraugsten_replay.a`: the RTAS calls ibm,update-nodes, ibm,get-indices,
-//! ibm,configure-kernel-dump and ibm,update-properties on the platform's side, readers of the work areas that all but the
-//! dump fill, the recording of a session of calls, its replay, and the counts of its calls in totals over sessions; these
-//! two are the second archive.
+//! Safe Rust over `libdraugsten.a`, `libdraugsten_dump.a`, `libdraugsten_replay.a` and `libdraugsten_tallies.a`: the RTAS
+//! calls ibm,update-nodes, ibm,get-indices, ibm,configure-kernel-dump and ibm,update-properties on the platform's side,
+//! readers of the work areas that all but the dump fill, the run of a registered kernel dump, which is the second archive,
+//! the recording of a session of calls, its replay, and the counts of its calls in totals over sessions, of which the last
+//! two are the third, and a journal that is kept with its tallies, with forecasts from these, which is the fourth.
 //! `include/draugsten.h` has what each buffer holds and which bytes are written.
 //!
 //! ```
@@ -25,6 +26,7 @@
 
 pub mod args;
 mod calling;
+mod dump;
 mod ffi;
 mod month;
 mod properties;
@@ -33,9 +35,11 @@ mod reading_record;
 mod recorder;
 mod registration;
 mod replay;
+mod tallies;
 pub mod trace;
 
 pub use calling::{call, Answer, Fault};
+pub use dump::{Section, DUMP_ERROR, DUMP_PERFORMED};
 pub use month::{Counted, CountingReplay, Figures, NotAdded, NotMerged, Share, Status, Token, Totals};
 pub use properties::{read_properties, Descriptor, Property, PropertyArea, NAME_LIMIT, VALUE_LIMIT};
 pub use reading::{read_indices, read_nodes, read_state, Entry, Operation, Reason, Refusal, CODE_LIMIT, FIELD_LIMIT};
@@ -43,3 +47,4 @@ pub use reading_record::{Edition, ReadingRecord};
 pub use recorder::{RecordError, Recorded, Recorder};
 pub use registration::{Phase, Registration, STRUCTURE_LIMIT};
 pub use replay::{Difference, Replay, Report};
+pub use tallies::{forecast, recount, Forecast, NotKept, TalliedJournal, Tallies, Tally};

@@ -13,12 +13,12 @@ pub enum Phase {
     None = 0,
     /// A structure is registered.
     Registered = 1,
-    /// A dump is active. No call makes a registration active; `Registration::restore` does.
+    /// A dump is active. `Registration::run` makes a registration active; no call does.
     Active = 2,
 }
 
-/// A partition's registration. It is made by `none` or `restore` and changed by calls alone, so it is always one that the
-/// library takes.
+/// A partition's registration. It is made by `none` or `restore` and changed by calls and runs alone, so it is always one
+/// that the library takes.
 #[derive(Clone, PartialEq, Eq, Debug)]
 pub struct Registration {
     flat: ffi::Registration,
@@ -31,8 +31,8 @@ impl Registration {
     }
 
     /// A registration of its three parts: the phase's number, the length of the copied structure, and the copy. So a
-    /// platform makes an active one of a registered one, and takes up again what it had stored. Any copy is taken as it
-    /// is. A phase above 2 or a length above 512 is `Fault::NoRegistration`, as the library's number 13.
+    /// platform takes up again what it had stored. Any copy is taken as it is. A phase above 2 or a length above 512 is
+    /// `Fault::NoRegistration`, as the library's number 13.
     ///
     /// ```
     /// use draugsten::{args, call, Answer, Edition, Phase, ReadingRecord, Registration};
@@ -71,7 +71,7 @@ impl Registration {
         }
     }
 
-    /// The copied dump structure; empty where nothing is registered.
+    /// The copied dump structure; empty where nothing is registered. After a run it tells what came of it.
     pub fn structure(&self) -> &[u8] {
         &self.flat.copy[..self.flat.length]
     }

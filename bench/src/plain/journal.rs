@@ -12,7 +12,7 @@ const VALUE_LIMIT: usize = 32_768;
 pub type Row = [u8; 17];
 
 /// The rows of the negative scopes, and of scopes 1, 2 and 3.
-const ROWS: [Row; 4] = [
+pub const ROWS: [Row; 4] = [
     [0, 0, 0, 0, 0, 2, 0, 0, 2, 2, 7, 7, 7, 7, 7, 0, 0],
     [0, 2, 2, 2, 2, 2, 7, 2, 2, 7, 7, 7, 7, 7, 7, 0, 0],
     [0, 0, 0, 2, 0, 0, 0, 0, 0, 0, 0, 0, 0, 0, 0, 0, 0],

@@ -7,6 +7,7 @@ mod journal;
 mod read_indices;
 mod read_nodes;
 mod read_properties;
+pub mod tallies;
 #[cfg(test)]
 mod tests;
 mod update_nodes;

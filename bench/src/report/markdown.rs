@@ -3,9 +3,11 @@
 use super::{counted, grouped, micros, range, ratio, ratio_text, warning, Measured};
 use crate::library;
 use crate::rows::copying::Copying;
+use crate::rows::dumps::Dumped;
 use crate::rows::growth::{each, Growth};
 use crate::rows::replays::{Fed, Replay, Setting};
 use crate::rows::slowest::{Slowest, ALLOWED};
+use crate::rows::tallies::Kept;
 use crate::rows::Row;
 use crate::timing::{Effort, SHORTEST};
 
@@ -34,8 +36,56 @@ pub fn page(measured: &Measured) -> String {
         Over many values each call also judges the whole journal and follows the session to its state.\n",
     ));
     lines.extend(copying(&measured.copying));
+    lines.extend(dump_section(&measured.dumps));
+    lines.extend(tallies_section(&measured.tallies));
     lines.extend(replay_section(measured));
     lines.join("\n") + "\n"
+}
+
+/// What is measured of a dump's run.
+fn dump_section(dumps: &[Dumped]) -> Vec<String> {
+    let mut lines = vec![String::from("\n## Running a dump\n")];
+    lines.push(String::from(
+        "The run of a registered dump (`draugsten_run_dump`) that copies one section, beside memmove of the same bytes in the \
+        same memory, from platform memory memcpy. The two take turns.\n",
+    ));
+    let names = ["over", "bytes", "memmove", library::SIDE.name, "/ memmove", "over the runs"];
+    lines.extend(heading(&names, 1));
+    lines.extend(dumps.iter().map(|each| {
+        line(&[
+            each.over.to_string(),
+            grouped(each.bytes as u64),
+            micros(each.memmove),
+            micros(each.proved),
+            ratio(each.proved, each.memmove),
+            range(each.ratios, ratio_text),
+        ])
+    }));
+    lines
+}
+
+/// What is measured of a journal that is kept with its tallies.
+fn tallies_section(tallies: &[Kept]) -> Vec<String> {
+    let mut lines = vec![String::from("\n## Keeping tallies\n")];
+    lines.push(String::from(
+        "A journal of records of kinds 1 to 4 that is kept with its tallies, beside another way to the same; the two take \
+        turns. An append does not depend on the bytes in use: a hundred at 1,000,000 bytes stand beside the same hundred at \
+        1,000. Rust that recounts goes over the whole journal behind each append.\n",
+    ));
+    let names = ["", "beside", "bytes", "its time", library::SIDE.name, "ratio", "over the runs"];
+    lines.extend(heading(&names, 2));
+    lines.extend(tallies.iter().map(|each| {
+        line(&[
+            each.what.to_string(),
+            each.beside.to_string(),
+            grouped(each.bytes as u64),
+            micros(each.other),
+            micros(each.proved),
+            ratio(each.proved, each.other),
+            range(each.ratios, ratio_text),
+        ])
+    }));
+    lines
 }
 
 /// What is measured of replays.

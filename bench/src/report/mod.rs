@@ -5,15 +5,17 @@ mod plot;
 mod table;
 
 pub use table::{
-    print_copying, print_counted, print_growth, print_heading, print_ranges, print_replays, print_row, print_settings,
-    print_slowest,
+    print_copying, print_counted, print_dumps, print_growth, print_heading, print_ranges, print_replays, print_row,
+    print_settings, print_slowest, print_tallies,
 };
 
 use crate::library;
 use crate::rows::copying::Copying;
+use crate::rows::dumps::Dumped;
 use crate::rows::growth::Growth;
 use crate::rows::replays::{Fed, Replay, Setting};
 use crate::rows::slowest::Slowest;
+use crate::rows::tallies::Kept;
 use crate::rows::{joined, Range, Row};
 use crate::timing::Effort;
 use std::path::Path;
@@ -28,6 +30,8 @@ pub struct Measured {
     pub rows: Vec<Row>,
     pub growth: Vec<Growth>,
     pub copying: Vec<Copying>,
+    pub dumps: Vec<Dumped>,
+    pub tallies: Vec<Kept>,
     pub slowest: Vec<Slowest>,
     pub replays: Vec<Replay>,
     pub settings: Vec<Setting>,
@@ -39,6 +43,12 @@ impl Measured {
         self.runs += before.runs;
         for (row, before) in self.rows.iter_mut().zip(&before.rows) {
             row.ratios = joined(row.ratios, before.ratios);
+        }
+        for (dumped, before) in self.dumps.iter_mut().zip(&before.dumps) {
+            dumped.ratios = joined(dumped.ratios, before.ratios);
+        }
+        for (kept, before) in self.tallies.iter_mut().zip(&before.tallies) {
+            kept.ratios = joined(kept.ratios, before.ratios);
         }
         for (slowest, before) in self.slowest.iter_mut().zip(&before.slowest) {
             slowest.times = joined(slowest.times, before.times);
@@ -143,6 +153,7 @@ fn ratio(time: f64, to: f64) -> String {
 
 fn ratio_text(ratio: f64) -> String {
     match ratio {
+        ratio @ ..0.001 => format!("1/{}", grouped((1.0 / ratio).round() as u64)),
         ratio @ ..0.1 => format!("{ratio:.3}"),
         ratio @ ..100.0 => format!("{ratio:.2}"),
         ratio => format!("{ratio:.0}"),

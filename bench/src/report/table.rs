@@ -3,9 +3,11 @@
 use super::{counted, grouped, micros, range, ratio, ratio_text, warning, Measured};
 use crate::library;
 use crate::rows::copying::Copying;
+use crate::rows::dumps::Dumped;
 use crate::rows::growth::{each, Growth};
 use crate::rows::replays::{Fed, Replay, Setting, BURST};
 use crate::rows::slowest::{Slowest, ALLOWED};
+use crate::rows::tallies::Kept;
 use crate::rows::Row;
 use crate::timing::Effort;
 
@@ -48,6 +50,25 @@ pub fn print_copying(copying: &[Copying]) {
     for each in copying {
         print!("{:<24} {:>9} {:>10}", each.over, grouped(each.bytes as u64), micros(each.memcpy));
         println!(" {:>10} {:>10} {:>8}", micros(each.rust), micros(each.proved), ratio(each.proved, each.memcpy));
+    }
+}
+
+pub fn print_dumps(dumps: &[Dumped]) {
+    println!("\nrun of a dump that copies one section, beside memmove of its bytes: microseconds");
+    println!("{:<27} {:>10} {:>10} {:>10} {:>9}", "over", "bytes", "memmove", library::SIDE.name, "/memmove");
+    for each in dumps {
+        print!("{:<27} {:>10} {:>10}", each.over, grouped(each.bytes as u64), micros(each.memmove));
+        println!(" {:>10} {:>9}", micros(each.proved), ratio(each.proved, each.memmove));
+    }
+}
+
+pub fn print_tallies(tallies: &[Kept]) {
+    println!("\na journal that is kept with its tallies, beside another way: microseconds");
+    print!("{:<42} {:<24} {:>9}", "", "beside", "bytes");
+    println!(" {:>10} {:>10} {:>7}", "its time", library::SIDE.name, "ratio");
+    for each in tallies {
+        print!("{:<42} {:<24} {:>9}", each.what, each.beside, grouped(each.bytes as u64));
+        println!(" {:>10} {:>10} {:>7}", micros(each.other), micros(each.proved), ratio(each.proved, each.other));
     }
 }
 
@@ -119,6 +140,14 @@ pub fn print_ranges(measured: &Measured) {
         for call in &measured.slowest {
             let bytes = grouped(call.bytes as u64);
             println!("{:<30} {:<24} {bytes:>9} {:>16}", call.what, call.over, range(call.times, micros));
+        }
+        println!("\nover {} runs: the runs of dumps, ratios to memmove", measured.runs);
+        for each in &measured.dumps {
+            println!("{:<27} {:>16}", each.over, range(each.ratios, ratio_text));
+        }
+        println!("\nover {} runs: a journal that is kept, ratios", measured.runs);
+        for each in &measured.tallies {
+            println!("{:<42} {:<24} {:>16}", each.what, each.beside, range(each.ratios, ratio_text));
         }
         print_replay_ranges(measured);
     }

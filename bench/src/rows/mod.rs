@@ -1,12 +1,14 @@
 //! The rows that are measured, one file for each kind.
 
 pub mod copying;
+pub mod dumps;
 pub mod get_indices;
 pub mod growth;
 pub mod readers;
 pub mod replays;
 pub mod scans;
 pub mod slowest;
+pub mod tallies;
 pub mod update_nodes;
 pub mod update_properties;
 

@@ -10,13 +10,16 @@ mod properties;
 mod property_areas;
 mod reading_records;
 mod replays;
+mod runs;
+mod tallies;
 
 use crate::buffers::{record_places, word_at};
-use crate::case::{Asked, CallCase, ReadCase, StateCase, TraceCase};
+use crate::case::{Asked, CallCase, ReadCase, StateCase, Step, TraceCase};
 use crate::compare::CallResult;
 use crate::library::month::{Added, Counted, Counting, Counts as TraceCounts, Merged, Share, Totals};
-use crate::library::{Reading, Report};
+use crate::library::{Reading, Registration, Report};
 use crate::session::Counts;
+use crate::subject::Ran;
 use combinations::Combinations;
 
 /// A line of the paper, as a condition on the facts of a case.
@@ -135,6 +138,7 @@ pub struct Coverage {
     edits: Table,
     dump_rules: Table,
     dump_lines: Table,
+    runs: [Table; 3],
     property_rules: Table,
     property_lines: Table,
     node_areas: Table,
@@ -149,6 +153,7 @@ pub struct Coverage {
     states: Table,
     state_lines: Table,
     months: [Table; 7],
+    tallies: [Table; 7],
     combinations: Combinations,
 }
 
@@ -165,6 +170,7 @@ impl Coverage {
             edits: Table::of_lines("edits", reading_records::EDITS),
             dump_rules: Table::new("configure-kernel-dump, by rule", dump::RULES.into_iter()),
             dump_lines: Table::of_lines("configure-kernel-dump, lines", dump::LINES),
+            runs: run_tables(),
             property_rules: Table::new("update-properties, by rule", properties::RULES.into_iter()),
             property_lines: Table::of_lines("update-properties, lines", properties::LINES),
             node_areas: Table::new("node areas read", areas::NODE_REFUSALS.iter().map(|row| row.1)),
@@ -179,6 +185,7 @@ impl Coverage {
             states: Table::new("replays fed that stand anywhere", replays::STATES.into_iter()),
             state_lines: Table::of_lines("such replays, lines", replays::STATE_LINES),
             months: month_tables(),
+            tallies: tallies::tables(),
             combinations: Combinations::new(),
         }
     }
@@ -211,6 +218,17 @@ impl Coverage {
                 self.dump_lines.count_lines(dump::LINES, &dump::facts(case, result, &inputs));
             }
         }
+    }
+
+    /// What is done with a dump, behind the step before it.
+    pub fn dump_step(&mut self, before: Option<Step>, step: Step) {
+        runs::step_row(before, step).into_iter().for_each(|row| self.runs[2].add(row, 1));
+    }
+
+    /// A run of a dump, over the registration and the memory that it found.
+    pub fn run(&mut self, registration: &Registration, memory: &[u8], platform: &[u8], told: &Ran) {
+        self.runs[0].add(runs::row(registration, told), 1);
+        self.runs[1].count_lines(runs::LINES, &runs::facts(memory, platform, told));
     }
 
     pub fn edit(&mut self, edition: u32) {
@@ -358,7 +376,7 @@ impl Coverage {
             &self.states,
             &self.state_lines,
         ];
-        first.into_iter().chain(&self.months).collect()
+        first.into_iter().chain(&self.runs).chain(&self.months).chain(&self.tallies).collect()
     }
 
     /// The rows that never came up.
@@ -396,6 +414,15 @@ impl Coverage {
         println!("\n{} rows never came up", missing.len());
         missing.iter().for_each(|row| println!("  {row}"));
     }
+}
+
+/// The tables of a dump's run.
+fn run_tables() -> [Table; 3] {
+    [
+        Table::new("runs of a dump, by rule", runs::RULES.into_iter()),
+        Table::of_lines("runs of a dump, lines", runs::LINES),
+        Table::new("what is done with a dump", runs::STEPS.into_iter()),
+    ]
 }
 
 /// The tables of the month.

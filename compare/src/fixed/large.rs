@@ -1,6 +1,7 @@
 //! Readings in a memory above 4 GiB, where alone "at most 2^32" can be told from "inside memory". The memory is zero and
 //! shared by all of them; around both ends of the first 4 GiB every byte is compared, the rest is not looked at.
 
+use super::runs::registrations;
 use super::{EDITION, NONE, READING};
 use crate::buffers::{arguments, inventory_record, property_record, put_word, record, words};
 use crate::compare::Sides;
@@ -46,8 +47,34 @@ pub fn run(sides: Sides) -> Option<(usize, Vec<String>)> {
             failures.extend(failure(subject, reading, &mut memory));
         }
         failures.extend(setting_failure(subject, &mut memory));
+        failures.extend(run_failure(subject, &mut memory));
     }
-    Some((readings.len() + 1, failures))
+    Some((readings.len() + 2, failures))
+}
+
+/// The run of a dump whose sections lie on both sides of 2^32: from there to there, by one place onto itself, from there to
+/// the front, and from the platform, of which the last byte finds no room.
+fn run_failure(subject: &dyn Subject, memory: &mut [u8]) -> Option<String> {
+    let four_gib = FOUR_GIB as u64;
+    let sections = [
+        (0x11, four_gib - 2, 4, four_gib + 100),
+        (0x12, four_gib + 100, 4, four_gib + 101),
+        (0x100, four_gib + 102, 3, 1),
+        (1, 0, 3, LENGTH as u64 - 2),
+    ];
+    let came = [(0, 4), (0, 4), (0, 3), (0x0800, 2)];
+    let [given, after] = registrations(&sections, &came, 0xa000);
+    PARTS.iter().for_each(|part| memory[part.0..part.1].fill(0));
+    let before = (FOUR_GIB - 2, b"abcd".to_vec());
+    [&before, &(FOUR_GIB + 100, b"aabcd".to_vec()), &(1, b"bcd".to_vec()), &(LENGTH - 2, b"AB".to_vec())]
+        .into_iter()
+        .for_each(|place| put(memory, place));
+    let written = compared_parts(memory);
+    PARTS.iter().for_each(|part| memory[part.0..part.1].fill(0));
+    put(memory, &before);
+    let ran = subject.run_dump(&given, memory, b"ABC");
+    let good = (ran.number, ran.status) == (0, 0) && ran.registration == after && compared_parts(memory) == written;
+    (!good).then(|| format!("fixed reading 'a dump across 2^32' in a memory above 4 GiB on {}", subject.name()))
 }
 
 /// The replay of a 34 that sets bytes on both sides of 2^32: no rule keeps them below.

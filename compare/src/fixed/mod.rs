@@ -12,7 +12,9 @@ mod properties;
 mod property_areas;
 mod reading_records;
 mod replays;
+mod runs;
 mod scopes;
+mod tallies;
 mod totals;
 
 use crate::buffers::put_word;
@@ -25,6 +27,8 @@ use crate::text;
 use months::{CountsReading, MonthReading};
 use reading_records::{edit_failure, start_failure, EDITS};
 use replays::{FeedReading, TraceReading};
+use runs::RunReading;
+use tallies::{ForecastReading, KeptReading, RecountReading};
 use totals::{MergeReading, ShareReading};
 
 /// A call and all that it has to leave.
@@ -192,12 +196,16 @@ struct Readings {
     calls: Vec<CallReading>,
     areas: Vec<AreaReading>,
     property_areas: Vec<PropertyReading>,
+    runs: Vec<RunReading>,
     traces: Vec<TraceReading>,
     feeds: Vec<FeedReading>,
     months: Vec<MonthReading>,
     counts: Vec<CountsReading>,
     merges: Vec<MergeReading>,
     shares: Vec<ShareReading>,
+    kept: Vec<KeptReading>,
+    recounts: Vec<RecountReading>,
+    forecasts: Vec<ForecastReading>,
 }
 
 fn readings() -> Readings {
@@ -214,12 +222,16 @@ fn readings() -> Readings {
         calls: calls.into_iter().flatten().collect(),
         areas: areas::readings(),
         property_areas: property_areas::readings(),
+        runs: runs::readings(),
         traces: replays::readings(),
         feeds: replays::feeds(),
         months: months::readings(),
         counts: months::counts(),
         merges: totals::merges(),
         shares: totals::shares(),
+        kept: tallies::kept(),
+        recounts: tallies::recounts(),
+        forecasts: tallies::forecasts(),
     }
 }
 
@@ -231,10 +243,12 @@ impl Readings {
         let of_property_areas = self.property_areas.iter().map(|reading| reading.failure(subject));
         let of_edits = EDITS.iter().map(|&(edition, written)| edit_failure(subject, edition, written));
         let of_the_start = std::iter::once_with(|| start_failure(subject));
+        let of_runs = self.runs.iter().map(|reading| reading.failure(subject));
         let of_traces = self.traces.iter().map(|reading| reading.failure(subject));
         let of_feeds = self.feeds.iter().map(|reading| reading.failure(subject));
-        let first = of_calls.chain(of_areas).chain(of_property_areas).chain(of_edits);
+        let first = of_calls.chain(of_areas).chain(of_property_areas).chain(of_runs).chain(of_edits);
         let all = first.chain(of_the_start).chain(of_traces).chain(of_feeds).chain(self.month_failures(subject));
+        let all = all.chain(self.tallies_failures(subject));
         // The place is noted before the reading is run.
         let places = (0..).inspect(|&place| crash::running_fixed(place));
         places.zip(all).filter_map(|(_, failure)| failure).collect()
@@ -249,13 +263,25 @@ impl Readings {
         of_months.chain(of_counts).chain(of_merges).chain(of_shares)
     }
 
+    /// What a side does otherwise than written with tallies and forecasts.
+    fn tallies_failures<'a>(&'a self, subject: &'a dyn Subject) -> impl Iterator<Item = Option<String>> + 'a {
+        let of_kept = self.kept.iter().map(|reading| reading.failure(subject));
+        let of_recounts = self.recounts.iter().map(|reading| reading.failure(subject));
+        let of_forecasts = self.forecasts.iter().map(|reading| reading.failure(subject));
+        of_kept.chain(of_recounts).chain(of_forecasts)
+    }
+
     fn text(&self) -> String {
         let (calls, areas, edits) = (self.calls.len(), self.areas.len() + self.property_areas.len(), EDITS.len());
+        let runs = format!("{} runs of a dump", self.runs.len());
         let replays = format!("{} traces and {} feeds of a replay", self.traces.len(), self.feeds.len());
         let (months, counts) = (self.months.len(), self.counts.len());
         let months = format!("{months} traces and {counts} replays that are counted");
         let totals = format!("{} merges and {} shares", self.merges.len(), self.shares.len());
-        format!("{calls} calls, {areas} areas, {edits} edits, the record to start with, {replays}, {months}, {totals}")
+        let first = format!("{calls} calls, {areas} areas, {runs}, {edits} edits, the record to start with");
+        let (kept, recounts) = (self.kept.len(), self.recounts.len());
+        let tallies = format!("{kept} operations on a kept journal, {recounts} recounts");
+        format!("{first}, {replays}, {months}, {totals}, {tallies} and {} forecasts", self.forecasts.len())
     }
 }
 
@@ -267,7 +293,9 @@ pub fn run(sides: Sides) -> Vec<String> {
     println!("fixed readings: {} on both sides", readings.text());
     match large::run(sides) {
         Some((readings, wrong)) => {
-            println!("fixed readings in a memory of 4 GiB and 8,192 bytes: {readings} calls and replays on both sides");
+            println!(
+                "fixed readings in a memory of 4 GiB and 8,192 bytes: {readings} calls, runs and replays on both sides"
+            );
             failures.extend(wrong);
         }
         None => println!("fixed readings in a memory above 4 GiB: left out, there is no room for it"),

@@ -19,7 +19,9 @@ pub mod reading_records;
 mod recordings;
 pub mod registrations;
 mod replay_states;
+mod runs;
 mod structures;
+mod tallies;
 mod traces;
 
 use crate::buffers::record_places;
@@ -30,8 +32,9 @@ use journals::Size;
 
 pub fn case(seed: u64, number: u64) -> Case {
     let mut random = Random::for_case(seed, number);
-    match random.below(110) {
-        0..=54 => Case::Call(call(&mut random)),
+    match random.below(118) {
+        0..=49 => Case::Call(call(&mut random)),
+        50..=54 => Case::Run(runs::case(&mut random)),
         55..=63 => Case::Month(months::case(&mut random)),
         64 => Case::Edit(reading_records::edition(&mut random)),
         65..=75 => node_areas::case(&mut random),
@@ -41,7 +44,8 @@ pub fn case(seed: u64, number: u64) -> Case {
         95..=96 => Case::Session(property_session(&mut random)),
         97..=99 => Case::Session(index_session(&mut random)),
         100..=104 => Case::Trace(traces::case(&mut random)),
-        _ => Case::State(replay_states::case(&mut random)),
+        105..=109 => Case::State(replay_states::case(&mut random)),
+        _ => Case::Tallies(tallies::case(&mut random)),
     }
 }
 

@@ -22,6 +22,19 @@ impl Structure {
         self.bytes[at..at + 2].copy_from_slice(&value.to_be_bytes());
     }
 
+    /// The offsets of the sections.
+    pub fn section_places(&self) -> Vec<usize> {
+        (0..self.sections).map(|number| self.first + 40 * number).collect()
+    }
+
+    /// Gives a section another type, source, requested length and destination.
+    pub fn put_section(&mut self, at: usize, kind: u16, [source, requested, destination]: [u64; 3]) {
+        self.put_short(at + 4, kind);
+        for (place, number) in [(8, source), (16, requested), (32, destination)] {
+            self.bytes[at + place..at + place + 8].copy_from_slice(&number.to_be_bytes());
+        }
+    }
+
     /// The offset of one of the sections.
     fn one_section(&self, random: &mut Random) -> usize {
         self.first + 40 * random.below(self.sections)

@@ -1,11 +1,14 @@
 //! The C interface of the library under test. All that the comparison knows of the interface stands in this folder.
 
 pub mod month;
+pub mod tallies;
 
 #[cfg(not(feature = "without-library"))]
 use crate::month::subject::Month;
 #[cfg(not(feature = "without-library"))]
-use crate::subject::{Answered, Ended, Fed, Feeding, Platform, Subject};
+use crate::subject::{Answered, Ended, Fed, Feeding, Platform, Ran, Subject};
+#[cfg(not(feature = "without-library"))]
+use crate::tallies::subject::Keeping;
 
 /// The registration as it is compared: phase 0 none, 1 registered, 2 active. A phase above 2 or a length above 512
 /// is no registration.
@@ -83,8 +86,11 @@ impl Replay {
     }
 }
 
-/// The number of a call over something that is no registration; it changes nothing.
+/// The number of a call or a run over something that is no registration; it changes nothing.
 pub const NO_REGISTRATION: u32 = 13;
+
+/// The status -3, which a run has beside that number.
+pub const PARAMETER: u32 = 0xffff_fffd;
 
 #[cfg(not(feature = "without-library"))]
 mod c {
@@ -116,6 +122,13 @@ mod c {
         pub number: u32,
         pub registration: Registration,
         pub reading: Reading,
+    }
+
+    #[repr(C)]
+    pub struct Run {
+        pub number: u32,
+        pub status: u32,
+        pub registration: Registration,
     }
 
     #[repr(C)]
@@ -186,6 +199,14 @@ mod c {
             registration: Registration,
             reading: Reading,
         ) -> Answer;
+
+        pub fn draugsten_run_dump(
+            registration: Registration,
+            memory: *mut u8,
+            memory_len: usize,
+            platform: *const u8,
+            platform_len: usize,
+        ) -> Run;
 
         pub fn draugsten_no_reading() -> Reading;
 
@@ -334,6 +355,14 @@ impl Subject for Library {
         Answered { number, registration, reading, rule: "" }
     }
 
+    fn run_dump(&self, registration: &Registration, memory: &mut [u8], platform: &[u8]) -> Ran {
+        let (bytes, length) = (memory.as_mut_ptr(), memory.len());
+        // SAFETY: each pointer comes with the length of the slice that it was taken from.
+        let run =
+            unsafe { c::draugsten_run_dump((*registration).into(), bytes, length, platform.as_ptr(), platform.len()) };
+        Ran { number: run.number, status: run.status, registration: run.registration.into(), rule: "" }
+    }
+
     fn no_reading(&self) -> ReadingRecord {
         // SAFETY: the function takes nothing.
         unsafe { c::draugsten_no_reading() }.into()
@@ -380,6 +409,10 @@ impl Subject for Library {
     }
 
     fn month(&self) -> &dyn Month {
+        self
+    }
+
+    fn keeping(&self) -> &dyn Keeping {
         self
     }
 

@@ -1,6 +1,7 @@
 //! Document 01, written out in its order and words, with the requests of document 02 that landed. Nothing here is meant
 //! to be fast.
 
+pub mod dump_run;
 pub mod get_indices;
 pub mod kernel_dump;
 pub mod month;
@@ -10,6 +11,7 @@ pub mod records;
 pub mod replay;
 pub mod replay_states;
 pub mod scope;
+pub mod tallies;
 #[cfg(test)]
 mod tests;
 pub mod update_nodes;

@@ -176,6 +176,11 @@ fn all_kinds(buffer: &[u8]) -> Result<Vec<Told<'_>>, Malformed> {
     records(buffer)?.iter().map(told).collect()
 }
 
+/// The number of a journal's records, or the rule that makes it malformed.
+pub fn journal_records(buffer: &[u8]) -> Result<usize, Malformed> {
+    all_kinds(buffer).map(|records| records.len())
+}
+
 /// The journal's changes of nodes in order, or the rule that makes it malformed. M-103: "Node updates pass over kinds 5
 /// and 6."
 pub fn journal(buffer: &[u8]) -> Result<Vec<Change>, Malformed> {

@@ -55,7 +55,7 @@ fn commands_take_turns() {
     assert_eq!(partition.registration, Registration::none());
 }
 
-/// The same registration in another phase, as a platform makes it.
+/// The same copy in another phase.
 fn in_phase(phase: Phase, from: &Registration) -> Registration {
     Registration::restore(phase as u32, from.length(), *from.copy()).unwrap()
 }

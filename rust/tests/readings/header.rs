@@ -2,8 +2,8 @@
 
 use draugsten::trace::{self, Kind, BODY_LIMIT};
 use draugsten::{
-    args, Answer, Fault, Phase, Reason, Status, Token, CODE_LIMIT, FIELD_LIMIT, NAME_LIMIT, STRUCTURE_LIMIT,
-    VALUE_LIMIT,
+    args, Answer, Fault, NotKept, Phase, Reason, Section, Status, Token, CODE_LIMIT, DUMP_ERROR, DUMP_PERFORMED,
+    FIELD_LIMIT, NAME_LIMIT, STRUCTURE_LIMIT, VALUE_LIMIT,
 };
 
 const HEADER: &str = include_str!("../../../include/draugsten.h");
@@ -95,6 +95,17 @@ fn numbers_of_the_month() {
 }
 
 #[test]
+fn numbers_of_tallies() {
+    let expected = [
+        ("DONE", 0),
+        ("MALFORMED", NotKept::Malformed as i32),
+        ("NO_ROOM", NotKept::NoRoom as i32),
+        ("NO_JOURNAL", NotKept::NoJournal as i32),
+    ];
+    assert_eq!(numbers("DRAUGSTEN_TALLIES_"), expected);
+}
+
+#[test]
 fn tokens_and_statuses_that_are_counted() {
     let tokens = [
         ("UPDATE_NODES", Token::UpdateNodes as i32),
@@ -112,6 +123,19 @@ fn phases() {
     let expected =
         [("NONE", Phase::None as i32), ("REGISTERED", Phase::Registered as i32), ("ACTIVE", Phase::Active as i32)];
     assert_eq!(numbers("DRAUGSTEN_PHASE_"), expected);
+}
+
+#[test]
+fn flags_of_a_dump() {
+    let status_flags = [("PERFORMED", DUMP_PERFORMED), ("ERROR", DUMP_ERROR)];
+    let error_flags = [
+        ("SOURCE", Section::SOURCE),
+        ("LENGTH", Section::LENGTH),
+        ("DESTINATION", Section::DESTINATION),
+        ("ROOM", Section::ROOM),
+    ];
+    assert_eq!(numbers("DRAUGSTEN_DUMP_"), status_flags.map(|(name, flag)| (name, i32::from(flag))));
+    assert_eq!(numbers("DRAUGSTEN_SECTION_"), error_flags.map(|(name, flag)| (name, i32::from(flag))));
 }
 
 #[test]

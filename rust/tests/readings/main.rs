@@ -8,3 +8,5 @@ mod nodes;
 mod partition;
 mod properties;
 mod reading_record;
+mod running;
+mod tallies;

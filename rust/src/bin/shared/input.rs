@@ -1,5 +1,6 @@
 //! The files that replays go over.
 
+use super::records::{failed, named, read_file};
 use std::fs::File;
 use std::hint::black_box;
 use std::io::{self, ErrorKind, Read, Seek};
@@ -17,19 +18,9 @@ pub enum Memory {
     Zeros(u64),
 }
 
-/// A journal and an inventory have at most so many bytes. Longer ones are malformed, whatever they hold.
-const RECORDS_LIMIT: u64 = 1_048_576;
-
-/// A journal or an inventory; an empty one, where there is no file. Of a file that is too long, enough to be too long.
+/// A journal or an inventory; an empty one, where there is no file.
 pub fn read_records(what: &str, path: Option<&Path>) -> Result<Vec<u8>, String> {
-    let Some(path) = path else { return Ok(vec![]) };
-    read(path).map_err(|error| failed(&named(what, path), &error))
-}
-
-fn read(path: &Path) -> io::Result<Vec<u8>> {
-    let mut bytes = vec![];
-    File::open(path)?.take(RECORDS_LIMIT + 1).read_to_end(&mut bytes)?;
-    Ok(bytes)
+    path.map_or(Ok(vec![]), |path| read_file(what, path))
 }
 
 pub fn read_memory(memory: &Memory) -> Result<Vec<u8>, String> {
@@ -109,28 +100,10 @@ impl Stream {
     }
 }
 
-fn named(what: &str, path: &Path) -> String {
-    format!("the {what} {}", path.display())
-}
-
-/// What cannot be read, why, and what helps.
-fn failed(name: &str, error: &io::Error) -> String {
-    let help = match error.kind() {
-        ErrorKind::NotFound => "check the name",
-        ErrorKind::PermissionDenied => "ask for the right to read it",
-        ErrorKind::IsADirectory => "name a file",
-        ErrorKind::OutOfMemory => "it needs a machine with more memory",
-        _ => "see that it is open, and can be read to its end",
-    };
-    format!("{name} cannot be read: {error}; {help}")
-}
-
 #[cfg(test)]
 mod tests {
-    use super::{read_image, read_records, RECORDS_LIMIT};
+    use super::{read_image, read_records};
     use std::path::Path;
-
-    const HEADER: &str = include_str!("../../../../include/draugsten.h");
 
     #[test]
     fn memory_is_read_up_to_its_limit() {
@@ -147,9 +120,8 @@ mod tests {
     }
 
     #[test]
-    fn of_records_one_byte_too_many_is_read() {
-        assert!(HEADER.contains(&format!("#define DRAUGSTEN_RECORDS_LIMIT {RECORDS_LIMIT} ")));
-        let read = read_records("journal", Some(Path::new("/dev/zero"))).unwrap();
-        assert_eq!(read.len() as u64, RECORDS_LIMIT + 1);
+    fn without_a_file_records_are_empty() {
+        assert_eq!(read_records("journal", None), Ok(vec![]));
+        assert_eq!(read_records("journal", Some(Path::new("/dev/null"))), Ok(vec![]));
     }
 }

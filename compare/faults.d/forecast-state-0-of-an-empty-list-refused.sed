@@ -1,0 +1,1 @@
+s/    if state > 0 \&\& state >= length {/    if state >= length {/

@@ -1,0 +1,1 @@
+s/    if end > MOST_BYTES {/    if end > MOST_BYTES + 1 {/

@@ -1,0 +1,1 @@
+s/any(|&count| count > journal.used)/any(|\&count| count >= journal.used)/

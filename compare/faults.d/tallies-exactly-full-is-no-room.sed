@@ -1,0 +1,1 @@
+s/    if end > buffer.len() as u64 {/    if end >= buffer.len() as u64 {/

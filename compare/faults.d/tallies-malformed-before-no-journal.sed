@@ -1,0 +1,1 @@
+s/^    judge(buffer, journal)?;/    counted.and_then(|_| judge(buffer, journal))?;/

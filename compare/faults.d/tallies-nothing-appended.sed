@@ -1,0 +1,1 @@
+s/        Ok(1) => recount(record),/        Ok(0 | 1) => recount(record),/

@@ -1,0 +1,1 @@
+s/    let tallies = sum(&journal.tallies, &more);/    let tallies = more;/

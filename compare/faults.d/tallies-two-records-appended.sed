@@ -1,0 +1,1 @@
+s/        Ok(1) => recount(record),/        Ok(1 | 2) => recount(record),/
