@@ -1,23 +1,20 @@
 -- A run over the C boundary: each number and status exactly when, and the registration handed on.
-use mathlib.Core.Path.{_≡_, refl, sym, ap, _∙_}
-use mathlib.Core.Bool.{true, false, false≢true}
+use mathlib.Core.Path.{_≡_, refl, ap, _∙_}
+use mathlib.Core.Bool.{true, false}
 use mathlib.Core.List.{List}
 use mathlib.Core.Logic.{_⊎_, inl, inr, ⊎-elim}
 use Prim.Native.Nat.{ℕ, zero, suc, _≤_, _<_}
 use native.Mathlib.Omega.{arith}
 use lib.Dec.{leb}
-use lib.ListN.{take}
 use borrow.Author.Tests.{leb-false}
 use Rattle.words.proofs.Choice.{decide, choose}
-use Rattle.dump.specs.declared.registration.Phase.{Phase}
-use Rattle.dump.specs.declared.registration.Phase.the-variants.{Unregistered, Registered, Active}
+use Rattle.dump.specs.declared.registration.Phase.the-variants.{Registered, Active}
 use Rattle.dump.specs.declared.registration.Registration.{Registration}
 use Rattle.dump.specs.declared.registration.Verdict.{Verdict}
 use Rattle.dump.specs.declared.registration.Verdict.the-variants.{Done, Parameter, AlreadyRegistered, DumpActive}
-use Rattle.dump.specs.Structure.{goodStructure}
 use Rattle.calls.specs.Status.{statusWord}
 use Rattle.calls.specs.ConfigureDump.{verdictStatus}
-use Rattle.calls.specs.Terms.{minus, Exactly}
+use Rattle.calls.specs.Terms.{Exactly}
 use Rattle.crossing.specs.declared.registration.FlatRegistration.{FlatRegistration}
 use Rattle.crossing.specs.Registration.{phaseNumber, phaseOf, flatOf, registrationOf, isRegistration}
 use Rattle.crossing.proofs.Registrations.{bounds, faithful, flat-is}

@@ -1,8 +1,7 @@
 -- Runs and calls together.
-use mathlib.Core.Path.{_≡_, refl, sym, ap, _∙_}
-use mathlib.Core.Bool.{true}
-use mathlib.Core.List.{List, _++_}
-use mathlib.Core.Logic.{_⊎_, inl, inr, ⊎-elim}
+use mathlib.Core.Path.{_≡_, sym, ap, _∙_}
+use mathlib.Core.List.{List}
+use mathlib.Core.Logic.{_⊎_, inr, ⊎-elim}
 use Prim.Native.Nat.{ℕ, _≤_, _-_}
 use native.Mathlib.Omega.{arith}
 use lib.ListN.{length, take, drop, replicate, length-take}
@@ -13,13 +12,13 @@ use Rattle.dump.specs.declared.registration.Registration.{Registration}
 use Rattle.dump.specs.declared.registration.Verdict.the-variants.{Done}
 use Rattle.dump.specs.Structure.{goodStructure}
 use Rattle.calls.specs.Buffer.{Found, callOf}
-use Rattle.calls.specs.Terms.{minus, Asks, HasStatus, statusOf}
+use Rattle.calls.specs.Terms.{Asks, HasStatus, statusOf}
 use Rattle.calls.specs.Lent.{partAt}
 use Rattle.calls.specs.ExactDump.{Acceptable, Holds, ExactDump}
 use Rattle.calls.proofs.Exact.{demand2}
 use Rattle.dumping.specs.Running.{runOf}
 use Rattle.dumping.proofs.RunClaims.{run-claims}
-use Rattle.draugsten_dump.specs.Claims.{CallAfterRun, RunThenCall, CallThenRun, RunOnce}
+use Rattle.draugsten_dump.specs.Claims.{RunThenCall, CallThenRun, RunOnce}
 
 -- what demand 2 says of configure-kernel-dump
 exact-dump : (f : Found) → Asks 3 3 1 (f .args) → HasStatus (callOf f)

@@ -6,7 +6,7 @@ use Rattle.calls.specs.Status.{statusWord}
 use Rattle.calls.specs.ConfigureDump.{verdictStatus}
 use Rattle.crossing.specs.declared.registration.FlatRegistration.{FlatRegistration}
 use Rattle.crossing.specs.Registration.{flatOf, registrationOf, isRegistration}
-use Rattle.dumping.specs.Running.{Run, runOf}
+use Rattle.dumping.specs.Running.{runOf}
 
 -- All that a run leaves, with the registration as it crosses.
 pub record FlatLeft : Type 0 where

@@ -11,7 +11,7 @@ use Rattle.dump.specs.declared.registration.Phase.the-variants.{Unregistered, R
 use Rattle.dump.specs.declared.registration.Registration.{Registration}
 use Rattle.dump.specs.declared.registration.Verdict.{Verdict}
 use Rattle.dump.specs.declared.registration.Verdict.the-variants.{Done, Parameter, AlreadyRegistered, DumpActive}
-use Rattle.dump.specs.Claims.{Header, bare, disk, from, times}
+use Rattle.dump.specs.Claims.{bare, disk, from, times}
 use Rattle.dumping.specs.Running.{Run, runOf}
 
 -- ---- structures

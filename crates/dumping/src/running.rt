@@ -1,6 +1,6 @@
 // Running a registered dump: its sections in order, and the copy of its structure filled in.
 ghost use mathlib.Core.Path.{_≡_};
-ghost use mathlib.Core.Bool.{false, cond, not, _||_};
+ghost use mathlib.Core.Bool.{false, cond, _||_};
 ghost use Prim.Native.Nat.{_+_, _*_, _≤_};
 ghost use lib.Dec.{eqb};
 ghost use lib.ListN.{length, take, drop};
@@ -9,7 +9,7 @@ ghost use Rattle.dump.specs.Structure.{headerSize, sectionSize, sections, first
 ghost use Rattle.dump.specs.declared.registration.Phase.the-variants.{Registered};
 ghost use Rattle.dump.specs.Registration.{copySize};
 ghost use Rattle.dumping.specs.Section.{errorFlags, actualLength};
-ghost use Rattle.dumping.specs.Running.{sectionAt, sourceOf, errorsOf, actualOf, memoryAfter, sectionRun, structureRun, goodCopy, leavesRun, runOf};
+ghost use Rattle.dumping.specs.Running.{sectionAt, errorsOf, actualOf, memoryAfter, sectionRun, structureRun, goodCopy, leavesRun, runOf};
 ghost use Rattle.dumping.specs.RunClaims.{RunClaims};
 use crate::section::Section;
 use crate::section::actual_length;

@@ -21,9 +21,9 @@ use Rattle.journal.proofs.Opcodes.{each-kind}
 use Rattle.journal.proofs.RecordLaws.{frame-is, frame-none, framed}
 use Rattle.journal.proofs.PropertyLaws.{value-most-le, property-framed, frame-kind, frame-above, frame-length}
 use Rattle.tallies.specs.Keeping.{oneRecord}
-use Rattle.intake.specs.Taking.{nodeLength, goodFront, dueBy}
-use Rattle.intake.specs.Terms.{Filled}
-use Rattle.intake.specs.Claims.{FrontExactly}
+use Rattle.intake.specs.Taking.{goodFront}
+use Rattle.intake.specs.Terms.{dueBy, Filled}
+use Rattle.intake.specs.Claims.{Fronts, FrontExactly}
 
 -- ---- length and kind
 
@@ -35,9 +35,9 @@ module _ (len kind : ℕ) where
   pub front-zero : kind < 1 → false ≡ goodFront len kind
   front-zero h = sym (front-other (λ o. omega (arith, o .low)) ∙ frame-kind len kind (omega arith))
 
-  pub front-node : 1 ≤ kind → kind < 5 → (n : ℕ) → n ≡ nodeLength kind → eqb len n ≡ goodFront len kind
+  pub front-node : 1 ≤ kind → kind < 5 → (n : ℕ) → n ≡ lengthFor kind → eqb len n ≡ goodFront len kind
   unfolding goodFront
-  front-node l h n e = rw (frame-is len kind (record { low = l; high = omega arith }), frame-kind len kind h) (ap (eqb len) e ∙ sym (or-false (eqb len (nodeLength kind))))
+  front-node l h n e = rw (frame-is len kind (record { low = l; high = omega arith }), frame-kind len kind h) (ap (eqb len) e ∙ sym (or-false (eqb len (lengthFor kind))))
 
   module _ (five : 5 ≤ kind) where
     front-property : goodFront len kind ≡ propertyFrame len kind
@@ -73,11 +73,6 @@ module _ (len kind : ℕ) where
   due-good e = rw e (omega (arith, front-bounds e))
 
 -- ---- the good fronts one by one
-
-abbrev Fronts : ℕ → ℕ → Type 0
-Fronts len kind =
-    ((kind ≡ 1) × (len ≡ 8)) ⊎ (((kind ≡ 2) × (len ≡ 8)) ⊎ (((kind ≡ 3) × (len ≡ 12)) ⊎ (((kind ≡ 4) × (len ≡ 16))
-    ⊎ (((kind ≡ 5) × ((8 ≤ len) × (len ≤ 32806))) ⊎ ((kind ≡ 6) × ((8 ≤ len) × (len ≤ 38)))))))
 
 node-fronts : (len kind : ℕ) → IsKind kind → len ≡ lengthFor kind → Fronts len kind
 node-fronts len = each-kind (λ (k : ℕ). len ≡ lengthFor k → Fronts len k)

@@ -15,7 +15,6 @@ use Rattle.tallies.specs.declared.keeping.Outcome.the-variants.{Done, Malformed
 use Rattle.tallies.specs.Keeping.{fits, isDone}
 use Rattle.tallies.specs.Claims.{Exactly}
 use Rattle.intake.specs.Taking.{goodFront}
-use Rattle.intake.specs.Bursts.{Ready}
 use Rattle.intake.specs.States.{restsAt, readyFor, ReadyExactly}
 
 -- what is due at a place, or 0, tells whether the bytes there are a record
@@ -43,15 +42,18 @@ not-true false e = refl
 none-held : (store : List ℕ) (held : ℕ) → held ≡ 0 → ripe goodFront (take held store) ≡ false
 none-held store held z = rw z (nothing-raw goodFront)
 
+-- behind a fault of a stream nothing is held
+faulted : (fault : Outcome) (held : ℕ) (store : List ℕ) → isDone fault ≡ false → (fault ≡ Unfit → ⊥) → Exactly (eqb held 0 ≡ true) (Rests fault held store)
+faulted fault held store d real =
+    (λ e. let z = eqb-true held 0 e in record { inside = omega arith; raw = none-held store held z; quiet = λ _. z; real = real }, λ r. eq-eqb held 0 (r .quiet d))
+
 rests : (fault : Outcome) (held : ℕ) (store : List ℕ) → Exactly (restsAt fault held store ≡ true) (Rests fault held store)
 rests Done held store = (
   λ e. record { inside = leb-true held (length store) (and-left _ _ e); raw = not-true _ (and-right (leb held (length store)) _ e); quiet = λ d. cc; real = λ d. absurd (let z : _≡_ {A = ℕ} 0 1 = cc in omega arith) },
   λ r. rw (le-leb held (length store) (r .inside), r .raw),
 )
-rests Malformed held store =
-    (λ e. let z = eqb-true held 0 e in record { inside = omega arith; raw = none-held store held z; quiet = λ d. z; real = λ d. absurd (let z : _≡_ {A = ℕ} 0 1 = cc in omega arith) }, λ r. eq-eqb held 0 (r .quiet refl))
-rests NoRoom held store =
-    (λ e. let z = eqb-true held 0 e in record { inside = omega arith; raw = none-held store held z; quiet = λ d. z; real = λ d. absurd (let z : _≡_ {A = ℕ} 0 1 = cc in omega arith) }, λ r. eq-eqb held 0 (r .quiet refl))
+rests Malformed held store = faulted Malformed held store refl (λ d. absurd (let z : _≡_ {A = ℕ} 0 1 = cc in omega arith))
+rests NoRoom held store = faulted NoRoom held store refl (λ d. absurd (let z : _≡_ {A = ℕ} 0 1 = cc in omega arith))
 rests Unfit held store = (λ e. absurd (false≢true e), λ r. absurd (r .real refl))
 
 pub ready-exactly : ReadyExactly

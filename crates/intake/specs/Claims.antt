@@ -53,11 +53,13 @@ GoodOnes = (s : Taking) (b : List ℕ) → allGood goodRecord (records b) ≡ tr
 -- ---- each record exactly when
 
 -- "A record's length and kind are judged when its first four bytes are in": those that some good record has
+abbrev pub Fronts : ℕ → ℕ → Type 0
+Fronts len kind =
+    ((kind ≡ 1) × (len ≡ 8)) ⊎ (((kind ≡ 2) × (len ≡ 8)) ⊎ (((kind ≡ 3) × (len ≡ 12)) ⊎ (((kind ≡ 4) × (len ≡ 16))
+    ⊎ (((kind ≡ 5) × ((8 ≤ len) × (len ≤ 32806))) ⊎ ((kind ≡ 6) × ((8 ≤ len) × (len ≤ 38)))))))
+
 abbrev pub FrontExactly : Type 0
-FrontExactly =
-    (len kind : ℕ) → Exactly (goodFront len kind ≡ true)
-    (((kind ≡ 1) × (len ≡ 8)) ⊎ (((kind ≡ 2) × (len ≡ 8)) ⊎ (((kind ≡ 3) × (len ≡ 12)) ⊎ (((kind ≡ 4) × (len ≡ 16))
-    ⊎ (((kind ≡ 5) × ((8 ≤ len) × (len ≤ 32806))) ⊎ ((kind ≡ 6) × ((8 ≤ len) × (len ≤ 38))))))))
+FrontExactly = (len kind : ℕ) → Exactly (goodFront len kind ≡ true) (Fronts len kind)
 
 -- what an intake leaves of its journal, with the fault as the outcome
 abbrev pub leftOf : Taking → Left

@@ -1,8 +1,7 @@
 -- A journal that arrives in bursts: what a record of the stream does (document 02, M-109).
-use Prim.Native.Nat.{ℕ, _+_, _-_, min}
+use Prim.Native.Nat.{ℕ, _+_, min}
 use mathlib.Core.Bool.{Bool, cond, not, _||_}
 use mathlib.Core.List.{List}
-use lib.Dec.{eqb}
 use Rattle.records.specs.Cutting.{Reader}
 use Rattle.journal.specs.Journal.{goodFrame}
 use Rattle.journal.specs.Property.{propertyFrame}
@@ -14,14 +13,6 @@ use Rattle.intake.specs.declared.taking.Place.{Place}
 -- "A record's length and kind are judged when its first four bytes are in": those that some good record has; for kinds 5 and 6 a range of lengths
 unfoldable pub goodFront : ℕ → ℕ → Bool
 goodFront len kind = goodFrame len kind || propertyFrame len kind
-
--- the one length of kinds 1 to 4
-abbrev pub nodeLength : ℕ → ℕ
-nodeLength kind = cond (eqb kind 4) 16 (cond (eqb kind 3) 12 8)
-
--- how many bytes are looked at together
-unfoldable pub dueBy : ℕ → ℕ → ℕ
-dueBy len kind = 4 + cond (goodFront len kind) (len - 2) 0
 
 -- Where an intake stands between records: the journal's buffer, its use and tallies, the number of the record that it is inside or comes to, and the
 -- fault that was met, Done where none was.

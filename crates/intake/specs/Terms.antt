@@ -1,17 +1,20 @@
 -- Terms of the contracts of private functions; no public promise cites them.
 use Prim.Native.Nat.{ℕ, _+_, _-_, _≤_, _<_, min}
 use mathlib.Core.Path.{_≡_}
-use mathlib.Core.Bool.{false}
+use mathlib.Core.Bool.{cond}
 use mathlib.Core.List.{List, _++_}
 use lib.ListN.{length, take, drop}
 use lib.Seq.{sets}
 use Rattle.records.specs.Cutting.{start, fed}
-use Rattle.tallies.specs.Keeping.{isDone}
 use Rattle.intake.specs.declared.bursts.Intake.{Intake}
 use Rattle.intake.specs.declared.bursts.Finished.{Finished}
 use Rattle.intake.specs.declared.bursts.Passed.{Passed}
-use Rattle.intake.specs.Taking.{takingOf, reader}
+use Rattle.intake.specs.Taking.{goodFront, takingOf, reader}
 use Rattle.intake.specs.Bursts.{standsAt, standingOf}
+
+-- how many bytes are looked at together, by length and kind
+unfoldable pub dueBy : ℕ → ℕ → ℕ
+dueBy len kind = 4 + cond (goodFront len kind) (len - 2) 0
 
 -- bytes of a burst that went behind the held ones
 pub record Filled (buffer : List ℕ) (held : ℕ) (bytes : List ℕ) (from upto : ℕ) (after : List ℕ) (n : ℕ) : Type 0 where

@@ -5,12 +5,13 @@ ghost use mathlib.Core.List.{_++_};
 ghost use Prim.Native.Nat.{_+_, _-_, _≤_, min};
 ghost use lib.ListN.{length, take, drop};
 ghost use Rattle.records.specs.Cutting.{due, ripe};
-ghost use Rattle.intake.specs.Taking.{nodeLength, goodFront, dueBy};
-ghost use Rattle.intake.specs.Terms.{Filled};
+ghost use Rattle.journal.specs.Terms.{lengthFor};
+ghost use Rattle.intake.specs.Taking.{goodFront};
+ghost use Rattle.intake.specs.Terms.{dueBy, Filled};
 
 // The length of a record of kind 1 to 4.
 fn node_length(kind: u16) -> u16
-    ensures { λ r. ⌜ r ≡ nodeLength kind ⌝ }
+    ensures { λ r. ⌜ r ≡ lengthFor kind ⌝ }
 {
     if kind == 4 {
         return 16;

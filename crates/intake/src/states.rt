@@ -1,7 +1,6 @@
 // Which states of an intake are taken: those that a start and bursts can leave.
 ghost use mathlib.Core.Path.{_≡_};
 ghost use mathlib.Core.Bool.{false, not, _&&_};
-ghost use Prim.Native.Nat.{_≤_};
 ghost use lib.Dec.{leb};
 ghost use lib.ListN.{length, take};
 ghost use Rattle.records.specs.Cutting.{ripe};

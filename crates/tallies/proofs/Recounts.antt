@@ -24,8 +24,8 @@ use Rattle.journal.proofs.Entries.{each-entry, operations-few}
 use Rattle.journal.proofs.Sizes.{sized-here}
 use Rattle.tallies.specs.declared.tallies.Tallies.{Tallies}
 use Rattle.tallies.specs.declared.counting.Weighed.{Weighed}
-use Rattle.tallies.specs.Tallies.{row, byRow, noCounts, noTallies, recountOf, recountFor, countSum, tallySum, countsWithin, talliesWithin, CountsFit, TalliesFit}
-use Rattle.tallies.specs.Weighing.{entryCounts, entryTallies, weighedAt}
+use Rattle.tallies.specs.Tallies.{row, byRow, noCounts, noTallies, recountOf, recountFor, countSum, tallySum, countsWithin, talliesWithin}
+use Rattle.tallies.specs.Weighing.{entryCounts, entryTallies, weighedAt, CountsFit, TalliesFit}
 use Rattle.tallies.specs.Keeping.{oneRecord}
 use Rattle.tallies.proofs.Joins.{recount-within}
 use Rattle.tallies.proofs.Weights.{Stands, none-stands, one-stands}

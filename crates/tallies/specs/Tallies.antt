@@ -1,5 +1,5 @@
 -- The tallies of a journal (document 02, M-106).
-use Prim.Native.Nat.{ℕ, _+_, _<_}
+use Prim.Native.Nat.{ℕ, _+_}
 use mathlib.Core.Bool.{Bool, cond, _&&_}
 use mathlib.Core.List.{List, []}
 use lib.Dec.{leb}
@@ -48,15 +48,3 @@ countsWithin limit c = leb (c .deletes) limit && (leb (c .updates) limit && leb 
 
 unfoldable pub talliesWithin : ℕ → Tallies → Bool
 talliesWithin limit t = countsWithin limit (t .negative) && (countsWithin limit (t .first) && (countsWithin limit (t .second) && countsWithin limit (t .third)))
-
--- no sum passes 2^64 - 1
-pub record CountsFit (a b : Counts) : Type 0 where
-  pub deletes : a .deletes + b .deletes < 18446744073709551616
-  pub updates : a .updates + b .updates < 18446744073709551616
-  pub additions : a .additions + b .additions < 18446744073709551616
-
-pub record TalliesFit (a b : Tallies) : Type 0 where
-  pub negative : CountsFit (a .negative) (b .negative)
-  pub first : CountsFit (a .first) (b .first)
-  pub second : CountsFit (a .second) (b .second)
-  pub third : CountsFit (a .third) (b .third)

@@ -1,5 +1,5 @@
--- What one record counts: terms of the contracts of private functions.
-use Prim.Native.Nat.{ℕ}
+-- What one record counts, and sums that can be made: terms of the contracts of private functions; no public promise cites them.
+use Prim.Native.Nat.{ℕ, _+_, _<_}
 use mathlib.Core.Bool.{cond, _&&_}
 use mathlib.Core.List.{List}
 use lib.Dec.{eqb}
@@ -38,3 +38,15 @@ weighedAt j at =
     cond (goodHere j at)
     (record { size = sizeOf (drop at j); tallies = entryTallies (entryOf (firstRecord (drop at j))) })
     (record { size = 0; tallies = noTallies })
+
+-- no sum passes 2^64 - 1
+pub record CountsFit (a b : Counts) : Type 0 where
+  pub deletes : a .deletes + b .deletes < 18446744073709551616
+  pub updates : a .updates + b .updates < 18446744073709551616
+  pub additions : a .additions + b .additions < 18446744073709551616
+
+pub record TalliesFit (a b : Tallies) : Type 0 where
+  pub negative : CountsFit (a .negative) (b .negative)
+  pub first : CountsFit (a .first) (b .first)
+  pub second : CountsFit (a .second) (b .second)
+  pub third : CountsFit (a .third) (b .third)

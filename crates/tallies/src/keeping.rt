@@ -2,7 +2,6 @@
 ghost use mathlib.Core.Path.{_≡_};
 ghost use mathlib.Core.Bool.{true};
 ghost use Prim.Native.Nat.{_+_, _≤_};
-ghost use lib.ListN.{length};
 ghost use Rattle.tallies.specs.Keeping.{nothing, fits, hasRoom, leaves, attached, appendOf, joinOf};
 ghost use Rattle.tallies.specs.Tallies.{recountOf};
 ghost use Rattle.tallies.specs.Claims.{TallyClaims};

@@ -1,11 +1,10 @@
 -- `running::copy_section` meets its contract.
 use mathlib.Core.Path.{_≡_, sym, _∙_}
-use mathlib.Core.Bool.{false}
 use denote.Ref.{now}
 use borrow.Author.Needs.{needs}
 use borrow.Author.Tests.{eq-eqb, ne-eqb}
 use Rattle.dumping.specs.Running.{sourceOf}
-use Rattle.dumping.proofs.Runs.{Came, not-asked, asked}
+use Rattle.dumping.proofs.Runs.{not-asked, asked}
 use Rattle.dumping.proofs.running.copy_section.Statement.{statement}
 use Rattle.dumping.proofs.running.copy_section.Tie as tie
 

@@ -1,5 +1,5 @@
 -- `running::run_dump` meets its contract.
-use mathlib.Core.Path.{_≡_, refl}
+use mathlib.Core.Path.{refl}
 use borrow.Author.Needs.{needs}
 use denote.Ref.{now}
 use Rattle.dumping.proofs.RunClaims.{run-claims}

@@ -1,6 +1,4 @@
 -- `running::run_section` meets its contract.
-use mathlib.Core.Path.{_≡_}
-use denote.Ref.{now}
 use borrow.Author.Needs.{needs}
 use Rattle.dumping.specs.Running.{sectionRun}
 use Rattle.dumping.proofs.running.run_section.Statement.{statement}
