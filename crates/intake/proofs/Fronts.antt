@@ -1,19 +1,18 @@
--- Laws of good fronts, of what is due, and of bytes that go behind the held ones.
+-- Laws of good fronts, and of what is due.
 use mathlib.Core.Path.{_≡_, refl, sym, ap, ap₂, _∙_}
-use mathlib.Core.Bool.{true, false, cond, or-true, or-false, and-false, true≢false}
-use mathlib.Core.List.{List, _++_, append-assoc}
+use mathlib.Core.Bool.{true, false, or-true, or-false, and-false, true≢false}
+use mathlib.Core.List.{List}
 use mathlib.Core.Logic.{_⊎_, inl, inr}
-use Prim.Native.Nat.{ℕ, _+_, _-_, _<_, _≤_, min}
+use Prim.Native.Nat.{ℕ, _+_, _<_, _≤_}
 use native.Mathlib.Omega.{arith}
 use lib.Dec.{leb, eqb}
-use lib.ListN.{length, take, drop, length-append, length-drop, take-append-drop}
-use lib.Seq.{sets, sets-eq, take-at, take-add, length-take-le}
+use lib.ListN.{length, take, drop, take-append-drop}
+use lib.Seq.{length-take-le}
 use borrow.Author.Tests.{le-leb, eqb-true, eqb-false}
 use Rattle.words.proofs.Choice.{decide, and-left}
-use Rattle.words.proofs.Stores.{sets-behind}
 use Rattle.records.specs.Records.{lengthOf, kindOf, sizeOf, whole}
-use Rattle.records.specs.Cutting.{due, ripe}
-use Rattle.records.proofs.Due.{length-append-of, kind-append-of, due-least, due-front, raw-short, ripe-due}
+use Rattle.records.specs.Cutting.{due}
+use Rattle.records.proofs.Due.{length-append-of, kind-append-of}
 use Rattle.journal.specs.Journal.{goodFrame, goodNode, goodRecord}
 use Rattle.journal.specs.Property.{valueMost, propertyFrame, goodProperty}
 use Rattle.journal.specs.Terms.{IsKind, lengthFor}
@@ -22,7 +21,7 @@ use Rattle.journal.proofs.RecordLaws.{frame-is, frame-none, framed}
 use Rattle.journal.proofs.PropertyLaws.{value-most-le, property-framed, frame-kind, frame-above, frame-length}
 use Rattle.tallies.specs.Keeping.{oneRecord}
 use Rattle.intake.specs.Taking.{goodFront}
-use Rattle.intake.specs.Terms.{dueBy, Filled}
+use Rattle.intake.specs.Terms.{dueBy}
 use Rattle.intake.specs.Claims.{Fronts, FrontExactly}
 
 -- ---- length and kind
@@ -137,70 +136,3 @@ bad-front b l e =
     decide (goodRecord (take 4 b))
     (λ g. absurd (true≢false (sym (good-front (take 4 b) g) ∙ ap₂ goodFront len kind ∙ e)))
     (λ g. rw (g, and-false (whole (take 4 b))))
-
--- ---- what is due at a place
-
-module _ (b : List ℕ) (i : ℕ) where
-  abbrev ripeAt : ℕ
-  ripeAt = cond (ripe goodFront (drop i b)) (due goodFront (drop i b)) 0
-
-  pub ripe-less : (n : ℕ) → n ≡ due goodFront (drop i b) → length b - i < n → 0 ≡ ripeAt
-  ripe-less n e h = rw (raw-short goodFront (drop i b) (omega (arith, length-drop i b)))
-
-  pub ripe-short : length b - i < 4 → 0 ≡ ripeAt
-  ripe-short h = ripe-less _ refl (omega (arith, due-least goodFront (drop i b)))
-
-  pub ripe-all : (n : ℕ) → n ≡ due goodFront (drop i b) → n ≤ length b - i → n ≡ ripeAt
-  ripe-all n e h = rw (ripe-due goodFront (drop i b) (omega (arith, length-drop i b))) e
-
--- ---- bytes behind the held ones
-
-pub filled-front : (buffer : List ℕ) (held : ℕ) (bytes : List ℕ) (from n : ℕ) (after : List ℕ) → held + n ≤ length buffer → from + n ≤ length bytes → after ≡ sets buffer held (take n (drop from bytes))
-    → take (held + n) after ≡ take held buffer ++ take n (drop from bytes)
-filled-front buffer held bytes from n after l m e =
-    let vs = take n (drop from bytes) in
-    let k : length vs ≡ n = length-take-le n (drop from bytes) (omega (arith, length-drop from bytes)) in
-    let h : length (take held buffer) ≡ held = length-take-le held buffer (omega arith) in
-    ap (take (held + n)) (e ∙ sets-eq vs buffer held (omega arith))
-    ∙ take-at (take held buffer ++ vs) (drop (held + length vs) buffer) (held + n) (omega (arith, length-append (take held buffer) vs))
-
-pub front-due : (h bytes : List ℕ) (k : ℕ) → 4 ≤ length (h ++ take k bytes) → due goodFront (h ++ take k bytes) ≡ due goodFront (h ++ bytes)
-front-due h bytes k l =
-    sym (due-front goodFront (h ++ take k bytes) (drop k bytes) l)
-    ∙ ap (due goodFront) (append-assoc h (take k bytes) (drop k bytes) ∙ ap (λ (l : List ℕ). h ++ l) (take-append-drop k bytes))
-
-sum-least : (h n m d b : ℕ) → n ≤ d - h → n ≤ b → m ≡ min (d - (h + n)) (b - n) → n + m ≡ min (d - h) b
-sum-least h n m d b l k e = omega arith
-
-module _ (buffer : List ℕ) (held : ℕ) (bytes one : List ℕ) (n : ℕ) (f : Filled buffer held bytes 0 4 one n) where
-  abbrev Due : ℕ
-  Due = due goodFront (take held buffer ++ bytes)
-
-  pub gather-short : held + n < 4 → Filled buffer held bytes 0 Due one n
-  gather-short l = record { amount = omega (arith, f .amount, due-least goodFront (take held buffer ++ bytes)); whole = f .whole; front = f .front }
-
-  module _ (l : held ≤ length buffer) (four : 4 ≤ held + n) where
-    taken-long : length (take n bytes) ≡ n
-    taken-long = length-take-le n bytes (omega (arith, f .amount))
-
-    front-long : length (take held buffer ++ take n bytes) ≡ held + n
-    front-long = omega (arith, length-append (take held buffer) (take n bytes), length-take-le held buffer l, taken-long)
-
-    gather-due : due goodFront one ≡ Due
-    gather-due =
-        let k : 4 ≤ length (take (held + n) one) = rw (f .front) (omega (arith, front-long)) in
-        ap (due goodFront) (sym (take-append-drop (held + n) one)) ∙ due-front goodFront (take (held + n) one) (drop (held + n) one) k
-        ∙ ap (due goodFront) (f .front) ∙ front-due (take held buffer) bytes n (omega (arith, front-long))
-
-    pub gather-all : (two : List ℕ) (d m : ℕ) → d ≡ due goodFront one → Filled one (held + n) bytes n d two m → Filled buffer held bytes 0 Due two (n + m)
-    gather-all two d m e g =
-        let s = sum-least held n m Due (length bytes) (omega (arith, f .amount, due-least goodFront (take held buffer ++ bytes))) (omega (arith, f .amount)) (rw (← gather-due, ← e) (g .amount)) in
-        let k : held + (n + m) ≡ held + n + m = omega arith in
-        record {
-          amount = omega (arith, s);
-          whole = g .whole ∙ ap (λ (l : List ℕ). sets l (held + n) (take m (drop n bytes))) (f .whole)
-              ∙ sets-behind buffer held (held + n) (take n bytes) (take m (drop n bytes)) (omega (arith, taken-long))
-              ∙ ap (sets buffer held) (sym (take-add n m bytes));
-          front = ap (λ (i : ℕ). take i two) k ∙ g .front ∙ ap (λ (l : List ℕ). l ++ take m (drop n bytes)) (f .front) ∙ append-assoc (take held buffer) (take n bytes) (take m (drop n bytes))
-              ∙ ap (λ (l : List ℕ). take held buffer ++ l) (sym (take-add n m bytes));
-        }

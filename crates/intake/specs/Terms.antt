@@ -1,10 +1,9 @@
 -- Terms of the contracts of private functions; no public promise cites them.
-use Prim.Native.Nat.{ℕ, _+_, _-_, _≤_, _<_, min}
+use Prim.Native.Nat.{ℕ, _+_, _-_, _≤_, _<_}
 use mathlib.Core.Path.{_≡_}
 use mathlib.Core.Bool.{cond}
-use mathlib.Core.List.{List, _++_}
+use mathlib.Core.List.{List}
 use lib.ListN.{length, take, drop}
-use lib.Seq.{sets}
 use Rattle.records.specs.Cutting.{start, fed}
 use Rattle.intake.specs.declared.bursts.Intake.{Intake}
 use Rattle.intake.specs.declared.bursts.Finished.{Finished}
@@ -15,12 +14,6 @@ use Rattle.intake.specs.Bursts.{standsAt, standingOf}
 -- how many bytes are looked at together, by length and kind
 unfoldable pub dueBy : ℕ → ℕ → ℕ
 dueBy len kind = 4 + cond (goodFront len kind) (len - 2) 0
-
--- bytes of a burst that went behind the held ones
-pub record Filled (buffer : List ℕ) (held : ℕ) (bytes : List ℕ) (from upto : ℕ) (after : List ℕ) (n : ℕ) : Type 0 where
-  pub amount : n ≡ min (upto - held) (length bytes - from)
-  pub whole : after ≡ sets buffer held (take n (drop from bytes))
-  pub front : take (held + n) after ≡ take held buffer ++ take n (drop from bytes)
 
 -- The held record is still held, with all of the burst, or it is past and the burst goes on behind a place.
 pub record Finishes (buffer held : List ℕ) (i : Intake) (bytes bufferThen heldThen : List ℕ) (f : Finished) : Type 0 where

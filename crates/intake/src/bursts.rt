@@ -6,12 +6,12 @@ ghost use Rattle.intake.specs.Bursts.{Ready, Bursts, startOf, endOf};
 ghost use Rattle.intake.specs.Terms.{Finishes, Passes};
 ghost use Rattle.tallies.specs.Claims.{TallyClaims};
 ghost use Rattle.intake.specs.Claims.{IntakeClaims};
-use crate::filling::fill;
 use crate::filling::gather;
 use crate::filling::ripe_at;
 use crate::taking::Place;
 use crate::taking::is_going;
 use crate::taking::take;
+use records::fill;
 use tallies::Outcome;
 use tallies::Tallied;
 

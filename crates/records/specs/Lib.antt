@@ -1,3 +1,4 @@
 pub mod Records
 pub mod Choosing
 pub mod Cutting
+pub mod Filling

@@ -1,91 +1,21 @@
--- Laws of what is due, of bytes that are held, and of an end.
+-- Laws of the buffer of held bytes, and of an end.
 use mathlib.Core.Path.{_≡_, refl, sym, ap, _∙_}
-use mathlib.Core.Bool.{Bool, true, false, cond, not, true≢false, false≢true}
-use mathlib.Core.List.{List, [], _∷_, _++_, append-assoc}
+use mathlib.Core.Bool.{Bool, true, false, not, true≢false, false≢true}
+use mathlib.Core.List.{List, [], _∷_, _++_}
 use Prim.Native.Nat.{ℕ, suc, _+_, _-_, _<_, _≤_, min}
 use native.Mathlib.Omega.{arith}
 use lib.Dec.{eqb}
-use lib.ListN.{length, take, drop, set, length-append, length-drop, length-take, take-append-drop}
-use lib.Seq.{sets, sets-eq, drop-set-lt, take-at, take-add, take-length, take-take, length-take-le}
+use lib.ListN.{length, take, drop, set, length-take, take-append-drop}
+use lib.Seq.{sets, sets-eq, drop-set-lt, take-length, take-take, length-take-le}
 use borrow.Author.Tests.{eq-eqb, ne-eqb}
 use Rattle.words.proofs.Choice.{decide}
-use Rattle.words.proofs.Stores.{sets-behind}
-use Rattle.records.specs.Cutting.{due, ripe}
-use Rattle.records.proofs.Due.{due-least, due-front, raw-short, ripe-due}
+use Rattle.records.specs.Cutting.{due}
 use Rattle.trace.specs.declared.report.Report.{Report}
 use Rattle.trace.specs.declared.report.Report.the-variants.{Agreed, Differs, Malformed}
 use Rattle.trace.specs.Trace.{goodFrame}
 use Rattle.trace.specs.Playing.{isOver}
 use Rattle.trace.proofs.Reader.{due-most}
 use Rattle.replay.specs.Feeding.{completed, endOf}
-use Rattle.replay.specs.Terms.{Filled}
-
--- ---- what is due at a place
-
-module _ (b : List ℕ) (i : ℕ) where
-  abbrev ripeAt : ℕ
-  ripeAt = cond (ripe goodFrame (drop i b)) (due goodFrame (drop i b)) 0
-
-  pub ripe-less : (n : ℕ) → n ≡ due goodFrame (drop i b) → length b - i < n → 0 ≡ ripeAt
-  ripe-less n e h = rw (raw-short goodFrame (drop i b) (omega (arith, length-drop i b)))
-
-  pub ripe-short : length b - i < 4 → 0 ≡ ripeAt
-  ripe-short h = ripe-less _ refl (omega (arith, due-least goodFrame (drop i b)))
-
-  pub ripe-all : (n : ℕ) → n ≡ due goodFrame (drop i b) → n ≤ length b - i → n ≡ ripeAt
-  ripe-all n e h = rw (ripe-due goodFrame (drop i b) (omega (arith, length-drop i b))) e
-
--- ---- bytes behind the held ones
-
-pub filled-front : (buffer : List ℕ) (held : ℕ) (bytes : List ℕ) (from n : ℕ) (after : List ℕ) → held + n ≤ length buffer → from + n ≤ length bytes → after ≡ sets buffer held (take n (drop from bytes))
-    → take (held + n) after ≡ take held buffer ++ take n (drop from bytes)
-filled-front buffer held bytes from n after l m e =
-    let vs = take n (drop from bytes) in
-    let k : length vs ≡ n = length-take-le n (drop from bytes) (omega (arith, length-drop from bytes)) in
-    let h : length (take held buffer) ≡ held = length-take-le held buffer (omega arith) in
-    ap (take (held + n)) (e ∙ sets-eq vs buffer held (omega arith))
-    ∙ take-at (take held buffer ++ vs) (drop (held + length vs) buffer) (held + n) (omega (arith, length-append (take held buffer) vs))
-
-pub front-due : (h bytes : List ℕ) (k : ℕ) → 4 ≤ length (h ++ take k bytes) → due goodFrame (h ++ take k bytes) ≡ due goodFrame (h ++ bytes)
-front-due h bytes k l =
-    sym (due-front goodFrame (h ++ take k bytes) (drop k bytes) l)
-    ∙ ap (due goodFrame) (append-assoc h (take k bytes) (drop k bytes) ∙ ap (λ (l : List ℕ). h ++ l) (take-append-drop k bytes))
-
-sum-least : (h n m d b : ℕ) → n ≤ d - h → n ≤ b → m ≡ min (d - (h + n)) (b - n) → n + m ≡ min (d - h) b
-sum-least h n m d b l k e = omega arith
-
-module _ (buffer : List ℕ) (held : ℕ) (bytes one : List ℕ) (n : ℕ) (f : Filled buffer held bytes 0 4 one n) where
-  abbrev Due : ℕ
-  Due = due goodFrame (take held buffer ++ bytes)
-
-  pub gather-short : held + n < 4 → Filled buffer held bytes 0 Due one n
-  gather-short l = record { amount = omega (arith, f .amount, due-least goodFrame (take held buffer ++ bytes)); whole = f .whole; front = f .front }
-
-  module _ (l : held ≤ length buffer) (four : 4 ≤ held + n) where
-    taken-long : length (take n bytes) ≡ n
-    taken-long = length-take-le n bytes (omega (arith, f .amount))
-
-    front-long : length (take held buffer ++ take n bytes) ≡ held + n
-    front-long = omega (arith, length-append (take held buffer) (take n bytes), length-take-le held buffer l, taken-long)
-
-    gather-due : due goodFrame one ≡ Due
-    gather-due =
-        let k : 4 ≤ length (take (held + n) one) = rw (f .front) (omega (arith, front-long)) in
-        ap (due goodFrame) (sym (take-append-drop (held + n) one)) ∙ due-front goodFrame (take (held + n) one) (drop (held + n) one) k
-        ∙ ap (due goodFrame) (f .front) ∙ front-due (take held buffer) bytes n (omega (arith, front-long))
-
-    pub gather-all : (two : List ℕ) (d m : ℕ) → d ≡ due goodFrame one → Filled one (held + n) bytes n d two m → Filled buffer held bytes 0 Due two (n + m)
-    gather-all two d m e g =
-        let s = sum-least held n m Due (length bytes) (omega (arith, f .amount, due-least goodFrame (take held buffer ++ bytes))) (omega (arith, f .amount)) (rw (← gather-due, ← e) (g .amount)) in
-        let k : held + (n + m) ≡ held + n + m = omega arith in
-        record {
-          amount = omega (arith, s);
-          whole = g .whole ∙ ap (λ (l : List ℕ). sets l (held + n) (take m (drop n bytes))) (f .whole)
-              ∙ sets-behind buffer held (held + n) (take n bytes) (take m (drop n bytes)) (omega (arith, taken-long))
-              ∙ ap (sets buffer held) (sym (take-add n m bytes));
-          front = ap (λ (i : ℕ). take i two) k ∙ g .front ∙ ap (λ (l : List ℕ). l ++ take m (drop n bytes)) (f .front) ∙ append-assoc (take held buffer) (take n bytes) (take m (drop n bytes))
-              ∙ ap (λ (l : List ℕ). take held buffer ++ l) (sym (take-add n m bytes));
-        }
 
 -- ---- the buffer of held bytes
 

@@ -1,9 +1,8 @@
 -- Terms of the contracts of private functions; no public promise cites them.
-use Prim.Native.Nat.{ℕ, _+_, _-_, _≤_, _<_, min}
+use Prim.Native.Nat.{ℕ, _≤_, _<_}
 use mathlib.Core.Path.{_≡_}
-use mathlib.Core.List.{List, _++_}
+use mathlib.Core.List.{List}
 use lib.ListN.{length, take, drop}
-use lib.Seq.{sets}
 use Rattle.records.specs.Cutting.{Reader, Standing, start, fed}
 use Rattle.trace.specs.Trace.{goodFrame}
 use Rattle.playing.specs.declared.playing.Playing.{Playing}
@@ -19,12 +18,6 @@ use Rattle.counting.specs.OfTrace.{made, countedAll}
 use Rattle.counting.specs.Terms.{Within}
 use Rattle.calls.specs.Buffer.{numberFor}
 use Rattle.replay.specs.Feeding.{at, completed}
-
--- bytes of a burst that went behind the held ones
-pub record Filled (buffer : List ℕ) (held : ℕ) (bytes : List ℕ) (from upto : ℕ) (after : List ℕ) (n : ℕ) : Type 0 where
-  pub amount : n ≡ min (upto - held) (length bytes - from)
-  pub whole : after ≡ sets buffer held (take n (drop from bytes))
-  pub front : take (held + n) after ≡ take held buffer ++ take n (drop from bytes)
 
 -- all that the code carries from record to record: the replay with its lent buffer, and the counts
 pub record Carried : Type 0 where

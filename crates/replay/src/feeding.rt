@@ -9,7 +9,6 @@ ghost use Rattle.replay.specs.Claims.{ReplayClaims};
 ghost use Rattle.playing.specs.Played.{platformOf};
 ghost use Rattle.replay.specs.Feeding.{Ready, Feeds, startOf, endOf};
 ghost use Rattle.replay.specs.Terms.{countedFront, Finishes, Passable, Passes};
-use crate::filling::fill;
 use crate::filling::gather;
 use crate::filling::ripe_at;
 use counting::Counts;
@@ -18,6 +17,7 @@ use inventory::Edition;
 use playing::Playing;
 use playing::is_going;
 use playing::play;
+use records::fill;
 use rtas::number_for;
 use trace::Report;
 

@@ -3,7 +3,9 @@ use mathlib.Core.Path.{sym}
 use borrow.Author.Needs.{needs}
 use denote.Ref.{now}
 use lib.Seq.{length-take-le}
-use Rattle.intake.proofs.Standings.{Gathered, gathered-of, finish-none, finish-inside, finish-done}
+use Rattle.records.proofs.Holding.{Gathered}
+use Rattle.intake.specs.Taking.{goodFront}
+use Rattle.intake.proofs.Standings.{gathers, finish-none, finish-inside, finish-done}
 use Rattle.intake.proofs.bursts.finish.Statement.{statement}
 use Rattle.intake.proofs.bursts.finish.Tie as tie
 
@@ -14,8 +16,8 @@ gather-requires : tie.Need-gather-requires
 gather-requires c κs = search needs
 
 -- what is due is in, or all of the burst
-gathered : (c : tie.After-slice-known3) → Gathered (now (c .before .before .before .before .before .before .before .before .before .args .store)) (c .before .before .before .before .before .before .before .before .before .args .from) (now (c .before .before .before .before .before .before .before .before .before .args .bytes)) (c .before .before .gather .last .0) (c .before .before .gather .result)
-gathered c = gathered-of (c .before .before .before .before .before .before .before .before .before .pre) _ _ _ (c .before .before .before .before .if1 .left) (c .before .before .gather .kept .0) (c .before .before .gather .ensures)
+gathered : (c : tie.After-slice-known3) → Gathered goodFront (now (c .before .before .before .before .before .before .before .before .before .args .store)) (c .before .before .before .before .before .before .before .before .before .args .from .held) (now (c .before .before .before .before .before .before .before .before .before .args .bytes)) (c .before .before .gather .last .0) (c .before .before .gather .result)
+gathered c = gathers (c .before .before .before .before .before .before .before .before .before .pre) _ _ _ (c .before .before .before .before .if1 .left) (c .before .before .gather .kept .0) (c .before .before .gather .ensures)
 
 add-all : tie.Need-add-all
 add-all c = search needs

@@ -6,7 +6,9 @@ use borrow.Author.Tests.{not-true, not-false}
 use denote.Ref.{now}
 use lib.ListN.{length}
 use native.Mathlib.Omega.{arith}
-use Rattle.intake.proofs.Standings.{Ripe, ripe-is, Passing, pass-starts, pass-over, pass-held, pass-on}
+use Rattle.records.proofs.Behind.{Ripe, ripe-is}
+use Rattle.intake.specs.Taking.{goodFront}
+use Rattle.intake.proofs.Standings.{Passing, pass-starts, pass-over, pass-held, pass-on}
 use Rattle.intake.proofs.bursts.pass.Statement.{statement}
 use Rattle.intake.proofs.bursts.pass.Tie as tie
 
@@ -38,8 +40,8 @@ returns-2 : tie.Need-returns-2 Inv-loop μ-loop
 returns-2 c = pass-held (c .before .before .before .before .loop .inv) (sym (c .before .before .before .is-going .ensures) ∙ not-false _ (c .before .before .if1 .left)) _ (c .before .ripe-at .ensures) (c .if2 .taken)
 
 -- a record that is due and there
-ripe : (c : tie.Else2 Inv-loop μ-loop) → Ripe (now (c .before .before .before .before .before .before .before .before .args .bytes)) (c .before .before .before .before .loop .at) (c .before .ripe-at .result)
-ripe c = ripe-is _ _ _ (c .before .before .before .before .loop .inv .place) (c .before .ripe-at .ensures) (c .if2 .left)
+ripe : (c : tie.Else2 Inv-loop μ-loop) → Ripe goodFront (now (c .before .before .before .before .before .before .before .before .args .bytes)) (c .before .before .before .before .loop .at) (c .before .ripe-at .result)
+ripe c = ripe-is goodFront _ _ _ (c .before .before .before .before .loop .inv .place) (c .before .ripe-at .ensures) (c .if2 .left)
 
 add-take : tie.Need-add-take Inv-loop μ-loop
 add-take c = omega (arith, ripe (c .before) .fits)

@@ -2,7 +2,9 @@
 use borrow.Author.Needs.{needs}
 use denote.Ref.{now}
 use native.Mathlib.Omega.{arith}
-use Rattle.intake.proofs.Fronts.{due-most, gather-short, gather-all}
+use Rattle.records.proofs.Behind.{gather-short, gather-all}
+use Rattle.intake.specs.Taking.{goodFront}
+use Rattle.intake.proofs.Fronts.{due-most}
 use Rattle.intake.proofs.filling.gather.Statement.{statement}
 use Rattle.intake.proofs.filling.gather.Tie as tie
 
@@ -16,7 +18,7 @@ same-length : tie.Need-same-length
 same-length c = search needs
 
 returns : tie.Need-returns
-returns c = let a = c .before .before .before .before .before .before .before .args in gather-short (now (a .buffer)) (a .held) (now (a .bytes)) _ _ (c .before .before .before .fill .ensures) (c .if1 .taken)
+returns c = let a = c .before .before .before .before .before .before .before .args in gather-short goodFront (now (a .buffer)) (a .held) (now (a .bytes)) _ _ (c .before .before .before .fill .ensures) (c .if1 .taken)
 
 due-at-requires : tie.Need-due-at-requires
 due-at-requires c κs = search needs
@@ -38,7 +40,7 @@ returns-2 : tie.Need-returns-2
 returns-2 c =
     let at-start = c .before .before .before .before .before .before .before .before .before .before .before .before .before in
     let a = at-start .args in
-    gather-all (now (a .buffer)) (a .held) (now (a .bytes)) _ _ (c .before .before .before .before .before .before .before .before .before .fill .ensures) (at-start .pre .0) (c .before .before .before .before .before .before .if1 .left) _ _ _ (c .before .before .before .before .due-at .ensures) (c .before .before .fill2 .ensures)
+    gather-all goodFront (now (a .buffer)) (a .held) (now (a .bytes)) _ _ (c .before .before .before .before .before .before .before .before .before .fill .ensures) (at-start .pre .0) (c .before .before .before .before .before .before .if1 .left) _ _ _ (c .before .before .before .before .due-at .ensures) (c .before .before .fill2 .ensures)
 
 pub gather-spec : {M : Type 1} → statement M
 gather-spec =

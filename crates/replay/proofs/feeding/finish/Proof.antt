@@ -7,8 +7,10 @@ use borrow.Author.Tests.{ltb-true}
 use denote.Ref.{now}
 use lib.Seq.{length-take-le}
 use Rattle.words.proofs.Choice.{and-right}
+use Rattle.records.proofs.Holding.{Gathered}
+use Rattle.trace.specs.Trace.{goodFrame}
 use Rattle.counting.proofs.Growing.{within-later}
-use Rattle.replay.proofs.Standings.{Gathered, gathered-of, gathered-playable, finish-none, finish-inside, finish-done}
+use Rattle.replay.proofs.Standings.{gathers, gathered-playable, finish-none, finish-inside, finish-done}
 use Rattle.replay.proofs.feeding.finish.Statement.{statement}
 use Rattle.replay.proofs.feeding.finish.Tie as tie
 
@@ -19,8 +21,8 @@ gather-requires : tie.Need-gather-requires
 gather-requires c κs = search needs
 
 -- what is due is in, or all of the burst
-gathered : (c : tie.After-slice-known4) → Gathered (now (c .before .before .before .before .before .before .before .before .before .before .before .before .before .args .held)) (c .before .before .before .before .before .before .before .before .before .before .before .before .before .args .from) (now (c .before .before .before .before .before .before .before .before .before .before .before .before .before .args .bytes)) (c .before .before .gather .last .0) (c .before .before .gather .result)
-gathered c = gathered-of (c .before .before .before .before .before .before .before .before .before .before .before .before .before .pre) _ _ _ (c .before .before .before .before .if1 .left) (c .before .before .gather .kept .0) (c .before .before .gather .ensures)
+gathered : (c : tie.After-slice-known4) → Gathered goodFrame (now (c .before .before .before .before .before .before .before .before .before .before .before .before .before .args .held)) (c .before .before .before .before .before .before .before .before .before .before .before .before .before .args .from .held) (now (c .before .before .before .before .before .before .before .before .before .before .before .before .before .args .bytes)) (c .before .before .gather .last .0) (c .before .before .gather .result)
+gathered c = gathers (c .before .before .before .before .before .before .before .before .before .before .before .before .before .pre) _ _ _ (c .before .before .before .before .if1 .left) (c .before .before .gather .kept .0) (c .before .before .gather .ensures)
 
 add-all : tie.Need-add-all
 add-all c = search needs

@@ -9,11 +9,13 @@ use denote.Ref.{now}
 use lib.ListN.{length}
 use native.Mathlib.Omega.{arith}
 use Rattle.words.proofs.Choice.{and-right}
+use Rattle.records.proofs.Behind.{Ripe, ripe-is}
+use Rattle.trace.specs.Trace.{goodFrame}
 use Rattle.trace.specs.Playing.{isOver}
 use Rattle.counting.proofs.Growing.{within-later}
 use Rattle.playing.specs.Played.{platformOf}
 use Rattle.replay.proofs.Made.{Counts-by}
-use Rattle.replay.proofs.Standings.{Ripe, ripe-is, part-playable, Passing, pass-starts, pass-over, pass-held, pass-on}
+use Rattle.replay.proofs.Standings.{part-playable, Passing, pass-starts, pass-over, pass-held, pass-on}
 use Rattle.replay.proofs.feeding.pass.Statement.{statement}
 use Rattle.replay.proofs.feeding.pass.Tie as tie
 
@@ -56,8 +58,8 @@ returns-2 : tie.Need-returns-2 Inv-loop μ-loop
 returns-2 c = pass-held (c .before .before .before .before .loop .inv) (goes (c .before .before)) _ (c .before .ripe-at .ensures) (c .if2 .taken)
 
 -- a record that is due and there
-ripe : (c : tie.Else2 Inv-loop μ-loop) → Ripe (now (c .before .before .before .before .before .before .before .before .before .before .before .before .args .bytes)) (c .before .before .before .before .loop .at) (c .before .ripe-at .result)
-ripe c = ripe-is _ _ _ (c .before .before .before .before .loop .inv .place) (c .before .ripe-at .ensures) (c .if2 .left)
+ripe : (c : tie.Else2 Inv-loop μ-loop) → Ripe goodFrame (now (c .before .before .before .before .before .before .before .before .before .before .before .before .args .bytes)) (c .before .before .before .before .loop .at) (c .before .ripe-at .result)
+ripe c = ripe-is goodFrame _ _ _ (c .before .before .before .before .loop .inv .place) (c .before .ripe-at .ensures) (c .if2 .left)
 
 add-play : tie.Need-add-play Inv-loop μ-loop
 add-play c = omega (arith, ripe (c .before .before) .fits)

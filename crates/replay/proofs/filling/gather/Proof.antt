@@ -2,8 +2,9 @@
 use borrow.Author.Needs.{needs}
 use denote.Ref.{now}
 use native.Mathlib.Omega.{arith}
+use Rattle.records.proofs.Behind.{gather-short, gather-all}
+use Rattle.trace.specs.Trace.{goodFrame}
 use Rattle.trace.proofs.Reader.{due-most}
-use Rattle.replay.proofs.Leaves.{gather-short, gather-all}
 use Rattle.replay.proofs.filling.gather.Statement.{statement}
 use Rattle.replay.proofs.filling.gather.Tie as tie
 
@@ -17,7 +18,7 @@ same-length : tie.Need-same-length
 same-length c = search needs
 
 returns : tie.Need-returns
-returns c = gather-short (now (c .before .before .before .before .before .before .before .args .buffer)) (c .before .before .before .before .before .before .before .args .held) (now (c .before .before .before .before .before .before .before .args .bytes)) _ _ (c .before .before .before .fill .ensures) (c .if1 .taken)
+returns c = gather-short goodFrame (now (c .before .before .before .before .before .before .before .args .buffer)) (c .before .before .before .before .before .before .before .args .held) (now (c .before .before .before .before .before .before .before .args .bytes)) _ _ (c .before .before .before .fill .ensures) (c .if1 .taken)
 
 due-at-requires : tie.Need-due-at-requires
 due-at-requires c κs = search needs
@@ -36,7 +37,7 @@ same-length-2 : tie.Need-same-length-2
 same-length-2 c = search needs
 
 returns-2 : tie.Need-returns-2
-returns-2 c = gather-all (now (c .before .before .before .before .before .before .before .before .before .before .before .before .before .args .buffer)) (c .before .before .before .before .before .before .before .before .before .before .before .before .before .args .held) (now (c .before .before .before .before .before .before .before .before .before .before .before .before .before .args .bytes)) _ _ (c .before .before .before .before .before .before .before .before .before .fill .ensures) (c .before .before .before .before .before .before .before .before .before .before .before .before .before .pre .0) (c .before .before .before .before .before .before .if1 .left) _ _ _ (c .before .before .before .before .due-at .ensures) (c .before .before .fill2 .ensures)
+returns-2 c = gather-all goodFrame (now (c .before .before .before .before .before .before .before .before .before .before .before .before .before .args .buffer)) (c .before .before .before .before .before .before .before .before .before .before .before .before .before .args .held) (now (c .before .before .before .before .before .before .before .before .before .before .before .before .before .args .bytes)) _ _ (c .before .before .before .before .before .before .before .before .before .fill .ensures) (c .before .before .before .before .before .before .before .before .before .before .before .before .before .pre .0) (c .before .before .before .before .before .before .if1 .left) _ _ _ (c .before .before .before .before .due-at .ensures) (c .before .before .fill2 .ensures)
 
 pub gather-spec : {M : Type 1} → statement M
 gather-spec =

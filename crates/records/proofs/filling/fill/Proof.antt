@@ -2,9 +2,9 @@
 use denote.Ref.{now}
 use native.Mathlib.Omega.{arith}
 use borrow.Author.Needs.{needs}
-use Rattle.intake.proofs.Fronts.{filled-front}
-use Rattle.intake.proofs.filling.fill.Statement.{statement}
-use Rattle.intake.proofs.filling.fill.Tie as tie
+use Rattle.records.proofs.Behind.{filled-front}
+use Rattle.records.proofs.filling.fill.Statement.{statement}
+use Rattle.records.proofs.filling.fill.Tie as tie
 
 sub-missing : tie.Need-sub-missing
 sub-missing c = search needs
