@@ -28,7 +28,6 @@ pub use property::read_property;
 pub use scope::Row;
 pub use scope::Units;
 pub use scope::scope_row;
-pub use scope::set_in;
 pub use scope::units_of;
 pub use units::asked_here;
 pub use units::read_unit;

@@ -48,15 +48,6 @@ fn row_at(number: usize) -> [u8; 17]
     ROWS[number]
 }
 
-// The set of opcodes that row number 0 to 3 has for a node type.
-pub fn set_in(number: usize, node: usize) -> u8
-    requires { ⌜ (number < 4) × (node ≤ largestType) ⌝ }
-    ensures { λ r. ⌜ r ≡ getD (getD rows number []) node 0 ⌝ }
-{
-    let row = row_at(number);
-    row[node]
-}
-
 fn valid_row(number: usize) -> Row
     requires { ⌜ number < 4 ⌝ }
     ensures { λ r. ⌜ (r .valid ≡ true) × (r .sets ≡ getD rows number []) ⌝ }

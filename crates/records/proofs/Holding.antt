@@ -41,7 +41,7 @@ module _ (good : ℕ → ℕ → Bool) where
 
   module _ (h bytes : List ℕ) where
     -- with a burst behind them more is due than is held
-    under : ripe good h ≡ false → length h < due good (h ++ bytes)
+    pub under : ripe good h ≡ false → length h < due good (h ++ bytes)
     under raw = decide (leb 4 (length h))
         (λ e. omega (arith, due-front good h bytes (leb-true 4 (length h) e), short-raw good h raw))
         (λ e. omega (arith, due-least good (h ++ bytes), leb-false 4 (length h) e))

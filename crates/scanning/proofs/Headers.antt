@@ -13,9 +13,10 @@ use Rattle.words.proofs.Numbers.{le-split, le-below}
 use Rattle.records.specs.Records.{lengthOf, kindOf, sizeOf}
 use Rattle.records.proofs.Steps.{length-at, kind-at}
 use Rattle.scanning.specs.declared.stride.Same.{Same}
+use Rattle.journal.specs.declared.judging.Shape.{Shape}
 use Rattle.journal.specs.Journal.{goodFrame}
 use Rattle.journal.specs.Scope.{Selection}
-use Rattle.journal.specs.Terms.{goodAt, nodeHere}
+use Rattle.journal.specs.Terms.{goodAt, nodeHere, shapeAt}
 use Rattle.scanning.specs.Terms.{UnitHere, weightOf, Weighed, Known}
 use Rattle.words.proofs.Choice.{and-left, and-right}
 use Rattle.journal.proofs.Opcodes.{kind-opcode}
@@ -42,20 +43,27 @@ module _ (j : List ℕ) (bytes : Bytes j) (w at i : ℕ) (h : le (2 + w) j i ≡
   first-two : le 2 j i ≡ le 2 j at
   first-two = omega (arith, split-two, behind-two)
 
--- wherever the header of a good record stands, there is one of its size and of its weight
+-- wherever the header of a good record stands and its size fits, there is one of its size, kind and node type
+pub same-shape : (j : List ℕ) (bytes : Bytes j) (at : ℕ) → nodeHere j at ≡ true → (i : ℕ) → i + sizeOf (drop at j) ≤ length j → le 6 j i ≡ le 6 j at → (nodeHere j i ≡ true) × (shapeAt j at ≡ shapeAt j i)
+same-shape j bytes at good i r h =
+    let four = behind-two j bytes 4 at i h in
+    let len : lengthOf (drop at j) ≡ lengthOf (drop i j) = length-at j at ∙ sym (length-at j i ∙ first-two j bytes 4 at i h) in
+    let kind : kindOf (drop at j) ≡ kindOf (drop i j) = kind-at j at ∙ sym (kind-at j i ∙ first-two j bytes 2 (at + 2) (i + 2) four) in
+    let node : le 2 j (at + 4) ≡ le 2 j (i + 4) = ap (le 2 j) (sym (add-assoc at 2 2)) ∙ sym (behind-two j bytes 2 (at + 2) (i + 2) four) ∙ ap (le 2 j) (add-assoc i 2 2) in
+    let here = good-again (length j - at) (length j - i) (lengthOf (drop at j)) (kindOf (drop at j)) (le 2 j (at + 4)) (sym (good-read j at _ _ _ refl refl refl) ∙ good) (omega arith) in
+    (good-read j i _ _ _ len kind node ∙ here, rw (len, kind, node))
+
+-- and so of its weight
 module _ (sel : Selection) (j : List ℕ) (bytes : Bytes j) (at : ℕ) (good : nodeHere j at ≡ true) (other : kindOf (drop at j) ≡ 4 → ⊥) where
   again : (i : ℕ) → i + sizeOf (drop at j) ≤ length j → le 6 j i ≡ le 6 j at → Weighed sel j i (sizeOf (drop at j)) (weightOf (sel .sets) (kindOf (drop at j)) (le 2 j (at + 4)))
   again i r h =
-      let four = behind-two j bytes 4 at i h in
-      let len : lengthOf (drop at j) ≡ lengthOf (drop i j) = length-at j at ∙ sym (length-at j i ∙ first-two j bytes 4 at i h) in
-      let kind : kindOf (drop at j) ≡ kindOf (drop i j) = kind-at j at ∙ sym (kind-at j i ∙ first-two j bytes 2 (at + 2) (i + 2) four) in
-      let node : le 2 j (at + 4) ≡ le 2 j (i + 4) = ap (le 2 j) (sym (add-assoc at 2 2)) ∙ sym (behind-two j bytes 2 (at + 2) (i + 2) four) ∙ ap (le 2 j) (add-assoc i 2 2) in
-      let here : nodeHere j i ≡ true = good-read j i _ _ _ len kind node ∙ good-again (length j - at) (length j - i) (lengthOf (drop at j)) (kindOf (drop at j))
-      (le 2 j (at + 4)) (sym (good-read j at _ _ _ refl refl refl) ∙ good) (omega arith) in
+      let same = same-shape j bytes at good i r h in
+      let kind : kindOf (drop at j) ≡ kindOf (drop i j) = ap (λ (s : Shape). s .kind) (same .1) in
+      let node : le 2 j (at + 4) ≡ le 2 j (i + 4) = ap (λ (s : Shape). s .node) (same .1) in
       record {
-        size-is = ap (λ (n : ℕ). n + 2) (sym len);
-        good = here;
-        weight-is = rw (kind, node) (sym (asked-other j i here (sel .units) _ (λ q. other (kind ∙ q))));
+        size-is = sym (ap (λ (s : Shape). s .size) (same .1));
+        good = same .0;
+        weight-is = rw (kind, node) (sym (asked-other j i (same .0) (sel .units) _ (λ q. other (kind ∙ q))));
       }
 
   pub known : (s : Same) → s .header ≡ le 6 j at → s .size ≡ sizeOf (drop at j) → s .weight ≡ weightOf (sel .sets) (kindOf (drop at j)) (le 2 j (at + 4)) → Known sel j s

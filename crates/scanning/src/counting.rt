@@ -21,7 +21,8 @@ pub struct Scanned {
     pub marks: [u64; 128],
 }
 
-fn counts_of(packed: u64) -> Counts
+// The three counts that were packed in one number.
+pub fn counts_of(packed: u64) -> Counts
     ensures { λ r. ⌜ r ≡ unpacked packed ⌝ }
 {
     Counts {

@@ -5,4 +5,7 @@ mod stride;
 mod weights;
 
 pub use counting::Scanned;
+pub use counting::counts_of;
 pub use counting::scan;
+pub use stride::four_headers;
+pub use stride::header_at;

@@ -59,7 +59,7 @@ fn weigh(j: &[u8], at: usize, units: Units, weights: &[u64; 160], shape: Shape) 
 }
 
 // The six bytes of a record's length, kind and node type as one number.
-fn header_at(j: &[u8], at: usize) -> u64
+pub fn header_at(j: &[u8], at: usize) -> u64
     requires { ⌜ at + 8 ≤ length (now j) ⌝ }
     ensures { λ r. ⌜ r ≡ le 6 (now (j .entry)) at ⌝ }
 {
@@ -69,7 +69,7 @@ fn header_at(j: &[u8], at: usize) -> u64
 }
 
 // Whether four records of a size, from a place on, have this header.
-fn four_headers(j: &[u8], at: usize, size: usize, header: u64) -> bool
+pub fn four_headers(j: &[u8], at: usize, size: usize, header: u64) -> bool
     requires { ⌜ (at + (3 * size + 8) ≤ length (now j)) × (size ≤ 18) ⌝ }
     ensures { λ r. ⌜ r ≡ fourHeaded (now (j .entry)) header size at ⌝ }
 {

@@ -14,7 +14,8 @@ use Rattle.journal.specs.Scope.{Selection}
 use Rattle.journal.specs.Reportable.{chosen, countsOf}
 use Rattle.journal.proofs.Entries.{operations-few}
 use Rattle.journal.proofs.Joins.{counts-join}
-use Rattle.tallies.specs.Tallies.{row, recountOf, noTallies, tallySum, countsWithin, talliesWithin}
+use Rattle.stretch.specs.Packed.{row}
+use Rattle.tallies.specs.Tallies.{recountOf, noTallies, tallySum, countsWithin, talliesWithin}
 
 pub recount-none : recountOf [] ≡ noTallies
 unfolding recountOf entries records recordsFrom chosenBy

@@ -1,7 +1,6 @@
 pub mod Readings
 pub mod Joins
 pub mod Kept
-pub mod Weights
 pub mod Outcomes
 pub mod Claims
 pub mod Recounts

@@ -1,56 +1,39 @@
--- Counting a journal anew, record by record, and bytes that are one record.
-use mathlib.Core.Path.{_≡_, refl, sym, _∙_}
-use mathlib.Core.Bool.{true, false, true≢false}
+-- Counting a journal anew by the stretch of its good records, sums that fit, and bytes that are one record.
+use mathlib.Core.Path.{_≡_, sym, ap, _∙_}
+use mathlib.Core.Bool.{true, false, _&&_, true≢false}
 use mathlib.Core.List.{List}
-use Prim.Native.Nat.{ℕ, _+_, _<_, _≤_}
+use Prim.Native.Nat.{ℕ, _+_, _-_, _<_, _≤_}
 use native.Mathlib.Nat.{zero-add}
 use native.Mathlib.Omega.{arith}
 use lib.Dec.{leb, eqb}
-use lib.ListN.{length, drop}
+use lib.ListN.{length, take, drop, take-append-drop}
 use lib.Seq.{take-all}
-use borrow.Author.Tests.{leb-true, eqb-true, eqb-false}
+use borrow.Author.Tests.{leb-true, leb-false, eqb-true}
 use Rattle.words.proofs.Choice.{decide, and-left, and-right}
-use Rattle.records.specs.Records.{sizeOf, firstRecord, records, allGood, sizeLimit}
-use Rattle.records.proofs.Choosing.{one-if-le, before-none, before-step, before-all}
-use Rattle.records.proofs.Steps.{good-step, bad-step, none-good, formed, not-formed}
-use Rattle.records.proofs.Whole.{whole-size}
+use Rattle.records.specs.Records.{sizeOf, records, allGood, whole, sizeLimit}
+use Rattle.records.proofs.Steps.{bad-step, formed, not-formed, records-step, records-few}
+use Rattle.records.proofs.Whole.{records-front}
+use Rattle.records.proofs.Joining.{records-join, good-join, one-record}
 use Rattle.journal.specs.declared.counts.Counts.{Counts}
-use Rattle.journal.specs.Journal.{goodRecord, wellFormed, Entry, entryOf}
-use Rattle.journal.specs.Scope.{Selection}
-use Rattle.journal.specs.Reportable.{operation, reports, countsOf}
-use Rattle.journal.specs.Terms.{Before}
+use Rattle.journal.specs.Journal.{goodRecord, wellFormed}
+use Rattle.journal.specs.Reportable.{countsOf}
 use Rattle.journal.specs.Holding.{goodHere}
-use Rattle.journal.proofs.Entries.{each-entry, operations-few}
-use Rattle.journal.proofs.Sizes.{sized-here}
+use Rattle.journal.proofs.Entries.{operations-few}
+use Rattle.journal.proofs.Walks.{all-good, walked}
+use Rattle.journal.proofs.Joins.{one-formed}
+use Rattle.scanning.specs.Terms.{unpacked}
+use Rattle.stretch.specs.declared.packed.Packed.{Packed}
+use Rattle.stretch.specs.declared.steps.Stretch.{Stretch}
+use Rattle.stretch.specs.Packed.{row, packed, packedOf, noPacked, plus}
+use Rattle.stretch.specs.Stretches.{between, nothing, Goes}
+use Rattle.stretch.proofs.Adding.{unpacked-packed}
 use Rattle.tallies.specs.declared.tallies.Tallies.{Tallies}
 use Rattle.tallies.specs.declared.counting.Weighed.{Weighed}
-use Rattle.tallies.specs.Tallies.{row, byRow, noCounts, noTallies, recountOf, recountFor, countSum, tallySum, countsWithin, talliesWithin}
-use Rattle.tallies.specs.Weighing.{entryCounts, entryTallies, weighedAt, CountsFit, TalliesFit}
+use Rattle.tallies.specs.declared.keeping.Tallied.{Tallied}
+use Rattle.tallies.specs.Tallies.{recountOf, recountFor, countsWithin, talliesWithin}
+use Rattle.tallies.specs.Weighing.{talliesFrom, nothingWeighed, weighedOf, CountsFit, TalliesFit, Extends}
 use Rattle.tallies.specs.Keeping.{oneRecord}
 use Rattle.tallies.proofs.Joins.{recount-within}
-use Rattle.tallies.proofs.Weights.{Stands, none-stands, one-stands}
-
--- ---- a statement of each row
-
-pub record EachRow (P : ℕ → Counts → Type 0) (t : Tallies) : Type 0 where
-  pub negative : P 0 (t .negative)
-  pub first : P 1 (t .first)
-  pub second : P 2 (t .second)
-  pub third : P 3 (t .third)
-
-by-row : (P : ℕ → Counts → Type 0) (f : ℕ → Counts) → ((n : ℕ) → P n (f n)) → EachRow P (byRow f)
-by-row P f h = record { negative = h 0; first = h 1; second = h 2; third = h 3 }
-
-module _ (P Q : ℕ → Counts → Type 0) (t : Tallies) (r : EachRow P t) where
-  along-rows : ((n : ℕ) (c : Counts) → P n c → Q n c) → EachRow Q t
-  along-rows h = record { negative = h 0 _ (r .negative); first = h 1 _ (r .first); second = h 2 _ (r .second); third = h 3 _ (r .third) }
-
-  -- after a sum
-  summed-rows : (f : ℕ → Counts) → ((n : ℕ) (c : Counts) → P n c → Q n (countSum c (f n))) → EachRow Q (tallySum t (byRow f))
-  summed-rows f h = record { negative = h 0 _ (r .negative); first = h 1 _ (r .first); second = h 2 _ (r .second); third = h 3 _ (r .third) }
-
-rows-are : (f : ℕ → Counts) (t : Tallies) → EachRow (λ n c. c ≡ f n) t → t ≡ byRow f
-rows-are f t r = rw (← r .negative, ← r .first, ← r .second, ← r .third)
 
 -- ---- sums that fit
 
@@ -60,8 +43,11 @@ pub record Few (limit : ℕ) (c : Counts) : Type 0 where
   pub updates : c .updates ≤ limit
   pub additions : c .additions ≤ limit
 
-abbrev pub EachFew : ℕ → Tallies → Type 0
-EachFew limit t = EachRow (λ _ c. Few limit c) t
+pub record EachFew (limit : ℕ) (t : Tallies) : Type 0 where
+  pub negative : Few limit (t .negative)
+  pub first : Few limit (t .first)
+  pub second : Few limit (t .second)
+  pub third : Few limit (t .third)
 
 counts-few : (limit : ℕ) (c : Counts) → countsWithin limit c ≡ true → Few limit c
 counts-few limit c e =
@@ -83,11 +69,6 @@ tallies-few limit t e =
 pub recount-few : (j : List ℕ) → EachFew (length j) (recountOf j)
 recount-few j = tallies-few (length j) (recountOf j) (recount-within (length j) j (omega arith))
 
--- a record counts at most once
-entry-few : (e : Entry) → EachFew 1 (entryTallies e)
-unfolding entryTallies
-entry-few e = by-row _ _ (λ n. record { deletes = one-if-le (reports (row n) 1 e); updates = one-if-le (reports (row n) 2 e); additions = one-if-le (reports (row n) 3 e) })
-
 module _ (m n : ℕ) (h : m + n < 18446744073709551616) where
   counts-fit : (a b : Counts) → Few m a → Few n b → CountsFit a b
   counts-fit a b p q = record { deletes = omega arith; updates = omega arith; additions = omega arith }
@@ -100,136 +81,91 @@ module _ (m n : ℕ) (h : m + n < 18446744073709551616) where
     third = counts-fit _ _ (p .third) (q .third);
   }
 
--- ---- one row, up to a place
+-- ---- packed counts
 
--- so many operations that a selection reports stand before it
-pub record CountedTo (sel : Selection) (j : List ℕ) (at : ℕ) (c : Counts) : Type 0 where
-  pub deletes : Before sel j at 1 (c .deletes)
-  pub updates : Before sel j at 2 (c .updates)
-  pub additions : Before sel j at 3 (c .additions)
+-- each has 21 bits
+unpacked-few : (n : ℕ) → Few 2097152 (unpacked n)
+unpacked-few n = record { deletes = omega arith; updates = omega arith; additions = omega arith }
 
-module _ (sel : Selection) (j : List ℕ) where
-  counted-none : CountedTo sel j 0 noCounts
-  counted-none =
-      let none : (code : ℕ) → Before sel j 0 code 0 = λ code. before-none (reports sel code) operation each-entry j in
-      record { deletes = none 1; updates = none 2; additions = none 3 }
+-- so what they add fits
+pub extends-fit : (t : Tallied) (more : ℕ) (p : Packed) → Extends t more → TalliesFit (t .tallies) (talliesFrom p)
+extends-fit t more p e = tallies-fit (t .used) 2097152 (omega (arith, e .narrow)) _ _ (tallies-few _ _ (e .within))
+    (record { negative = unpacked-few _; first = unpacked-few _; second = unpacked-few _; third = unpacked-few _ })
 
-  module _ (at : ℕ) (c : Counts) (p : CountedTo sel j at c) where
-    -- past a record
-    counted-step : at < length j → CountedTo sel j (at + sizeOf (drop at j)) (countSum c (entryCounts sel (entryOf (firstRecord (drop at j)))))
-    counted-step h = record {
-      deletes = before-step (reports sel 1) operation each-entry j at _ (p .deletes) h;
-      updates = before-step (reports sel 2) operation each-entry j at _ (p .updates) h;
-      additions = before-step (reports sel 3) operation each-entry j at _ (p .additions) h;
-    }
+none-plus : (p : Packed) → plus noPacked p ≡ p
+none-plus p = simp zero-add
 
-    -- at the end
-    counted-all : length j ≤ at → c ≡ countsOf sel j
-    counted-all h =
-        let all : (code n : ℕ) → Before sel j at code n → n ≡ _ = λ code n b. before-all (reports sel code) operation each-entry j at n b h in
-        rw (← all 1 _ (p .deletes), ← all 2 _ (p .updates), ← all 3 _ (p .additions))
+-- those of a journal are its tallies
+pub packed-recount : (p : List ℕ) → length p ≤ sizeLimit → talliesFrom (packedOf p) ≡ recountOf p
+unfolding packedOf recountOf
+packed-recount p h =
+    let one : (n : ℕ) → unpacked (packed (countsOf (row n) p)) ≡ countsOf (row n) p = λ n. let few = operations-few (row n) p in unpacked-packed (countsOf (row n) p) (omega (arith, few 1)) (omega (arith, few 2)) (omega (arith, few 3)) in
+    rw (one 0, one 1, one 2, one 3)
 
-    counted-few : Few (length j) c
-    counted-few = record {
-      deletes = omega (arith, p .deletes .number, operations-few sel j 1);
-      updates = omega (arith, p .updates .number, operations-few sel j 2);
-      additions = omega (arith, p .additions .number, operations-few sel j 3);
-    }
+-- ---- a buffer by the stretch of its good records
 
--- ---- the recount, up to a place
+pub weighed-bad : (j : List ℕ) → wellFormed j ≡ false → nothingWeighed ≡ weighedOf j
+unfolding weighedOf
+weighed-bad j e = rw e
 
-abbrev CountedRow : List ℕ → ℕ → ℕ → Counts → Type 0
-CountedRow j at n c = CountedTo (row n) j at c
+module _ (j : List ℕ) (small : length j ≤ sizeLimit) (s : Stretch) (g : Goes j nothing s) where
+  front : between j 0 (s .end) ≡ take (s .end) j
+  front = let z : s .end - 0 ≡ s .end = omega arith in rw z
 
-pub record Recounting (j : List ℕ) (at : ℕ) (t : Tallies) : Type 0 where
-  pub inside : at ≤ length j
-  pub good : allGood goodRecord (records j) ≡ allGood goodRecord (records (drop at j))
-  pub counts : EachRow (CountedRow j at) t
+  front-good : allGood goodRecord (records (take (s .end) j)) ≡ true
+  front-good = ap (λ (b : List ℕ). allGood goodRecord (records b)) (sym front) ∙ g .good
 
-pub recounting-none : (j : List ℕ) (t : Tallies) → t ≡ noTallies → Recounting j 0 t
-recounting-none j t e = rw e (record { inside = omega arith; good = refl; counts = by-row (CountedRow j 0) _ (λ n. counted-none (row n) j) })
+  -- up to the end: a journal
+  pub weighed-all : length j ≤ s .end → record { good = true; records = s .records; tallies = talliesFrom (s .counts) } ≡ weighedOf j
+  unfolding weighedOf wellFormed
+  weighed-all h =
+      let all : between j 0 (s .end) ≡ j = front ∙ take-all (s .end) j h in
+      let number : s .records ≡ length (records j) = g .number ∙ zero-add _ ∙ ap (λ (b : List ℕ). length (records b)) all in
+      let counts : s .counts ≡ packedOf j = g .counts ∙ none-plus _ ∙ ap packedOf all in
+      let good = ap (λ (b : List ℕ). allGood goodRecord (records b)) (sym all) ∙ g .good in
+      rw (formed sizeLimit goodRecord j small good, number, counts, packed-recount j small)
 
--- past a record: the sum fits, the next place lies further on, and the recount stands there
-pub record Passed (j : List ℕ) (at : ℕ) (t : Tallies) (w : Weighed) : Type 0 where
-  pub fit : TalliesFit t (w .tallies)
-  pub further : at < at + w .size
-  pub inside : at + w .size ≤ length j
-  pub next : (s : Tallies) → s ≡ tallySum t (w .tallies) → Recounting j (at + w .size) s
+  -- up to a place where no good record stands: none
+  pub ends-bad : s .end < length j → goodHere j (s .end) ≡ false → wellFormed j ≡ false
+  unfolding wellFormed
+  ends-bad h bad =
+      let a = take (s .end) j in
+      let b = drop (s .end) j in
+      not-formed sizeLimit goodRecord j
+      (ap (λ (l : List ℕ). allGood goodRecord (records l)) (sym (take-append-drop (s .end) j))
+      ∙ ap (allGood goodRecord) (records-join goodRecord a b front-good)
+      ∙ good-join goodRecord (records a) (records b)
+      ∙ rw front-good (bad-step goodRecord j (s .end) h bad))
 
-module _ (j : List ℕ) (at : ℕ) (t : Tallies) (r : Recounting j at t) where
-  -- at the end
-  recounted : length j ≤ at → t ≡ recountOf j
-  unfolding recountOf
-  recounted h = rows-are _ t (along-rows (CountedRow j at) _ t (r .counts) (λ n c p. counted-all (row n) j at c p h))
+-- ---- what was weighed
 
-  pub recount-good : length j ≤ sizeLimit → length j ≤ at → record { good = true; tallies = t } ≡ recountFor j
-  unfolding recountFor wellFormed
-  recount-good small h = rw (formed sizeLimit goodRecord j small (r .good ∙ none-good goodRecord j at h), recounted h)
+-- a journal of one record is this record
+sole : (j : List ℕ) → wellFormed j ≡ true → length (records j) ≡ 1 → oneRecord j ≡ true
+unfolding oneRecord records
+sole j e n =
+    let some : 0 < length j = omega (arith, n, records-few 0 j) in
+    let short : length j ≤ sizeOf j = decide (leb (length j) (sizeOf j)) (leb-true _ _)
+    (λ z. absurd (omega (arith, n, ap length (records-front j some), ap length (records-step j (sizeOf j) (leb-false (length j) (sizeOf j) z))))) in
+    rw (take-all (sizeOf j) j short) at (walked j 0 some (all-good j e))
 
-  module _ (h : at < length j) (w : Weighed) (given : w ≡ weighedAt j at) where
-    -- at a bad record
-    pub recounted-bad : w .size ≡ 0 → wellFormed j ≡ false
-    unfolding wellFormed
-    recounted-bad z = not-formed sizeLimit goodRecord j (r .good ∙ bad-step goodRecord j at h (none-stands j at w given z))
+module _ (j : List ℕ) (w : Weighed) (given : w ≡ weighedOf j) where
+  weighed-formed : wellFormed j ≡ true → w ≡ record { good = true; records = length (records j); tallies = recountOf j }
+  unfolding weighedOf
+  weighed-formed e = given ∙ rw e
 
-    -- past a good one
-    module _ (some : w .size ≡ 0 → ⊥) where
-      stands : Stands j at w
-      stands = one-stands j at w given some
+  pub recount-weighed : record { good = w .good; tallies = w .tallies } ≡ recountFor j
+  unfolding recountFor
+  recount-weighed = decide (wellFormed j) (λ e. rw (e, weighed-formed e)) (λ e. rw (e, given ∙ sym (weighed-bad j e)))
 
-      recounted-next : (s : Tallies) → s ≡ tallySum t (w .tallies) → Recounting j (at + w .size) s
-      unfolding entryTallies
-      recounted-next s e = rw (e, stands .is) (record {
-        inside = sized-here j at (stands .good) .1;
-        good = r .good ∙ good-step goodRecord j at h (stands .good);
-        counts = summed-rows (CountedRow j at) _ t (r .counts) _ (λ n c p. counted-step (row n) j at c p h);
-      })
-
-      pub recounted-past : length j ≤ sizeLimit → Passed j at t w
-      recounted-past small =
-          let few = along-rows (CountedRow j at) (λ _ c. Few (length j) c) t (r .counts) (λ n c p. counted-few (row n) j at c p) in
-          record {
-            fit = rw (stands .is) (tallies-fit (length j) 1 (omega arith) t _ few (entry-few (entryOf (firstRecord (drop at j)))));
-            further = rw (stands .is) (omega arith);
-            inside = rw (stands .is) (sized-here j at (stands .good) .1);
-            next = recounted-next;
-          }
-
-pub recount-bad : (j : List ℕ) (t : Tallies) → wellFormed j ≡ false → t ≡ noTallies → record { good = false; tallies = t } ≡ recountFor j
-unfolding recountFor
-recount-bad j t w e = rw (w, e)
-
--- ---- bytes that are one record
-
-sum-none : (t : Tallies) → tallySum noTallies t ≡ t
-sum-none t = simp zero-add
-
-module _ (r : List ℕ) where
-  -- where they are as long as their first record tells
-  one-here : length r ≡ sizeOf r → oneRecord r ≡ goodHere r 0
+  -- bytes that have to be one record
+  pub one-weighed : (w .good && eqb (w .records) 1) ≡ oneRecord j
   unfolding oneRecord
-  one-here h = rw (take-all (sizeOf r) r (omega arith))
+  one-weighed = decide (wellFormed j)
+      (λ e. rw (weighed-formed e) (decide (oneRecord j)
+      (λ o. rw (o, one-record j (and-left (whole j) _ o)))
+      (λ o. decide (eqb (length (records j)) 1) (λ n. absurd (true≢false (sym (sole j e (eqb-true _ _ n)) ∙ o))) (λ n. n ∙ sym o))))
+      (λ e. rw (given ∙ sym (weighed-bad j e)) (decide (oneRecord j) (λ o. absurd (true≢false (sym (one-formed j o) ∙ e))) sym))
 
-  one-long : oneRecord r ≡ true → length r ≡ sizeOf r
+  pub one-counted : oneRecord j ≡ true → w .tallies ≡ recountOf j
   unfolding oneRecord
-  one-long e = whole-size r (and-left _ _ e) .1
-
-  module _ (w : Weighed) (given : w ≡ weighedAt r 0) where
-    pub one-bad : w .size ≡ 0 → false ≡ oneRecord r
-    one-bad z = decide (oneRecord r) (λ e. absurd (true≢false (sym e ∙ one-here (one-long e) ∙ none-stands r 0 w given z))) sym
-
-    module _ (some : w .size ≡ 0 → ⊥) where
-      first-stands : Stands r 0 w
-      first-stands = one-stands r 0 w given some
-
-      pub one-good : eqb (w .size) (length r) ≡ oneRecord r
-      one-good = rw (first-stands .is) (decide (eqb (sizeOf r) (length r))
-          (λ e. e ∙ sym (one-here (sym (eqb-true _ _ e)) ∙ first-stands .good))
-          (λ e. decide (oneRecord r) (λ o. absurd (eqb-false (sizeOf r) (length r) e (sym (one-long o)))) (λ o. e ∙ sym o)))
-
-      pub one-counted : eqb (w .size) (length r) ≡ true → w .tallies ≡ recountOf r
-      one-counted e =
-          let long = eqb-true (w .size) (length r) e in
-          let inside = sized-here r 0 (first-stands .good) .1 in
-          let next = recounted-next r 0 noTallies (recounting-none r noTallies refl) (omega arith) w given some _ refl in
-          sym (sum-none (w .tallies)) ∙ recounted r (0 + w .size) _ next (omega arith)
+  one-counted o = ap (λ (x : Weighed). x .tallies) (weighed-formed (one-formed j o))

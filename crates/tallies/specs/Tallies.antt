@@ -1,20 +1,14 @@
 -- The tallies of a journal (document 02, M-106).
 use Prim.Native.Nat.{ℕ, _+_}
 use mathlib.Core.Bool.{Bool, cond, _&&_}
-use mathlib.Core.List.{List, []}
+use mathlib.Core.List.{List}
 use lib.Dec.{leb}
-use lib.ListN.{getD}
 use Rattle.journal.specs.declared.counts.Counts.{Counts}
-use Rattle.journal.specs.declared.scope.Units.the-variants.{All}
 use Rattle.journal.specs.Journal.{wellFormed}
-use Rattle.journal.specs.Scope.{rows, Selection, asking}
 use Rattle.journal.specs.Reportable.{countsOf}
+use Rattle.stretch.specs.Packed.{row}
 use Rattle.tallies.specs.declared.tallies.Tallies.{Tallies}
 use Rattle.tallies.specs.declared.tallies.Recount.{Recount}
-
--- 02: "for each scope row (scope 3 over all units) and opcode": the selection of row number n, 0 of negative scopes, 1 to 3 of these scopes
-abbrev pub row : ℕ → Selection
-row n = asking (getD rows n []) All
 
 -- the four rows, each by a definition over its number
 abbrev pub byRow : (ℕ → Counts) → Tallies

@@ -1,97 +1,62 @@
-// Counting a journal anew, record by record, in one pass.
+// Counting a journal anew, in one pass.
 ghost use mathlib.Core.Path.{_≡_};
-ghost use mathlib.Core.Bool.{true, false, cond};
-ghost use mathlib.Core.List.{[]};
-ghost use Prim.Native.Nat.{_≤_};
-ghost use lib.ListN.{length, getD};
-ghost use Rattle.journal.specs.Journal.{largestType};
-ghost use Rattle.journal.specs.Scope.{rows};
-ghost use Rattle.journal.specs.Terms.{opcodeFor, nodeHere};
-ghost use Rattle.tallies.specs.Tallies.{byRow, recountOf, recountFor};
-ghost use Rattle.tallies.specs.Weighing.{weightFor, weighedAt};
+ghost use mathlib.Core.Bool.{true};
+ghost use Rattle.tallies.specs.Tallies.{recountOf, recountFor};
+ghost use Rattle.tallies.specs.Weighing.{talliesFrom, nothingWeighed, weighedOf};
 ghost use Rattle.tallies.specs.Keeping.{oneRecord};
 ghost use Rattle.tallies.specs.Claims.{RecountClaims};
 use crate::tallies::Recount;
 use crate::tallies::Tallies;
-use crate::tallies::add;
 use crate::tallies::no_tallies;
-use journal::Counts;
-use journal::Held;
-use journal::Verdict;
+use scanning::counts_of;
+use stretch::Packed;
+use stretch::stretch_of;
 
-// A record at a place: the bytes that it takes, or 0 where no good one stands there, and what it counts.
+// What a buffer tells: whether it is a journal, how many records it has, and its tallies.
 struct Weighed {
-    size: usize,
+    good: bool,
+    records: usize,
     tallies: Tallies,
 }
 
-fn opcode_of(kind: usize) -> usize
-    ensures { λ r. ⌜ r ≡ opcodeFor kind ⌝ }
-{
-    if kind == 4 { 2 } else { kind }
-}
-
-fn chosen(test: bool, bit: u8) -> usize
-    ensures { λ r. ⌜ r ≡ cond test bit 0 ⌝ }
-{
-    if test { bit as usize } else { 0 }
-}
-
-// What a record of a kind counts in a row that has this set of opcodes for its node type.
-fn weight_for(kind: usize, set: u8) -> Counts
-    ensures { λ r. ⌜ r ≡ weightFor kind set ⌝ }
-{
-    let code = opcode_of(kind);
-    Counts {
-        deletes: chosen(code == 1, set % 2),
-        updates: chosen(code == 2, set / 2 % 2),
-        additions: chosen(code == 3, set / 4 % 2),
-    }
-}
-
-// What a record of a kind and node type counts in every row.
-fn weights_for(kind: usize, node: usize) -> Tallies
-    requires { ⌜ node ≤ largestType ⌝ }
-    ensures { λ r. ⌜ r ≡ byRow (λ n. weightFor kind (getD (getD rows n []) node 0)) ⌝ }
+// The tallies that packed counts are.
+pub fn tallies_of(counts: Packed) -> Tallies
+    ensures { λ r. ⌜ r ≡ talliesFrom counts ⌝ }
 {
     Tallies {
-        negative: weight_for(kind, journal::set_in(0, node)),
-        first: weight_for(kind, journal::set_in(1, node)),
-        second: weight_for(kind, journal::set_in(2, node)),
-        third: weight_for(kind, journal::set_in(3, node)),
+        negative: counts_of(counts.negative),
+        first: counts_of(counts.first),
+        second: counts_of(counts.second),
+        third: counts_of(counts.third),
     }
 }
 
-// The record at a place where no good record of a node stands: one of a property counts nowhere.
-fn weigh_property(j: &[u8], at: usize) -> Weighed
-    requires { ⌜ (at ≤ length (now j)) × (nodeHere (now j) at ≡ false) ⌝ }
-    ensures { λ r. ⌜ r ≡ weighedAt (now (j .entry)) at ⌝ }
+// What is no journal.
+fn nothing_weighed() -> Weighed
+    ensures { λ r. ⌜ r ≡ nothingWeighed ⌝ }
 {
-    let held = journal::held_at(j, at);
-    match held {
-        Held::Other => Weighed {
-            size: 0,
-            tallies: no_tallies(),
-        },
-        Held::Property(p) => Weighed {
-            size: p.size,
-            tallies: no_tallies(),
-        },
+    Weighed {
+        good: false,
+        records: 0,
+        tallies: no_tallies(),
     }
 }
 
-// The record at a place, judged and counted.
-fn weigh_at(j: &[u8], at: usize) -> Weighed
-    requires { ⌜ at ≤ length (now j) ⌝ }
-    ensures { λ r. ⌜ r ≡ weighedAt (now (j .entry)) at ⌝ }
+// A buffer judged and counted.
+fn weigh(j: &[u8]) -> Weighed
+    ensures { λ r. ⌜ r ≡ weighedOf (now (j .entry)) ⌝ }
 {
-    let verdict = journal::judge(j, at, 4);
-    match verdict {
-        Verdict::Bad => weigh_property(j, at),
-        Verdict::Good(shape) => Weighed {
-            size: shape.size,
-            tallies: weights_for(shape.kind, shape.node),
-        },
+    if records::SIZE_LIMIT < j.len() {
+        return nothing_weighed();
+    }
+    let all = stretch_of(j);
+    if all.end < j.len() {
+        return nothing_weighed();
+    }
+    Weighed {
+        good: true,
+        records: all.records,
+        tallies: tallies_of(all.counts),
     }
 }
 
@@ -99,17 +64,10 @@ fn weigh_at(j: &[u8], at: usize) -> Weighed
 pub fn weigh_one(r: &[u8]) -> Recount
     ensures { λ x. ⌜ (x .good ≡ oneRecord (now (r .entry))) × (x .good ≡ true → x .tallies ≡ recountOf (now (r .entry))) ⌝ }
 {
-    let weighed = weigh_at(r, 0);
-    let tallies = weighed.tallies;
-    if weighed.size == 0 {
-        return Recount {
-            good: false,
-            tallies,
-        };
-    }
+    let weighed = weigh(r);
     Recount {
-        good: weighed.size == r.len(),
-        tallies,
+        good: weighed.good && weighed.records == 1,
+        tallies: weighed.tallies,
     }
 }
 
@@ -118,27 +76,10 @@ pub fn recount(j: &[u8]) -> Recount
     ensures { λ r. ⌜ r ≡ recountFor (now (j .entry)) ⌝ }
     ensures claims { λ _. ⌜ RecountClaims ⌝ }
 {
-    let mut tallies = no_tallies();
-    if records::SIZE_LIMIT < j.len() {
-        return Recount {
-            good: false,
-            tallies,
-        };
-    }
-    let mut at: usize = 0;
-    while at < j.len() {
-        let weighed = weigh_at(j, at);
-        if weighed.size == 0 {
-            return Recount {
-                good: false,
-                tallies: no_tallies(),
-            };
-        }
-        tallies = add(tallies, weighed.tallies);
-        at += weighed.size;
-    }
+    let weighed = weigh(j);
+    let tallies = weighed.tallies;
     Recount {
-        good: true,
+        good: weighed.good,
         tallies,
     }
 }

@@ -4,15 +4,18 @@ ghost use mathlib.Core.Bool.{true};
 ghost use Prim.Native.Nat.{_+_, _≤_};
 ghost use Rattle.tallies.specs.Keeping.{nothing, fits, hasRoom, leaves, attached, appendOf, joinOf};
 ghost use Rattle.tallies.specs.Tallies.{recountOf};
+ghost use Rattle.tallies.specs.Weighing.{Extends, extendedBy};
 ghost use Rattle.tallies.specs.Claims.{TallyClaims};
 ghost use Rattle.tallies.specs.Joining.{JoinClaims};
 use crate::counting::recount;
+use crate::counting::tallies_of;
 use crate::counting::weigh_one;
 use crate::tallies::Recount;
 use crate::tallies::Tallies;
 use crate::tallies::add;
 use crate::tallies::is_within;
 use crate::tallies::no_tallies;
+use stretch::Packed;
 
 // How many bytes of the buffer are in use, and the tallies of the journal that they are.
 pub struct Tallied {
@@ -53,6 +56,17 @@ pub fn is_fit(size: usize, journal: Tallied) -> bool
         return false;
     }
     is_within(journal.tallies, journal.used)
+}
+
+// The use and the tallies with so many bytes more, which were put behind those in use and counted.
+pub fn extended(journal: Tallied, more: usize, counts: Packed) -> Tallied
+    requires { ⌜ Extends journal more ⌝ }
+    ensures { λ r. ⌜ r ≡ extendedBy journal more counts ⌝ }
+{
+    Tallied {
+        used: journal.used + more,
+        tallies: add(journal.tallies, tallies_of(counts)),
+    }
 }
 
 // Whether so many bytes more find room, in a buffer of this size and in a journal.

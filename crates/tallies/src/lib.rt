@@ -9,6 +9,7 @@ pub use keeping::Outcome;
 pub use keeping::Tallied;
 pub use keeping::append;
 pub use keeping::cleared;
+pub use keeping::extended;
 pub use keeping::is_fit;
 pub use keeping::join;
 pub use tallies::Recount;
