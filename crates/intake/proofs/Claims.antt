@@ -83,7 +83,7 @@ good-fronts (r ∷ rs) e =
     let one = first-good goodRecord r rs e in
     rw (and-left (whole r) _ one, good-front r (and-right (whole r) _ one)) (good-fronts rs (later-good goodRecord r rs e))
 
-good-ones : GoodOnes
+pub good-ones : GoodOnes
 unfolding fed
 good-ones s b e = let all = as-records goodFront b (good-fronts (records b) e) in rw (all .all, all .none) (standing-start reader _)
 

@@ -4,3 +4,6 @@ pub mod Steps
 pub mod Standings
 pub mod Claims
 pub mod Taken
+pub mod Runs
+pub mod Covering
+pub mod Sweeps

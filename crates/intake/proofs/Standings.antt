@@ -12,22 +12,22 @@ use Rattle.records.specs.Cutting.{due, ripe, Standing, start, fed}
 use Rattle.records.specs.Filling.{Filled}
 use Rattle.records.proofs.Due.{nothing-raw}
 use Rattle.records.proofs.Feeding.{fed-stopped}
-use Rattle.records.proofs.Behind.{left-of, ripeAt, Ripe}
-use Rattle.records.proofs.Holding.{part-over, part-step, part-held, Gathered, gathered-of, gathered-held, gathered-done, raw-then, none-then, small-then}
+use Rattle.records.proofs.Behind.{left-of, ripeAt}
+use Rattle.records.proofs.Holding.{part-over, part-held, Gathered, gathered-of, gathered-held, gathered-done, raw-then, none-then, small-then}
 use Rattle.tallies.specs.declared.keeping.Outcome.{Outcome}
 use Rattle.tallies.specs.declared.keeping.Outcome.the-variants as outcome
 use Rattle.tallies.specs.Keeping.{isDone}
 use Rattle.intake.specs.declared.taking.Place.{Place}
 use Rattle.intake.specs.declared.bursts.Intake.{Intake}
 use Rattle.intake.specs.declared.bursts.Finished.{Finished}
-use Rattle.intake.specs.declared.bursts.Passed.{Passed}
+use Rattle.intake.specs.declared.sweeping.Passed.{Passed}
 use Rattle.intake.specs.declared.bursts.Ending.the-variants as ending
 use Rattle.intake.specs.Taking.{goodFront, Taking, takingOf, stopped, step, reader}
 use Rattle.intake.specs.Bursts.{standsAt, standingOf, Ready, Bursts, endFor}
-use Rattle.intake.specs.Terms.{Finishes, Passes}
+use Rattle.intake.specs.Terms.{Sound, Finishes, Advances, Passes}
 use Rattle.intake.specs.Claims.{EachEnd, EndTells, StartReady}
 use Rattle.intake.proofs.Fronts.{due-most}
-use Rattle.intake.proofs.Steps.{sticky, journalOf, Sound, fed-sound}
+use Rattle.intake.proofs.Steps.{sticky, journalOf, step-sound, fed-sound}
 
 -- ---- a start
 
@@ -73,10 +73,11 @@ end-tells buffer store i ready = ap (endFor (i .place .fault) (i .place .number)
 pub record Passing (buffer : List ℕ) (from : Passed) (bytes bufferNow : List ℕ) (p : Place) (i : ℕ) : Type 0 where
   pub place : i ≤ length bytes
   pub size : length bufferNow ≡ length buffer
+  pub sound : Sound (takingOf bufferNow p)
   pub same : fed reader (start (takingOf buffer (from .place))) (drop (from .at) bytes) ≡ fed reader (start (takingOf bufferNow p)) (drop i bytes)
 
-pub pass-starts : (buffer : List ℕ) (from : Passed) (bytes : List ℕ) → from .at ≤ length bytes → Passing buffer from bytes buffer (from .place) (from .at)
-pass-starts buffer from bytes l = record { place = l; size = refl; same = refl }
+pub pass-starts : (buffer : List ℕ) (from : Passed) (bytes : List ℕ) → from .at ≤ length bytes → Sound (takingOf buffer (from .place)) → Passing buffer from bytes buffer (from .place) (from .at)
+pass-starts buffer from bytes l k = record { place = l; size = refl; sound = k; same = refl }
 
 module _ {buffer : List ℕ} {from : Passed} {bytes bufferNow : List ℕ} {p : Place} {i : ℕ} (now : Passing buffer from bytes bufferNow p i) where
   pub pass-over : isDone (p .fault) ≡ false → Passes buffer from bytes bufferNow (record { place = p; at = length bytes })
@@ -91,13 +92,13 @@ module _ {buffer : List ℕ} {from : Passed} {bytes bufferNow : List ℕ} {p : P
     same = now .same ∙ part-held reader sticky bytes i n d z (takingOf bufferNow p) (ap not e);
   }
 
-  pub pass-on : {n : ℕ} → Ripe goodFront bytes i n → (bufferThen : List ℕ) (q : Place) → length bufferThen ≡ length bufferNow → takingOf bufferThen q ≡ step (takingOf bufferNow p) (take (i + n - i) (drop i bytes)) → Passing buffer from bytes bufferThen q (i + n)
-  pass-on r bufferThen q l e = record { place = r .fits; size = l ∙ now .size; same = now .same ∙ part-step reader sticky bytes i _ r (takingOf bufferNow p) (takingOf bufferThen q) e }
+  pub pass-on : {bufferThen : List ℕ} {r : Passed} → Advances bufferNow (record { place = p; at = i }) bytes bufferThen r → length bufferThen ≡ length bufferNow → Passing buffer from bytes bufferThen (r .place) (r .at)
+  pass-on a l = record { place = a .place; size = l ∙ now .size; sound = a .sound; same = now .same ∙ a .same }
 
 -- ---- the held record finished
 
 module _ {buffer store : List ℕ} {i : Intake} (ready : Ready buffer store i) where
-  ready-sound : Sound (takingOf buffer (i .place))
+  pub ready-sound : Sound (takingOf buffer (i .place))
   ready-sound = record { numbered = ready .numbered; fit = ready .fit; real = ready .real }
 
   still-going : (i .held ≡ 0 → ⊥) → isDone (i .place .fault) ≡ true
@@ -111,7 +112,7 @@ module _ {buffer store : List ℕ} {i : Intake} (ready : Ready buffer store i) w
 
   module _ (bytes : List ℕ) where
     pub finish-none : i .held ≡ 0 → Finishes buffer store i bytes buffer store (record { place = i .place; held = 0; at = 0 })
-    finish-none z = record { place = omega arith; inside = omega arith; size = refl; untouched = λ _. refl; still = λ l. absurd (omega arith); past = λ _. rw z }
+    finish-none z = record { place = omega arith; inside = omega arith; size = refl; untouched = λ _. refl; sound = ready-sound; still = λ l. absurd (omega arith); past = λ _. rw z }
 
     module _ {two : List ℕ} {k : ℕ} (g : Gathered goodFront store (i .held) bytes two k) (n : ℕ) (e : n ≡ ripeAt goodFront (take (i .held + k) two) (ripe goodFront (take (i .held + k) two))) where
       pub finish-inside : n ≡ 0 → Finishes buffer store i bytes buffer two (record { place = i .place; held = i .held + k; at = k })
@@ -120,6 +121,7 @@ module _ {buffer store : List ℕ} {i : Intake} (ready : Ready buffer store i) w
         inside = g .inside;
         size = g .size;
         untouched = λ o. absurd (g .some o);
+        sound = ready-sound;
         still = λ _. gathered-held reader sticky (ready .inside) g n e (takingOf buffer (i .place)) z (ap not (still-going (g .some)));
         past = λ o. absurd (g .some (omega arith));
       }
@@ -130,6 +132,7 @@ module _ {buffer store : List ℕ} {i : Intake} (ready : Ready buffer store i) w
         inside = omega arith;
         size = g .size;
         untouched = λ o. absurd (g .some o);
+        sound = rw q (step-sound _ _ ready-sound);
         still = λ l. absurd (omega arith);
         past = λ _. gathered-done reader sticky (ready .inside) g n e (takingOf buffer (i .place)) z (ready .raw) (takingOf bufferThen p) q;
       }

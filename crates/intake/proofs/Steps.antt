@@ -25,6 +25,7 @@ use Rattle.tallies.proofs.Recounts.{Few, EachFew, tallies-few, recount-few}
 use Rattle.tallies.proofs.Kept.{append-keeps}
 use Rattle.tallies.proofs.Claims.{tally-claims}
 use Rattle.intake.specs.Taking.{Taking, takingOf, stopped, capped, step, reader}
+use Rattle.intake.specs.Terms.{Sound}
 use Rattle.intake.specs.Claims.{EachStep}
 
 pub sticky : Sticky reader
@@ -123,12 +124,6 @@ run-grows s (r ∷ rs) = grows-on (journalOf s) (journalOf (step s r)) (journalO
 
 -- ---- an intake that fits its buffer
 
--- its use and tallies do, records count from 1, and no fault says that they do not
-pub record Sound (s : Taking) : Type 0 where
-  pub numbered : 1 ≤ s .number
-  pub fit : fits (length (s .buffer)) (s .journal) ≡ true
-  pub real : s .fault ≡ outcome.Unfit → ⊥
-
 -- counts within two limits have sums within the limits' sum
 module _ (m n : ℕ) where
   counts-sum : (a b : Counts) → Few m a → Few n b → countsWithin (m + n) (countSum a b) ≡ true
@@ -140,7 +135,7 @@ module _ (m n : ℕ) where
       rw (counts-sum _ _ (p .negative) (q .negative), counts-sum _ _ (p .first) (q .first), counts-sum _ _ (p .second) (q .second), counts-sum _ _ (p .third) (q .third))
 
 -- a record more fits where there is room: it counts at most as often as it has bytes
-fits-on : (size : ℕ) (t : Tallied) (r : List ℕ) → fits size t ≡ true → t .used + length r ≤ size
+pub fits-on : (size : ℕ) (t : Tallied) (r : List ℕ) → fits size t ≡ true → t .used + length r ≤ size
     → fits size (record { used = t .used + length r; tallies = tallySum (t .tallies) (recountOf r) }) ≡ true
 unfolding fits
 fits-on size t r e l = rw (le-leb (t .used + length r) size l)
@@ -151,14 +146,14 @@ append-fits b t r e = by-outcome b t r (oneRecord r) (λ (x : Left). fits (lengt
     (λ d. rw (length-sets b (t .used) r) (fits-on (length b) t r e (done-room b t r (oneRecord r) d .inside))) e
 
 -- every record and every burst leave it so
-step-sound : (s : Taking) (r : List ℕ) → Sound s → Sound (step s r)
+pub step-sound : (s : Taking) (r : List ℕ) → Sound s → Sound (step s r)
 step-sound s r k = decide (stopped s) (λ e. rw (sticky s r e) k) (λ e. rw (step-on s r e) (record {
   numbered = decide (isDone (appendOf (s .buffer) (s .journal) r .outcome)) (λ d. rw d (omega arith)) (λ d. rw d (k .numbered));
   fit = append-fits (s .buffer) (s .journal) r (k .fit);
   real = λ u. true≢false (sym (k .fit) ∙ attach-judged (s .buffer) (s .journal) r (oneRecord r) .unfit .0 u);
 }))
 
-run-sound : (s : Taking) (rs : List (List ℕ)) → Sound s → Sound (run step s rs)
+pub run-sound : (s : Taking) (rs : List (List ℕ)) → Sound s → Sound (run step s rs)
 unfolding run
 run-sound s [] k = k
 run-sound s (r ∷ rs) k = run-sound (step s r) rs (step-sound s r k)

@@ -3,11 +3,16 @@ ghost use mathlib.Core.Path.{_≡_};
 ghost use Prim.Native.Nat.{_≤_};
 ghost use lib.ListN.{length};
 ghost use Rattle.intake.specs.Bursts.{Ready, Bursts, startOf, endOf};
-ghost use Rattle.intake.specs.Terms.{Finishes, Passes};
+ghost use Rattle.intake.specs.Taking.{takingOf};
+ghost use Rattle.intake.specs.Terms.{Sound, Finishes, Advanceable, Advances, Passes};
 ghost use Rattle.tallies.specs.Claims.{TallyClaims};
 ghost use Rattle.intake.specs.Claims.{IntakeClaims};
 use crate::filling::gather;
 use crate::filling::ripe_at;
+use crate::sweeping::Passed;
+use crate::sweeping::no_stretch;
+use crate::sweeping::sweep;
+use crate::sweeping::take_stretch;
 use crate::taking::Place;
 use crate::taking::is_going;
 use crate::taking::take;
@@ -25,12 +30,6 @@ pub struct Intake {
 struct Finished {
     place: Place,
     held: usize,
-    at: usize,
-}
-
-// The intake after the whole records of a burst, and the place behind them.
-struct Passed {
-    place: Place,
     at: usize,
 }
 
@@ -80,9 +79,31 @@ fn finish(buffer: &mut [u8], store: &mut [u8], from: Intake, bytes: &[u8]) -> Fi
     }
 }
 
+// Past the record of so many bytes at a place, with more good ones behind it where it is good and finds room.
+fn advance(buffer: &mut [u8], from: Passed, bytes: &[u8], n: usize) -> Passed
+    requires { ⌜ Advanceable (now buffer) from (now bytes) n ⌝ }
+    ensures { λ r. ⌜ Advances (now (buffer .entry)) from (now (bytes .entry)) (now (buffer .exit)) r ⌝ }
+{
+    let at = from.at;
+    let run = take_stretch(buffer, &bytes[..0], from.place, &bytes[at..], no_stretch());
+    let place = run.place;
+    let more = run.at;
+    if 0 < more {
+        return Passed {
+            place,
+            at: at + more,
+        };
+    }
+    let next = take(buffer, place, &bytes[at..at + n]);
+    Passed {
+        place: next,
+        at: at + n,
+    }
+}
+
 // The whole records from a place on. An intake that has stopped passes everything.
 fn pass(buffer: &mut [u8], from: Passed, bytes: &[u8]) -> Passed
-    requires { ⌜ from .at ≤ length (now bytes) ⌝ }
+    requires { ⌜ (from .at ≤ length (now bytes)) × Sound (takingOf (now buffer) (from .place)) ⌝ }
     ensures { λ r. ⌜ Passes (now (buffer .entry)) from (now (bytes .entry)) (now (buffer .exit)) r ⌝ }
 {
     let mut place = from.place;
@@ -99,16 +120,16 @@ fn pass(buffer: &mut [u8], from: Passed, bytes: &[u8]) -> Passed
         if n == 0 {
             return Passed { place, at };
         }
-        place = take(buffer, place, &bytes[at..at + n]);
-        at += n;
+        let next = advance(buffer, Passed { place, at }, bytes, n);
+        place = next.place;
+        at = next.at;
     }
 }
 
-// One burst, which may break anywhere.
-pub fn burst(buffer: &mut [u8], store: &mut [u8], from: Intake, bytes: &[u8]) -> Intake
+// The held record finished, the whole records passed, and the rest held.
+fn settle(buffer: &mut [u8], store: &mut [u8], from: Intake, bytes: &[u8]) -> Intake
     requires { ⌜ Ready (now buffer) (now store) from ⌝ }
     ensures { λ r. ⌜ Bursts (now (buffer .entry)) (now (store .entry)) from (now (bytes .entry)) (now (buffer .exit)) (now (store .exit)) r ⌝ }
-    ensures claims { λ _. ⌜ TallyClaims × IntakeClaims ⌝ }
 {
     let finished = finish(buffer, store, from, bytes);
     let place = finished.place;
@@ -122,6 +143,18 @@ pub fn burst(buffer: &mut [u8], store: &mut [u8], from: Intake, bytes: &[u8]) ->
     let end = passed.at;
     let left = fill(store, 0, bytes, end, store.len());
     Intake { place, held: left }
+}
+
+// One burst, which may break anywhere. What can be taken at once is taken first.
+pub fn burst(buffer: &mut [u8], store: &mut [u8], from: Intake, bytes: &[u8]) -> Intake
+    requires { ⌜ Ready (now buffer) (now store) from ⌝ }
+    ensures { λ r. ⌜ Bursts (now (buffer .entry)) (now (store .entry)) from (now (bytes .entry)) (now (buffer .exit)) (now (store .exit)) r ⌝ }
+    ensures claims { λ _. ⌜ TallyClaims × IntakeClaims ⌝ }
+{
+    let swept = sweep(buffer, store, from, bytes);
+    let next = swept.intake;
+    let at = swept.at;
+    settle(buffer, store, next, &bytes[at..])
 }
 
 // What an end says: nothing, that the stream ends inside the record of this number, or the refusal of the record of this number.

@@ -2,6 +2,7 @@
 mod bursts;
 mod filling;
 mod states;
+mod sweeping;
 mod taking;
 
 pub use bursts::Ending;

@@ -26,14 +26,14 @@ pub fn is_going(fault: Outcome) -> bool
     }
 }
 
-// The number behind another; it stays at 2^64 - 1.
-fn next_number(number: u64) -> u64
-    ensures { λ r. ⌜ r ≡ capped (number + 1) ⌝ }
+// The number so many records behind another; it stays at 2^64 - 1.
+pub fn number_after(number: u64, more: u64) -> u64
+    ensures { λ r. ⌜ r ≡ capped (number + more) ⌝ }
 {
-    if number < 18446744073709551615 {
-        return number + 1;
+    if 18446744073709551615 - number < more {
+        return 18446744073709551615;
     }
-    18446744073709551615
+    number + more
 }
 
 // A record, or the four bytes that are none.
@@ -51,7 +51,7 @@ pub fn take(buffer: &mut [u8], from: Place, bytes: &[u8]) -> Place
     if is_going(outcome) {
         return Place {
             journal,
-            number: next_number(number),
+            number: number_after(number, 1),
             fault: outcome,
         };
     }

@@ -1,14 +1,25 @@
 -- `bursts::burst` meets its contract.
 use borrow.Author.Needs.{needs}
-use native.Mathlib.Omega.{arith}
-use Rattle.intake.proofs.Standings.{burst-still, burst-past}
 use Rattle.tallies.proofs.Claims.{tally-claims}
 use Rattle.intake.proofs.Claims.{intake-claims}
+use Rattle.intake.proofs.Sweeps.{burst-all}
 use Rattle.intake.proofs.bursts.burst.Statement.{statement}
 use Rattle.intake.proofs.bursts.burst.Tie as tie
 
-finish-requires : tie.Need-finish-requires
-finish-requires c κs = search needs
+sweep-requires : tie.Need-sweep-requires
+sweep-requires c κs = search needs
+
+sub-settle : tie.Need-sub-settle
+sub-settle c = search needs
+
+part-settle-start : tie.Need-part-settle-start
+part-settle-start c = search needs
+
+part-settle-end : tie.Need-part-settle-end
+part-settle-end c = search needs
+
+settle-requires : tie.Need-settle-requires
+settle-requires c κs = search needs
 
 same-length : tie.Need-same-length
 same-length c = search needs
@@ -17,36 +28,17 @@ same-length-2 : tie.Need-same-length-2
 same-length-2 c = search needs
 
 returns : tie.Need-returns
-returns c = let finished = c .before .before .before .before .before .before .finish in (burst-still (c .before .before .before .before .before .before .before .before .before .before .before .before .pre) _ {f = finished .result} (finished .ensures) (c .if1 .taken), (tally-claims, intake-claims))
-
-pass-requires : tie.Need-pass-requires
-pass-requires c κs = search needs
-
-fill-requires : tie.Need-fill-requires
-fill-requires c κs = search needs
-
-same-length-3 : tie.Need-same-length-3
-same-length-3 c = search needs
-
-same-length-4 : tie.Need-same-length-4
-same-length-4 c = search needs
-
-returns-2 : tie.Need-returns-2
-returns-2 c =
-    let finished = c .before .before .before .before .before .before .before .before .before .before .before .before .before .before .before .finish in
-    let filled = c .before .before .fill in
-    (burst-past (c .before .before .before .before .before .before .before .before .before .before .before .before .before .before .before .before .before .before .before .before .before .pre) _ {f = finished .result} (finished .ensures) (omega arith) (c .before .before .before .before .before .before .before .pass .ensures) _ _ (filled .kept .0) (filled .ensures), (tally-claims, intake-claims))
+returns c = (burst-all (c .before .before .before .before .before .before .before .before .before .before .before .before .before .sweep .ensures) (c .before .before .before .before .settle .ensures), (tally-claims, intake-claims))
 
 pub burst-spec : {M : Type 1} → statement M
 burst-spec =
     tie.close
     (tie.spec
-    finish-requires
+    sweep-requires
+    sub-settle
+    part-settle-start
+    part-settle-end
+    settle-requires
     same-length
     same-length-2
-    returns
-    pass-requires
-    fill-requires
-    same-length-3
-    same-length-4
-    returns-2)
+    returns)

@@ -19,8 +19,8 @@ append-requires c κs = search needs
 is-going-requires-2 : tie.Need-is-going-requires-2
 is-going-requires-2 c κs = search needs
 
-next-number-requires : tie.Need-next-number-requires
-next-number-requires c κs = search needs
+number-after-requires : tie.Need-number-after-requires
+number-after-requires c κs = search needs
 
 same-length : tie.Need-same-length
 same-length c = search needs
@@ -29,7 +29,7 @@ returns-2 : tie.Need-returns-2
 returns-2 c =
     let appended = c .before .before .before .before .before .before .append in
     let going = sym (c .before .before .before .before .before .before .before .before .before .is-going .ensures) ∙ not-false _ (c .before .before .before .before .before .before .before .before .if1 .left) in
-    step-done _ _ going _ (appended .result) (appended .ensures .0) (sym (c .before .before .is-going2 .ensures) ∙ c .before .if2 .taken) _ (c .next-number .ensures)
+    step-done _ _ going _ (appended .result) (appended .ensures .0) (sym (c .before .before .is-going2 .ensures) ∙ c .before .if2 .taken) _ (c .number-after .ensures)
 
 same-length-2 : tie.Need-same-length-2
 same-length-2 c = search needs
@@ -48,7 +48,7 @@ take-spec =
     returns
     append-requires
     is-going-requires-2
-    next-number-requires
+    number-after-requires
     same-length
     returns-2
     same-length-2
