@@ -5,7 +5,7 @@ use Rattle.draugsten_tallies.specs.Flat.{Crosses, EachCrosses, EachLeftC
 crosses : Crosses
 crosses f = refl
 
-each-crosses : EachCrosses
+pub each-crosses : EachCrosses
 each-crosses t = record {
   used = refl;
   negative = record { deletes = refl; updates = refl; additions = refl };

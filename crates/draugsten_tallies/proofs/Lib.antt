@@ -1,1 +1,4 @@
 pub mod Crossed
+pub mod IntakeCrossed
+pub mod CutReadings
+pub mod Answers

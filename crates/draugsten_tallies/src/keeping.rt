@@ -27,7 +27,7 @@ pub struct FlatRecount {
     pub tallies: FlatTallies,
 }
 
-fn outcome_number(outcome: Outcome) -> u32
+pub fn outcome_number(outcome: Outcome) -> u32
     ensures { λ r. ⌜ r ≡ outcomeNumber outcome ⌝ }
 {
     match outcome {

@@ -1,4 +1,5 @@
-// The static library of a journal with its tallies, and of forecasts from them: the exports, nothing else.
+// The static library of a journal with its tallies, of forecasts from them, and of journals that arrive in bursts: the exports, nothing else.
 mod flat;
 mod forecasting;
+mod intakes;
 mod keeping;
