@@ -20,6 +20,7 @@ pub enum Refusal {
     Code,
 }
 
+// What is found of a set.
 pub enum Fault {
     Fine,
     Bad(Refusal),
@@ -93,7 +94,7 @@ fn is_field(s: &[u8], from: usize, to: usize) -> bool
 }
 
 // The first fault of a set whose index and length `n` are inside the area.
-fn fault_of(area: &[u8], at: usize, n: u32) -> Fault
+pub fn fault_of(area: &[u8], at: usize, n: u32) -> Fault
     requires { ⌜ (8 ≤ length (now area) - at) × (n ≡ lengthAt (now area) at) ⌝ }
     ensures { λ r. ⌜ r ≡ faultAt (now (area .entry)) at ⌝ }
 {

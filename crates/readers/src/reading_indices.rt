@@ -18,7 +18,8 @@ pub struct IndexReading {
     pub entries: usize,
 }
 
-fn index_refusal(refusal: indices::Refusal) -> u32
+// The number of a refusal of an index area.
+pub fn index_refusal(refusal: indices::Refusal) -> u32
     ensures { λ r. ⌜ r ≡ indices_reading.refusalNumber refusal ⌝ }
 {
     match refusal {

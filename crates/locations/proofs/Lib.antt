@@ -1,0 +1,7 @@
+pub mod NulLaws
+pub mod Listings
+pub mod LookupReadings
+pub mod LookupClaims
+pub mod Stepping
+pub mod ViewReadings
+pub mod ViewClaims

@@ -1,0 +1,126 @@
+-- What is claimed of a lookup, cited by the contracts of `locate`, `check` and `lookup`, and of a view, cited by those of `view_of` and its steps (document 02, M-112).
+use Prim.Native.Nat.{ℕ, _+_, _≤_, _<_}
+use mathlib.Core.Path.{_≡_}
+use mathlib.Core.List.{List, [], _∷_, _++_}
+use lib.ListN.{length, getD}
+use Rattle.words.specs.Nul.{untilNul}
+use Rattle.words.specs.Reading.{read, refused}
+use Rattle.inventory.specs.Listing.{Entry}
+use Rattle.indices.specs.declared.reading.Refusal.{Refusal}
+use Rattle.indices.specs.declared.reading.Refusal.the-variants.{Past}
+use Rattle.indices.specs.declared.reading.Cursor.{Cursor}
+use Rattle.indices.specs.Reading.{reading}
+use Rattle.locations.specs.declared.listed.Part.{Part}
+use Rattle.locations.specs.declared.lookups.Location.the-variants as location
+use Rattle.locations.specs.declared.lookups.Answer.{Answer}
+use Rattle.locations.specs.declared.lookups.Answer.the-variants as answer
+use Rattle.locations.specs.declared.views.Given.the-variants as given
+use Rattle.locations.specs.Locations.{fixedLocation, locationOf, answerOf, codeOf}
+use Rattle.locations.specs.Views.{stays, advanceOf, stepNumber, listing, readingBy, shown, entry, last}
+use Rattle.locations.specs.Readings.{LookupReadings, ViewReadings}
+
+-- a statement holds exactly when another does
+abbrev pub Exactly : Type 0 → Type 0 → Type 0
+Exactly P Q = (P → Q) × (Q → P)
+
+-- what the two public functions give
+abbrev pub lookupOf : List ℕ → List ℕ → ℕ → List ℕ
+lookupOf area fixed index = codeOf area fixed (locationOf area fixed index)
+
+abbrev pub checkOf : List ℕ → List ℕ → ℕ → Answer
+checkOf area fixed index = answerOf (locationOf area fixed index)
+
+-- ---- the lookup
+
+-- "the lookup hands back an empty part exactly when that check refuses"
+abbrev pub EmptyExactly : Type 0
+EmptyExactly = (area fixed : List ℕ) (index : ℕ) → Exactly (lookupOf area fixed index ≡ []) (checkOf area fixed index ≡ answer.Found → ⊥)
+
+-- "Refusals: 30 to 33 for the area", whatever the fixed list and the index
+abbrev pub RefusedFirst : Type 0
+RefusedFirst = (area fixed : List ℕ) (index : ℕ) (r : Refusal) (at : ℕ) → Exactly (checkOf area fixed index ≡ answer.Refused r at) (reading area ≡ refused r at)
+
+-- "0xFFFFFFFF is always not found"
+abbrev pub Reserved : Type 0
+Reserved = (area fixed : List ℕ) (es : List Entry) → reading area ≡ read es → checkOf area fixed 4294967295 ≡ answer.NotFound
+
+-- none of these entries lists an index
+abbrev pub Unlisted : ℕ → List Entry → Type 0
+Unlisted index [] = Unit {0}
+Unlisted index (e ∷ es) = (e .index ≡ index → ⊥) × Unlisted index es
+
+-- "an index that the area lists wins, first match": its code is the entry's, and the fixed list does not matter
+pub record Wins (area fixed : List ℕ) (index : ℕ) (e : Entry) : Type 0 where
+  pub found : checkOf area fixed index ≡ answer.Found
+  pub code : lookupOf area fixed index ≡ e .code
+  pub whatever : (other : List ℕ) → locationOf area other index ≡ locationOf area fixed index
+  pub in-area : (p : Part) → locationOf area fixed index ≡ location.InFixed p → ⊥
+
+abbrev pub ListedWins : Type 0
+ListedWins =
+    (area fixed : List ℕ) (index : ℕ) (before after : List Entry) (e : Entry) → reading area ≡ read (before ++ (e ∷ after))
+    → (index ≡ 4294967295 → ⊥) → Unlisted index before → e .index ≡ index → Wins area fixed index e
+
+-- "otherwise the fixed list"
+abbrev pub OtherwiseFixed : Type 0
+OtherwiseFixed =
+    (area fixed : List ℕ) (index : ℕ) (es : List Entry) → reading area ≡ read es → (index ≡ 4294967295 → ⊥) → Unlisted index es
+    → locationOf area fixed index ≡ fixedLocation fixed index
+
+-- ---- the fixed list
+
+-- codes without a NUL inside, each with its NUL behind it
+abbrev pub Plain : List ℕ → Type 0
+Plain code = untilNul code ≡ code
+
+abbrev pub AllPlain : List (List ℕ) → Type 0
+AllPlain [] = Unit {0}
+AllPlain (c ∷ cs) = Plain c × AllPlain cs
+
+unfoldable pub ended : List (List ℕ) → List ℕ
+ended [] = []
+ended (c ∷ cs) = c ++ (0 ∷ ended cs)
+
+-- "NUL-terminated codes, entry number, from 0, equal to index"; "An empty code, or one without its NUL in the fixed list, counts as not found."
+pub record FixedExactly (codes : List (List ℕ)) (rest area : List ℕ) (index : ℕ) : Type 0 where
+  pub code : index < length codes → codeOf area (ended codes ++ rest) (fixedLocation (ended codes ++ rest) index) ≡ getD codes index []
+  pub found : index < length codes → (getD codes index [] ≡ [] → ⊥) → answerOf (fixedLocation (ended codes ++ rest) index) ≡ answer.Found
+  pub empty : index < length codes → getD codes index [] ≡ [] → fixedLocation (ended codes ++ rest) index ≡ location.NotFound
+  pub past : Plain rest → length codes ≤ index → fixedLocation (ended codes ++ rest) index ≡ location.NotFound
+
+abbrev pub EachFixed : Type 0
+EachFixed = (codes : List (List ℕ)) (rest area : List ℕ) (index : ℕ) → AllPlain codes → FixedExactly codes rest area index
+
+pub record LocationClaims : Type 0 where
+  pub empty-exactly : EmptyExactly
+  pub refused-first : RefusedFirst
+  pub reserved : Reserved
+  pub listed-wins : ListedWins
+  pub otherwise-fixed : OtherwiseFixed
+  pub each-fixed : EachFixed
+  pub readings : LookupReadings
+
+-- ---- the view
+
+-- The reader gives the entries of the listing by steps, or its refusal without them.
+abbrev pub AsTheReader : Type 0
+AsTheReader = (area : List ℕ) → reading area ≡ readingBy (listing area .last) (listing area .entries)
+
+-- "its steps from the start give the area's entries in order", step number n from 0 entry number n
+abbrev pub EachEntry : Type 0
+EachEntry = (area : List ℕ) (before after : List Entry) (e : Entry) → listing area .entries ≡ before ++ (e ∷ after) → shown area (stepNumber (length before) area) ≡ entry e
+
+-- "then the end or the reading's refusal, and that again"
+abbrev pub ThenTheLast : Type 0
+ThenTheLast = (area : List ℕ) (n : ℕ) → length (listing area .entries) ≤ n → shown area (stepNumber n area) ≡ last (listing area .last)
+
+-- Any cursor is answered: with under 8 bytes behind it, 31 at its offset.
+abbrev pub AnyCursor : Type 0
+AnyCursor = (area : List ℕ) (c : Cursor) → 4 ≤ length area → (c .left ≡ 0 → ⊥) → length area < c .at + 8 → advanceOf area c ≡ stays (given.Refused Past (c .at)) c
+
+pub record ViewClaims : Type 0 where
+  pub as-the-reader : AsTheReader
+  pub each-entry : EachEntry
+  pub then-the-last : ThenTheLast
+  pub any-cursor : AnyCursor
+  pub readings : ViewReadings

@@ -1,0 +1,5 @@
+pub mod Locations
+pub mod Terms
+pub mod Views
+pub mod Readings
+pub mod Claims

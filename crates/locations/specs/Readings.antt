@@ -1,0 +1,146 @@
+-- Lookups and views on both sides of each line, in bytes, cited by the contracts.
+use Prim.Native.Nat.{ℕ, zero, suc}
+use mathlib.Core.Bool.{Bool, false, _&&_}
+use mathlib.Core.List.{List, [], _∷_, _++_}
+use lib.Dec.{T, eqb}
+use lib.ListN.{length, replicate}
+use Rattle.words.specs.Numbers.{beBytes}
+use Rattle.words.specs.Cases.{all}
+use Rattle.inventory.specs.Listing.{Entry}
+use Rattle.indices.specs.Reading.{refusalNumber}
+use Rattle.locations.specs.declared.lookups.Location.{Location}
+use Rattle.locations.specs.declared.lookups.Location.the-variants as location
+use Rattle.locations.specs.declared.lookups.Answer.{Answer}
+use Rattle.locations.specs.declared.lookups.Answer.the-variants as answer
+use Rattle.locations.specs.Locations.{locationOf, answerOf, codeOf}
+use Rattle.locations.specs.Views.{Last, end, refusal, Shown, entry, last, shown, stepNumber}
+
+-- the same bytes
+unfoldable pub same : List ℕ → List ℕ → Bool
+same [] [] = eqb 0 0
+same [] (y ∷ ys) = false
+same (x ∷ xs) [] = false
+same (x ∷ xs) (y ∷ ys) = eqb x y && same xs ys
+
+-- a set of an index and a code of three letters or of four
+abbrev pub set3 : ℕ → ℕ → List ℕ
+set3 index letter = beBytes 4 index ++ (beBytes 4 4 ++ (letter ∷ letter ∷ letter ∷ 0 ∷ []))
+
+abbrev pub set4 : ℕ → ℕ → List ℕ
+set4 index letter = beBytes 4 index ++ (beBytes 4 8 ++ (letter ∷ letter ∷ letter ∷ letter ∷ 0 ∷ 0 ∷ 0 ∷ 0 ∷ []))
+
+abbrev pub areaOf : ℕ → List ℕ → List ℕ
+areaOf count sets = beBytes 4 count ++ sets
+
+-- fixed lists: codes A, none, BC, and D without its NUL
+abbrev pub list : List ℕ
+list = 65 ∷ 0 ∷ 0 ∷ 66 ∷ 67 ∷ 0 ∷ 68 ∷ []
+
+-- a check as a number: 0 found, 1 not found, or that of a refusal; and its byte offset
+abbrev pub number : Answer → ℕ
+number answer.Found = 0
+number answer.NotFound = 1
+number (answer.Refused r at) = refusalNumber r
+
+abbrev pub offset : Answer → ℕ
+offset answer.Found = 0
+offset answer.NotFound = 0
+offset (answer.Refused r at) = at
+
+-- which buffer: 1 the area, 2 the fixed list, 0 neither; and where in it
+abbrev pub buffer : Location → ℕ
+buffer (location.Refused r at) = 0
+buffer location.NotFound = 0
+buffer (location.InArea p) = 1
+buffer (location.InFixed p) = 2
+
+abbrev pub place : Location → ℕ
+place (location.Refused r at) = 0
+place location.NotFound = 0
+place (location.InArea p) = p .start
+place (location.InFixed p) = p .start
+
+abbrev pub finds : List ℕ → List ℕ → ℕ → ℕ → ℕ → List ℕ → Bool
+finds area fixed index which start code =
+    let l = locationOf area fixed index in
+    (eqb (buffer l) which && eqb (place l) start) && (same (codeOf area fixed l) code && eqb (number (answerOf l)) 0)
+
+abbrev pub refuses : List ℕ → List ℕ → ℕ → ℕ → ℕ → Bool
+refuses area fixed index n at =
+    let l = locationOf area fixed index in
+    (eqb (number (answerOf l)) n && eqb (offset (answerOf l)) at) && (same (codeOf area fixed l) [] && eqb (buffer l) 0)
+
+abbrev pub lookups : List Bool
+lookups =
+    -- an index listed twice, the first and the last of an area
+    finds (areaOf 2 (set3 7 88 ++ set4 7 89)) [] 7 1 12 (88 ∷ 88 ∷ 88 ∷ [])
+    ∷ finds (areaOf 2 (set3 7 88 ++ set4 9 89)) [] 9 1 24 (89 ∷ 89 ∷ 89 ∷ 89 ∷ [])
+    -- listed and in the fixed list
+    ∷ finds (areaOf 1 (set3 0 88)) list 0 1 12 (88 ∷ 88 ∷ 88 ∷ [])
+    -- listed before a fault, in the fixed list, and 0xFFFFFFFF over a refused area
+    ∷ refuses (areaOf 2 (set3 7 88)) list 7 31 16
+    ∷ refuses (areaOf 2 (set3 7 88)) list 0 31 16
+    ∷ refuses (areaOf 2 (set3 7 88)) list 4294967295 31 16
+    ∷ refuses (0 ∷ 0 ∷ 0 ∷ []) list 0 30 0
+    ∷ refuses (areaOf 1 (beBytes 4 7 ++ beBytes 4 0)) list 0 32 4
+    ∷ refuses (areaOf 1 (beBytes 4 7 ++ (beBytes 4 4 ++ replicate 4 0))) list 0 33 4
+    -- 0xFFFFFFFF listed, and the number below it
+    ∷ refuses (areaOf 1 (set3 4294967295 88)) list 4294967295 1 0
+    ∷ finds (areaOf 1 (set3 4294967294 88)) list 4294967294 1 12 (88 ∷ 88 ∷ 88 ∷ [])
+    -- fixed entries: the first, an empty one, the last, one without its NUL, and behind the end
+    ∷ finds (areaOf 0 []) list 0 2 0 (65 ∷ [])
+    ∷ refuses (areaOf 0 []) list 1 1 0
+    ∷ finds (areaOf 0 []) list 2 2 3 (66 ∷ 67 ∷ [])
+    ∷ refuses (areaOf 0 []) list 3 1 0
+    ∷ refuses (areaOf 0 []) list 4 1 0
+    ∷ refuses (areaOf 0 []) [] 0 1 0
+    ∷ refuses (areaOf 0 []) (0 ∷ []) 0 1 0
+    -- bytes behind the last set are not looked at
+    ∷ refuses (areaOf 1 (set3 7 88 ++ set3 9 89)) [] 9 1 0
+    -- the longest code of an area, and a longer one of the fixed list
+    ∷ finds (areaOf 1 (beBytes 4 7 ++ (beBytes 4 1024 ++ (replicate 1023 88 ++ (0 ∷ []))))) [] 7 1 12 (replicate 1023 88)
+    ∷ finds (areaOf 0 []) (replicate 1100 88 ++ (0 ∷ [])) 0 2 0 (replicate 1100 88)
+    ∷ []
+
+abbrev pub LookupReadings : Type 0
+LookupReadings = T (all (λ (b : Bool). b) lookups)
+
+-- ---- views
+
+-- what a step gives: an entry, the end, or a refusal with its byte offset
+abbrev pub isEntry : Shown → ℕ → List ℕ → Bool
+isEntry (entry e) index code = eqb (e .index) index && same (e .code) code
+isEntry (last l) index code = false
+
+abbrev pub isEnd : Shown → Bool
+isEnd (entry e) = false
+isEnd (last end) = eqb 0 0
+isEnd (last (refusal r at)) = false
+
+abbrev pub isRefusal : Shown → ℕ → ℕ → Bool
+isRefusal (entry e) n at = false
+isRefusal (last end) n at = false
+isRefusal (last (refusal r k)) n at = eqb (refusalNumber r) n && eqb k at
+
+abbrev pub stepOf : ℕ → List ℕ → Shown
+stepOf n area = shown area (stepNumber n area)
+
+abbrev pub views : List Bool
+views =
+    let two = areaOf 2 (set3 7 88 ++ set4 9 89) in
+    let faulty = areaOf 2 (set3 7 88 ++ (0 ∷ 0 ∷ [])) in
+    isEntry (stepOf 0 two) 7 (88 ∷ 88 ∷ 88 ∷ [])
+    ∷ isEntry (stepOf 1 two) 9 (89 ∷ 89 ∷ 89 ∷ 89 ∷ [])
+    ∷ isEnd (stepOf 2 two)
+    ∷ isEnd (stepOf 3 two)
+    -- the entries before a fault, then the refusal, again and again
+    ∷ isEntry (stepOf 0 faulty) 7 (88 ∷ 88 ∷ 88 ∷ [])
+    ∷ isRefusal (stepOf 1 faulty) 31 16
+    ∷ isRefusal (stepOf 2 faulty) 31 16
+    ∷ isRefusal (stepOf 0 (0 ∷ 0 ∷ 0 ∷ [])) 30 0
+    ∷ isRefusal (stepOf 1 []) 30 0
+    ∷ isEnd (stepOf 0 (areaOf 0 []))
+    ∷ []
+
+abbrev pub ViewReadings : Type 0
+ViewReadings = T (all (λ (b : Bool). b) views)
