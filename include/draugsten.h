@@ -1,10 +1,10 @@
 /*
  * Draugsten: the RTAS calls ibm,update-nodes, ibm,get-indices, ibm,configure-kernel-dump and ibm,update-properties on the
  * platform's side, the run of a registered kernel dump, the replay of a recorded session of calls, totals over such
- * sessions, a journal that is kept with its tallies, forecasts from these, and readers of the work areas that all but the
- * dump fill. Link libdraugsten.a, libdraugsten_dump.a for draugsten_run_dump, libdraugsten_replay.a for the functions of the
- * replay and of the month, and libdraugsten_tallies.a for those of the tallies and draugsten_forecast; all are for x86-64,
- * and none needs another.
+ * sessions, a journal that is kept with its tallies, forecasts from these, such a journal that arrives in bursts, and
+ * readers of the work areas that all but the dump fill. Link libdraugsten.a, libdraugsten_dump.a for draugsten_run_dump,
+ * libdraugsten_replay.a for the functions of the replay and of the month, and libdraugsten_tallies.a for those of the
+ * tallies and of intakes and draugsten_forecast; all are for x86-64, and none needs another.
  *
  * For every function:
  * - It takes any contents and any lengths, and returns.
@@ -54,6 +54,7 @@ extern "C" {
 #define DRAUGSTEN_TRACE_BODY_LIMIT 4100         /* bytes of the body of a trace's record */
 #define DRAUGSTEN_TRACE_RECORD_LIMIT (4 + DRAUGSTEN_TRACE_BODY_LIMIT) /* of the whole record: 4,104 */
 #define DRAUGSTEN_TRACE_RECORDS_LIMIT 4294967295u /* records of a trace */
+#define DRAUGSTEN_STORE_SIZE 32808              /* bytes of the longest record of a journal, which an intake has to hold */
 
 /*
  * Bytes of stack that a function takes, with its return address and what it writes below the stack pointer, but without
@@ -78,6 +79,9 @@ extern "C" {
 #define DRAUGSTEN_STACK_TALLIES_JOIN 768
 #define DRAUGSTEN_STACK_TALLIES_RECOUNT 512
 #define DRAUGSTEN_STACK_FORECAST 128
+#define DRAUGSTEN_STACK_INTAKE_START 128
+#define DRAUGSTEN_STACK_INTAKE_BURST 1536
+#define DRAUGSTEN_STACK_INTAKE_END 256
 #define DRAUGSTEN_STACK_READ_NODES 256
 #define DRAUGSTEN_STACK_READ_INDICES 256
 #define DRAUGSTEN_STACK_READ_PROPERTIES 256
@@ -592,6 +596,88 @@ struct draugsten_recount draugsten_tallies_recount(const uint8_t *journal, size_
  * operations.
  */
 struct draugsten_forecast_answer draugsten_forecast(struct draugsten_tallies tallies, uint32_t scope, uint32_t state);
+
+/* ---- intakes */
+
+/*
+ * A journal that arrives in bursts, which may break anywhere. Each record goes to a tallied journal, as
+ * draugsten_tallies_append puts it there, when its last byte is in; the bytes of one that is not finished are held in a
+ * second buffer, the store. However a stream is cut, bursts of nothing included, the records stored, the tallies and the
+ * first fault with its record's number are those of the same bytes given in one burst.
+ *
+ * The records of a stream are numbered from 1 on, also where the journal held some before; the number stays at 2^64 - 1. A
+ * record's length and kind are judged when its first four bytes are in: of kinds 1 and 2 the length is 8, of kind 3 it is
+ * 12, of kind 4 it is 16, of kind 5 it is 8 to 32,806, of kind 6 it is 8 to 38. The rest is judged when it is complete, and
+ * whether there is room only where it is good. So four bytes can be malformed, and three are unfinished whatever they say.
+ *
+ * A fault, 50 or 51, stops an intake. The good records before it are stored, also those of the same burst; every later
+ * burst, one of nothing too, and every end get the same number and record, and change nothing.
+ *
+ * The checks come in this order: 55; 54; then what the stream brings. With 54 and 55 nothing changes: no byte of the two
+ * buffers, and the intake is handed back as it came. What a start over a journal of the tallies gives, and a burst after it,
+ * is never refused with 54, where nobody else writes the held bytes.
+ */
+enum draugsten_intake_number {
+    DRAUGSTEN_INTAKE_TAKEN = 0,
+    DRAUGSTEN_INTAKE_MALFORMED = 50,            /* a record's first four bytes are refused, or it is complete and not good */
+    DRAUGSTEN_INTAKE_NO_ROOM = 51,              /* a good record would pass the buffer's end, or 1,048,576 bytes */
+    DRAUGSTEN_INTAKE_UNFINISHED = 53,           /* an end inside a record; no burst gives it */
+    DRAUGSTEN_INTAKE_NO_STATE = 54,             /* an intake, or a front of the store, that no start and no burst leaves */
+    DRAUGSTEN_INTAKE_SMALL_STORE = 55           /* a store under 32,808 bytes */
+};
+
+/*
+ * Where an intake stands between bursts. Keep it as it is handed back. Between bursts the journal may be appended to, joined
+ * to and cleared: then what these give is put in the place of `journal`, and the other fields stay.
+ *
+ * 54 refuse: number 0; a fault other than 0, 50 and 51; a fault with bytes held; a use or a count that
+ * draugsten_tallies_append refuses with 52; and held bytes that are not those of an unfinished record: more than the store
+ * has, a whole record or more, or a record whose first four bytes are refused.
+ */
+struct draugsten_intake {
+    struct draugsten_tallied journal;           /* of the journal that the records are stored in */
+    uint64_t number;                            /* of the record that the stream is inside, comes to, or was stopped by */
+    size_t held;                                /* bytes of an unfinished record, at the front of the store */
+    uint32_t fault;                             /* 0, DRAUGSTEN_INTAKE_MALFORMED or DRAUGSTEN_INTAKE_NO_ROOM */
+};
+
+/* What a burst gives. */
+struct draugsten_burst {
+    uint32_t number;                            /* enum draugsten_intake_number, but for 53 */
+    uint64_t in_record;                         /* the record's number with 50 and 51; otherwise 0 */
+    struct draugsten_intake intake;             /* the one to give the next burst */
+};
+
+/* What an end gives. */
+struct draugsten_intake_ended {
+    uint32_t number;                            /* enum draugsten_intake_number */
+    uint64_t in_record;                         /* the record's number with 50, 51 and 53; otherwise 0 */
+};
+
+/* The intake that a stream starts with, over a journal as it is: number 1, nothing held, no fault. */
+struct draugsten_intake draugsten_intake_start(struct draugsten_tallied journal);
+
+/*
+ * Takes the next bytes of a stream. There may be none of them.
+ *
+ * buffer  Where the journal stands, as draugsten_tallies_append takes it. Written: the bytes of the records that are stored,
+ *         right behind those in use. Never: any other byte.
+ * store   32,808 bytes or more, for a record that is not finished. Written: its bytes, from the front on, as many as
+ *         `held` of the intake says. Those behind them are scratch: a burst may leave anything there, and the next one
+ *         looks at none of them. Never: any byte with 54 or 55, and any byte once the intake has stopped. Before the first
+ *         burst the store may hold anything; between bursts nobody else writes the held bytes.
+ * intake  As draugsten_intake_start gave it, or the last burst of this stream.
+ * bytes   The next bytes of the stream. Only read.
+ */
+struct draugsten_burst draugsten_intake_burst(uint8_t *buffer, size_t buffer_length, uint8_t *store, size_t store_length,
+                                              struct draugsten_intake intake, const uint8_t *bytes, size_t length);
+
+/*
+ * What there is to say where the stream ends here: nothing; 53, inside a record; or the fault that stopped the intake. It
+ * changes nothing, and a later burst goes on where the record stopped. Both buffers are only read.
+ */
+struct draugsten_intake_ended draugsten_intake_end(const uint8_t *buffer, size_t buffer_length, const uint8_t *store,
+                                                   size_t store_length, struct draugsten_intake intake);
 
 /* ---- readers */
 

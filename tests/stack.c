@@ -33,6 +33,7 @@ enum {
 static uint8_t stack[STACK] __attribute__((aligned(16)));
 static uint8_t memory[0x4000], args[40], dumped[0x4000];
 static uint8_t held[DRAUGSTEN_TRACE_RECORD_LIMIT], trace_args[DRAUGSTEN_TRACE_BODY_LIMIT], trace[TRACE_SIZE];
+static uint8_t store[DRAUGSTEN_STORE_SIZE], stored[2 * DRAUGSTEN_STORE_SIZE];
 static size_t trace_length, whole_length;                  /* the whole records alone */
 static uint32_t words[64];
 static uint64_t numbers[64];
@@ -88,6 +89,9 @@ static __typeof__(draugsten_tallies_append) *append;
 static __typeof__(draugsten_tallies_join) *join;
 static __typeof__(draugsten_tallies_recount) *recount;
 static __typeof__(draugsten_forecast) *forecast;
+static __typeof__(draugsten_intake_start) *intake_start;
+static __typeof__(draugsten_intake_burst) *intake_burst;
+static __typeof__(draugsten_intake_end) *intake_end;
 static __typeof__(draugsten_read_nodes) *read_nodes;
 static __typeof__(draugsten_read_indices) *read_indices;
 static __typeof__(draugsten_read_properties) *read_properties;
@@ -113,6 +117,9 @@ static void choose(int library)
     join = library ? draugsten_tallies_join : (__typeof__(join))nothing;
     recount = library ? draugsten_tallies_recount : (__typeof__(recount))nothing;
     forecast = library ? draugsten_forecast : (__typeof__(forecast))nothing;
+    intake_start = library ? draugsten_intake_start : (__typeof__(intake_start))nothing;
+    intake_burst = library ? draugsten_intake_burst : (__typeof__(intake_burst))nothing;
+    intake_end = library ? draugsten_intake_end : (__typeof__(intake_end))nothing;
     read_nodes = library ? draugsten_read_nodes : (__typeof__(read_nodes))nothing;
     read_indices = library ? draugsten_read_indices : (__typeof__(read_indices))nothing;
     read_properties = library ? draugsten_read_properties : (__typeof__(read_properties))nothing;
@@ -170,6 +177,9 @@ static struct draugsten_tallied tallied;
 static struct draugsten_kept appended, joined;
 static struct draugsten_recount counted_anew;
 static struct draugsten_forecast_answer forecasted;
+static struct draugsten_intake arriving;
+static struct draugsten_burst burst;
+static struct draugsten_intake_ended at_end;
 static struct draugsten_node_reading node_reading;
 static struct draugsten_index_reading index_reading;
 static struct draugsten_property_reading property_reading;
@@ -294,6 +304,34 @@ static void recounting(void)
 static void forecasting(void)
 {
     forecasted = forecast(joined.journal.tallies, 1, 3);
+}
+
+static void starting_intake(void)
+{
+    arriving = intake_start(empty);
+}
+
+/* The next bytes of the stream, from the journal. */
+static void arrive(size_t from, size_t to)
+{
+    burst = intake_burst(stored, sizeof stored, store, sizeof store, burst.intake, journal + from, to - from);
+}
+
+/* The journal, broken inside its first four bytes, its first record, the record of the long value, and that value; then a
+ * record whose four bytes are refused. */
+static void bursting(void)
+{
+    static const size_t cuts[] = {0, 3, 7, 31, LONG_RECORD + 5, LONG_RECORD + 2000, sizeof journal};
+    burst.intake = arriving;
+    for (size_t i = 1; i < sizeof cuts / sizeof cuts[0]; i++)
+        arrive(cuts[i - 1], cuts[i]);
+    arrive(0, sizeof journal);
+    arrive(NODES_SIZE + 4, NODES_SIZE + 8);
+}
+
+static void ending_intake(void)
+{
+    at_end = intake_end(stored, sizeof stored, store, sizeof store, burst.intake);
 }
 
 static void reading_nodes(void)
@@ -452,6 +490,10 @@ static void check_work(void)
               joined.journal.used == 24 + LONG_VALUE + sizeof journal && joined.journal.tallies.first.additions == 2 &&
               counted_anew.number == 0 && counted_anew.tallies.first.deletes == 1 && forecasted.status == 0,
           "the tallies");
+    check(burst.number == DRAUGSTEN_INTAKE_MALFORMED && burst.in_record == 13 &&
+              burst.intake.journal.used == 2 * sizeof journal && burst.intake.journal.tallies.first.additions == 2 &&
+              at_end.number == DRAUGSTEN_INTAKE_MALFORMED && at_end.in_record == 13,
+          "an intake");
     check(reading.number == 1 && edited.edition == EDITION + 1 && answered == CALLS &&
               answer.registration.length == 80 && node_reading.entries == 3 && index_reading.entries == 2 &&
               property_reading.entries == 3,
@@ -481,6 +523,9 @@ int main(void)
     measure("draugsten_tallies_join", joining, DRAUGSTEN_STACK_TALLIES_JOIN);
     measure("draugsten_tallies_recount", recounting, DRAUGSTEN_STACK_TALLIES_RECOUNT);
     measure("draugsten_forecast", forecasting, DRAUGSTEN_STACK_FORECAST);
+    measure("draugsten_intake_start", starting_intake, DRAUGSTEN_STACK_INTAKE_START);
+    measure("draugsten_intake_burst", bursting, DRAUGSTEN_STACK_INTAKE_BURST);
+    measure("draugsten_intake_end", ending_intake, DRAUGSTEN_STACK_INTAKE_END);
     measure("draugsten_call", calling, DRAUGSTEN_STACK_CALL);
     measure("draugsten_read_nodes", reading_nodes, DRAUGSTEN_STACK_READ_NODES);
     measure("draugsten_read_indices", reading_indices, DRAUGSTEN_STACK_READ_INDICES);

@@ -2,6 +2,7 @@
 
 #![allow(unsafe_code)]
 
+pub mod intakes;
 pub mod tallies;
 
 /// A phase above 2 or a length above 512 is no registration.

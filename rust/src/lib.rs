@@ -2,7 +2,8 @@
 //! calls ibm,update-nodes, ibm,get-indices, ibm,configure-kernel-dump and ibm,update-properties on the platform's side,
 //! readers of the work areas that all but the dump fill, the run of a registered kernel dump, which is the second archive,
 //! the recording of a session of calls, its replay, and the counts of its calls in totals over sessions, of which the last
-//! two are the third, and a journal that is kept with its tallies, with forecasts from these, which is the fourth.
+//! two are the third, and a journal that is kept with its tallies and may arrive in bursts, with forecasts from the
+//! tallies, which is the fourth.
 //! `include/draugsten.h` has what each buffer holds and which bytes are written.
 //!
 //! ```
@@ -28,6 +29,7 @@ pub mod args;
 mod calling;
 mod dump;
 mod ffi;
+mod intake;
 mod month;
 mod properties;
 mod reading;
@@ -40,6 +42,7 @@ pub mod trace;
 
 pub use calling::{call, Answer, Fault};
 pub use dump::{Section, DUMP_ERROR, DUMP_PERFORMED};
+pub use intake::{Intake, NotWhole, Refused, LONGEST_RECORD};
 pub use month::{Counted, CountingReplay, Figures, NotAdded, NotMerged, Share, Status, Token, Totals};
 pub use properties::{read_properties, Descriptor, Property, PropertyArea, NAME_LIMIT, VALUE_LIMIT};
 pub use reading::{read_indices, read_nodes, read_state, Entry, Operation, Reason, Refusal, CODE_LIMIT, FIELD_LIMIT};

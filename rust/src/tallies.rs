@@ -101,9 +101,9 @@ impl fmt::Display for NotKept {
 
 impl std::error::Error for NotKept {}
 
-/// A journal in a lent buffer, with its tallies beside it. It is changed by appends, joins and clears alone, so the bytes in
-/// use are always a well-formed journal, and the tallies those of [`recount`]. What is refused changes nothing, not even a
-/// byte of the buffer behind the use.
+/// A journal in a lent buffer, with its tallies beside it. It is changed by appends, joins and clears alone, and by the bursts
+/// of an [`Intake`](crate::Intake), so the bytes in use are always a well-formed journal, and the tallies those of
+/// [`recount`]. What is refused changes nothing, not even a byte of the buffer behind the use.
 ///
 /// ```
 /// use draugsten::{recount, Forecast, NotKept, TalliedJournal};
@@ -134,8 +134,8 @@ impl std::error::Error for NotKept {}
 /// ```
 #[derive(Debug)]
 pub struct TalliedJournal<'a> {
-    buffer: &'a mut [u8],
-    kept: ffi::Tallied,
+    pub(crate) buffer: &'a mut [u8],
+    pub(crate) kept: ffi::Tallied,
 }
 
 impl<'a> TalliedJournal<'a> {

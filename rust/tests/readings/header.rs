@@ -2,8 +2,8 @@
 
 use draugsten::trace::{self, Kind, BODY_LIMIT};
 use draugsten::{
-    args, Answer, Fault, NotKept, Phase, Reason, Section, Status, Token, CODE_LIMIT, DUMP_ERROR, DUMP_PERFORMED,
-    FIELD_LIMIT, NAME_LIMIT, STRUCTURE_LIMIT, VALUE_LIMIT,
+    args, Answer, Fault, NotKept, Phase, Reason, Refused, Section, Status, Token, CODE_LIMIT, DUMP_ERROR,
+    DUMP_PERFORMED, FIELD_LIMIT, LONGEST_RECORD, NAME_LIMIT, STRUCTURE_LIMIT, VALUE_LIMIT,
 };
 
 const HEADER: &str = include_str!("../../../include/draugsten.h");
@@ -103,6 +103,21 @@ fn numbers_of_tallies() {
         ("NO_JOURNAL", NotKept::NoJournal as i32),
     ];
     assert_eq!(numbers("DRAUGSTEN_TALLIES_"), expected);
+}
+
+/// The crate has the numbers 50, 51 and 53 as `Refused` and `NotWhole`; its intakes are always ones that bursts leave.
+#[test]
+fn numbers_of_intakes() {
+    let expected = [
+        ("TAKEN", 0),
+        ("MALFORMED", Refused::Malformed { record: 1 }.number() as i32),
+        ("NO_ROOM", Refused::NoRoom { record: 1 }.number() as i32),
+        ("UNFINISHED", 53),
+        ("NO_STATE", 54),
+        ("SMALL_STORE", 55),
+    ];
+    assert_eq!(numbers("DRAUGSTEN_INTAKE_"), expected);
+    assert_eq!(numbers("DRAUGSTEN_STORE_SIZE"), [("", LONGEST_RECORD as i32)]);
 }
 
 #[test]

@@ -4,6 +4,7 @@ mod arguments;
 mod dump;
 mod header;
 mod indices;
+mod intakes;
 mod nodes;
 mod partition;
 mod properties;
