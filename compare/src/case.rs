@@ -1,5 +1,6 @@
 //! The cases that are compared.
 
+use crate::intakes::case::IntakeCase;
 use crate::library::{ReadingRecord, Registration, Replay};
 use crate::month::case::MonthCase;
 use crate::paper::dump_run::{section, section_places, Section};
@@ -175,6 +176,7 @@ pub enum Case {
     State(StateCase),
     Month(MonthCase),
     Tallies(TalliesCase),
+    Intake(IntakeCase),
 }
 
 impl CallCase {
@@ -247,6 +249,7 @@ impl Case {
             Case::State(state) => state.text(),
             Case::Month(month) => month.text(),
             Case::Tallies(case) => case.text(),
+            Case::Intake(case) => case.text(),
         }
     }
 }

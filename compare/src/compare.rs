@@ -4,6 +4,7 @@ use crate::buffers::{word_at, Lent};
 use crate::case::{CallCase, Case, ReadCase};
 use crate::coverage::Coverage;
 use crate::dump;
+use crate::intakes;
 use crate::library::{Reading, ReadingRecord, Registration};
 use crate::month;
 use crate::replay;
@@ -206,6 +207,7 @@ pub fn difference(sides: Sides, case: &Case, coverage: &mut Coverage) -> Option<
         Case::State(case) => replay::states::difference(sides, case, coverage),
         Case::Month(case) => month::difference(sides, case, coverage),
         Case::Tallies(case) => tallies::difference(sides, case, coverage),
+        Case::Intake(case) => intakes::difference(sides, case, coverage),
     }
 }
 

@@ -8,6 +8,7 @@ mod crash;
 mod dump;
 mod fixed;
 mod generate;
+mod intakes;
 mod library;
 mod month;
 mod options;
@@ -48,7 +49,8 @@ fn main() -> ExitCode {
     println!(
         "compared: every answer, and every byte of the argument buffer, of memory, of the registration, of the reading \
         record and of out; every byte that a dump copies and tells; what a replay comes to, which states of one are \
-        refused, and every figure of a month; every byte, tally and refusal of a journal that is kept, and forecasts"
+        refused, and every figure of a month; every byte, tally and refusal of a journal that is kept or that arrives in bursts, and \
+        forecasts"
     );
     crash::install();
     if options.fixed && options.only.is_none() && !run_fixed(sides) {

@@ -62,6 +62,8 @@ fn bytes_of(case: &Case, part: Part) -> &[u8] {
         (Case::Trace(case) | Case::Month(MonthCase::Trace { case, .. }), _) => given_bytes(&case.given, part),
         (Case::State(case) | Case::Month(MonthCase::State { case, .. }), _) => given_bytes(&case.given, part),
         (Case::Tallies(case), _) => tallies_place(part).and_then(|place| case.part(place)).map_or(&[], Vec::as_slice),
+        (Case::Intake(case), Part::Trace) => case.stream(),
+        (Case::Intake(case), Part::Journal) => case.first(),
         _ => &[],
     }
 }
@@ -99,6 +101,8 @@ fn with_bytes(case: &Case, part: Part, bytes: Vec<u8>) -> Case {
             let place = tallies_place(part).and_then(|place| case.part_mut(place));
             place.into_iter().for_each(|place| *place = bytes.clone())
         }
+        (Case::Intake(case), Part::Trace) => case.set_stream(bytes),
+        (Case::Intake(case), Part::Journal) => case.set_first(bytes),
         _ => {}
     }
     changed
@@ -258,14 +262,17 @@ impl Shrinking<'_> {
         }
     }
 
-    /// Leaves out operations on a kept journal, from the last one on.
+    /// Leaves out operations on a kept journal and steps of an intake, from the last one on.
     fn remove_operations(&mut self) {
         for place in (0..120).rev() {
             let mut candidate = self.best.clone();
-            if let Case::Tallies(case) = &mut candidate {
-                if case.without_operation(place) {
-                    self.keep(candidate);
-                }
+            let fewer = match &mut candidate {
+                Case::Tallies(case) => case.without_operation(place),
+                Case::Intake(case) => case.without_step(place),
+                _ => false,
+            };
+            if fewer {
+                self.keep(candidate);
             }
         }
     }
@@ -338,6 +345,7 @@ mod tests {
     use crate::compare::{self, Sides};
     use crate::coverage::Coverage;
     use crate::generate;
+    use crate::intakes::subject::Receiving;
     use crate::library::{Edit, Reading, Registration, Replay};
     use crate::month::subject::Month;
     use crate::subject::{Answered, Ended, Fed, Feeding, Paper, Platform, Ran, Subject};
@@ -397,6 +405,10 @@ mod tests {
             Paper.keeping()
         }
 
+        fn receiving(&self) -> &dyn Receiving {
+            Paper.receiving()
+        }
+
         fn read_nodes(&self, area: &[u8], scope: u32, out: &mut [u32]) -> Reading {
             Paper.read_nodes(area, scope, out)
         }
@@ -443,7 +455,7 @@ mod tests {
         let Case::Run(run) = small(|case| matches!(case, Case::Run(run) if run.steps.len() > 1)) else {
             panic!("no run");
         };
-        assert!(run.memory.len() <= 2 && run.platform.len() <= 1, "{}", run.text());
+        assert!(run.memory.len() <= 4 && run.platform.len() <= 1, "{}", run.text());
         assert_eq!((run.steps.len(), run.registration.copy[5]), (2, 1));
     }
 

@@ -1,5 +1,6 @@
 //! The two sides of the comparison behind one trait.
 
+use crate::intakes::subject::Receiving;
 use crate::library::{Edit, Reading, ReadingRecord, Registration, Replay, Report, NO_REGISTRATION, PARAMETER};
 use crate::month::subject::Month;
 use crate::paper;
@@ -59,8 +60,8 @@ pub struct Ended {
     pub report: Report,
 }
 
-/// One side: the calls, the run of a dump, the replay, the month, the tallies and the readers as the library's C interface
-/// has them.
+/// One side: the calls, the run of a dump, the replay, the month, the tallies, intakes and the readers as the library's C
+/// interface has them.
 pub trait Subject {
     fn name(&self) -> &'static str;
 
@@ -89,6 +90,9 @@ pub trait Subject {
 
     /// A journal that is kept with its tallies, and forecasts.
     fn keeping(&self) -> &dyn Keeping;
+
+    /// A journal that arrives in bursts.
+    fn receiving(&self) -> &dyn Receiving;
 
     /// With entries, writes three words for each that fits in `out`, and nothing else.
     fn read_nodes(&self, area: &[u8], scope: u32, out: &mut [u32]) -> Reading;
@@ -258,6 +262,10 @@ macro_rules! paper_subject {
             }
 
             fn keeping(&self) -> &dyn Keeping {
+                self
+            }
+
+            fn receiving(&self) -> &dyn Receiving {
                 self
             }
 

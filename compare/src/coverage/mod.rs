@@ -4,6 +4,7 @@ mod areas;
 mod combinations;
 mod dump;
 mod indices;
+mod intakes;
 mod months;
 mod nodes;
 mod properties;
@@ -21,6 +22,7 @@ use crate::library::{Reading, Registration, Report};
 use crate::session::Counts;
 use crate::subject::Ran;
 use combinations::Combinations;
+pub use intakes::facts as burst_facts;
 
 /// A line of the paper, as a condition on the facts of a case.
 type Line<Facts> = (&'static str, fn(&Facts) -> bool);
@@ -154,6 +156,7 @@ pub struct Coverage {
     state_lines: Table,
     months: [Table; 7],
     tallies: [Table; 7],
+    intakes: [Table; 5],
     combinations: Combinations,
 }
 
@@ -186,6 +189,7 @@ impl Coverage {
             state_lines: Table::of_lines("such replays, lines", replays::STATE_LINES),
             months: month_tables(),
             tallies: tallies::tables(),
+            intakes: intakes::tables(),
             combinations: Combinations::new(),
         }
     }
@@ -376,7 +380,7 @@ impl Coverage {
             &self.states,
             &self.state_lines,
         ];
-        first.into_iter().chain(&self.runs).chain(&self.months).chain(&self.tallies).collect()
+        first.into_iter().chain(&self.runs).chain(&self.months).chain(&self.tallies).chain(&self.intakes).collect()
     }
 
     /// The rows that never came up.

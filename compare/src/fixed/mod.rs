@@ -5,6 +5,7 @@ mod areas;
 mod arguments;
 mod dump;
 mod indices;
+mod intakes;
 mod large;
 mod months;
 mod nodes;
@@ -24,6 +25,7 @@ use crate::crash;
 use crate::library::{ReadingRecord, Registration};
 use crate::subject::Subject;
 use crate::text;
+use intakes::{StandingReading, StreamReading};
 use months::{CountsReading, MonthReading};
 use reading_records::{edit_failure, start_failure, EDITS};
 use replays::{FeedReading, TraceReading};
@@ -206,6 +208,8 @@ struct Readings {
     kept: Vec<KeptReading>,
     recounts: Vec<RecountReading>,
     forecasts: Vec<ForecastReading>,
+    streams: Vec<StreamReading>,
+    standings: Vec<StandingReading>,
 }
 
 fn readings() -> Readings {
@@ -232,6 +236,8 @@ fn readings() -> Readings {
         kept: tallies::kept(),
         recounts: tallies::recounts(),
         forecasts: tallies::forecasts(),
+        streams: intakes::streams(),
+        standings: intakes::standings(),
     }
 }
 
@@ -248,7 +254,7 @@ impl Readings {
         let of_feeds = self.feeds.iter().map(|reading| reading.failure(subject));
         let first = of_calls.chain(of_areas).chain(of_property_areas).chain(of_runs).chain(of_edits);
         let all = first.chain(of_the_start).chain(of_traces).chain(of_feeds).chain(self.month_failures(subject));
-        let all = all.chain(self.tallies_failures(subject));
+        let all = all.chain(self.tallies_failures(subject)).chain(self.intake_failures(subject));
         // The place is noted before the reading is run.
         let places = (0..).inspect(|&place| crash::running_fixed(place));
         places.zip(all).filter_map(|(_, failure)| failure).collect()
@@ -271,6 +277,12 @@ impl Readings {
         of_kept.chain(of_recounts).chain(of_forecasts)
     }
 
+    /// What a side does otherwise than written with a journal that arrives in bursts.
+    fn intake_failures<'a>(&'a self, subject: &'a dyn Subject) -> impl Iterator<Item = Option<String>> + 'a {
+        let of_streams = self.streams.iter().map(|reading| reading.failure(subject));
+        of_streams.chain(self.standings.iter().map(|reading| reading.failure(subject)))
+    }
+
     fn text(&self) -> String {
         let (calls, areas, edits) = (self.calls.len(), self.areas.len() + self.property_areas.len(), EDITS.len());
         let runs = format!("{} runs of a dump", self.runs.len());
@@ -281,7 +293,9 @@ impl Readings {
         let first = format!("{calls} calls, {areas} areas, {runs}, {edits} edits, the record to start with");
         let (kept, recounts) = (self.kept.len(), self.recounts.len());
         let tallies = format!("{kept} operations on a kept journal, {recounts} recounts");
-        format!("{first}, {replays}, {months}, {totals}, {tallies} and {} forecasts", self.forecasts.len())
+        let (forecasts, streams, standings) = (self.forecasts.len(), self.streams.len(), self.standings.len());
+        let intakes = format!("{forecasts} forecasts, {streams} streams and {standings} states of an intake");
+        format!("{first}, {replays}, {months}, {totals}, {tallies}, {intakes}")
     }
 }
 

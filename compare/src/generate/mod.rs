@@ -6,6 +6,7 @@ mod dump_call;
 pub mod edits;
 mod index_areas;
 pub mod indices_call;
+mod intakes;
 pub mod inventories;
 pub mod journals;
 pub mod memories;
@@ -32,7 +33,7 @@ use journals::Size;
 
 pub fn case(seed: u64, number: u64) -> Case {
     let mut random = Random::for_case(seed, number);
-    match random.below(118) {
+    match random.below(129) {
         0..=49 => Case::Call(call(&mut random)),
         50..=54 => Case::Run(runs::case(&mut random)),
         55..=63 => Case::Month(months::case(&mut random)),
@@ -45,7 +46,8 @@ pub fn case(seed: u64, number: u64) -> Case {
         97..=99 => Case::Session(index_session(&mut random)),
         100..=104 => Case::Trace(traces::case(&mut random)),
         105..=109 => Case::State(replay_states::case(&mut random)),
-        _ => Case::Tallies(tallies::case(&mut random)),
+        110..=117 => Case::Tallies(tallies::case(&mut random)),
+        _ => Case::Intake(intakes::case(&mut random)),
     }
 }
 

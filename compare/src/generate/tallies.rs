@@ -10,7 +10,7 @@ use crate::tallies::case::{Operation, TalliesCase};
 use crate::tallies::Journal;
 
 /// The most bytes of a journal.
-const MOST: usize = 1_048_576;
+pub const MOST: usize = 1_048_576;
 
 /// The longest value.
 const VALUE: usize = 32_768;
@@ -27,7 +27,7 @@ pub fn case(random: &mut Random) -> TalliesCase {
 }
 
 /// A good record of any kind.
-fn good_record(random: &mut Random) -> Vec<u8> {
+pub fn good_record(random: &mut Random) -> Vec<u8> {
     if random.one_in(60) {
         let (name, length) = (vec![b'n'; random.pick(&[1, 31])], random.pick(&[VALUE, VALUE - 1, 4000]));
         return property_record(7, &name, Some(&vec![1; length]));
@@ -74,7 +74,7 @@ fn given_part(random: &mut Random) -> Vec<u8> {
 }
 
 /// A journal of exactly so many bytes, 10 at the least: values, and one that takes what is left.
-fn filled(random: &mut Random, size: usize) -> Vec<u8> {
+pub fn filled(random: &mut Random, size: usize) -> Vec<u8> {
     let mut journal = Vec::with_capacity(size);
     while size - journal.len() > VALUE + 10 {
         let length = VALUE.min(size - journal.len() - 20);

@@ -1,8 +1,11 @@
 //! The C interface of the library under test. All that the comparison knows of the interface stands in this folder.
 
+pub mod intakes;
 pub mod month;
 pub mod tallies;
 
+#[cfg(not(feature = "without-library"))]
+use crate::intakes::subject::Receiving;
 #[cfg(not(feature = "without-library"))]
 use crate::month::subject::Month;
 #[cfg(not(feature = "without-library"))]
@@ -413,6 +416,10 @@ impl Subject for Library {
     }
 
     fn keeping(&self) -> &dyn Keeping {
+        self
+    }
+
+    fn receiving(&self) -> &dyn Receiving {
         self
     }
 

@@ -3,6 +3,7 @@
 
 pub mod dump_run;
 pub mod get_indices;
+pub mod intakes;
 pub mod kernel_dump;
 pub mod month;
 pub mod readers;

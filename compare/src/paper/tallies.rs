@@ -81,7 +81,7 @@ fn attach(
 }
 
 /// A use beyond the buffer, and a count above the use, which no journal has.
-fn judge(buffer: &[u8], journal: &Tallied) -> Result<(), Refused> {
+pub fn judge(buffer: &[u8], journal: &Tallied) -> Result<(), Refused> {
     if journal.used > buffer.len() as u64 {
         return refused(52, "a use beyond the buffer");
     }

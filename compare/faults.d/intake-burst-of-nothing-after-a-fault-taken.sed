@@ -1,0 +1,1 @@
+s/        return Told { number: state.fault, record: state.number, state: \*state, rule: "after a fault" };/        return Told { number: if bytes.is_empty() { 0 } else { state.fault }, record: state.number, state: *state, rule: "" };/

@@ -1,0 +1,1 @@
+s/        return Told { number: state.fault, record: state.number, state: \*state, rule: "after a fault" };/        return Told { number: 0, record: 0, state: State { fault: 0, ..*state }, rule: "" };/

@@ -1,0 +1,1 @@
+s/^    if arrived.len() < 4 {/    if arrived.len() < 5 {/

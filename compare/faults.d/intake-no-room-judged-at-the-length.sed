@@ -1,0 +1,1 @@
+s/^            Front::Unfinished => {/            Front::Unfinished if rest.len() >= 4 \&\& 2 + little(\&rest[0..2]) + state.journal.used > lent.buffer.len() as u64 => return stop(state, NO_ROOM, ""), Front::Unfinished => {/

@@ -1,0 +1,1 @@
+s/        Front::Refused(_) => Some("four bytes held that are refused"),/        Front::Refused(_) => None,/

@@ -1,0 +1,1 @@
+s/^    if store.len() < STORE {/    if store.len() + 1 < STORE {/

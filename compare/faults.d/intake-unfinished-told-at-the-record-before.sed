@@ -1,0 +1,1 @@
+s/        return (UNFINISHED, state.number);/        return (UNFINISHED, state.number - 1);/

@@ -1,0 +1,1 @@
+s/    tallies::judge(buffer, &state.journal).err().map(|refused| refused.rule)/    tallies::judge(buffer, \&state.journal).err().map(|refused| refused.rule).filter(|\&rule| rule != "a use beyond the buffer")/

@@ -1,0 +1,1 @@
+s/        Front::Whole { .. } => Some("a whole record held"),/        Front::Whole { .. } => None,/
