@@ -1,7 +1,9 @@
 //! Holds the three sides to each other before they are measured: every answer and every byte.
 
+mod intakes;
 mod tallies;
 
+pub use intakes::intakes;
 pub use tallies::tallies;
 
 use crate::dump::{registered, Section};

@@ -6,6 +6,7 @@ mod check;
 mod dump;
 mod independent;
 mod inputs;
+mod intakes;
 mod interface;
 mod inventory;
 mod journal;
@@ -129,6 +130,7 @@ fn check_sides(inputs: &Inputs) {
     check::settings();
     check::dumps();
     check::tallies();
+    check::intakes();
     for size in growth::SIZES {
         check::update_nodes(&journal::mixed(size), inputs::SCOPE_1);
     }
@@ -155,6 +157,8 @@ fn measure(inputs: &Inputs, effort: Effort) -> Measured {
     report::print_dumps(&dumps);
     let tallies = rows::tallies::tallies(effort);
     report::print_tallies(&tallies);
+    let intakes = rows::intakes::intakes(effort);
+    report::print_intakes(&intakes);
     let slowest = slowest::slowest(inputs, effort);
     report::print_slowest(&slowest);
     let replays = replays::replays(inputs, effort);
@@ -163,7 +167,20 @@ fn measure(inputs: &Inputs, effort: Effort) -> Measured {
     report::print_settings(&settings);
     report::print_counted(&replays, &settings);
     let machine = report::machine();
-    Measured { machine, effort, runs: 1, rows: told, growth, copying, dumps, tallies, slowest, replays, settings }
+    Measured {
+        machine,
+        effort,
+        runs: 1,
+        rows: told,
+        growth,
+        copying,
+        dumps,
+        tallies,
+        intakes,
+        slowest,
+        replays,
+        settings,
+    }
 }
 
 /// So many runs: the last one, with the ranges over all.

@@ -2,6 +2,7 @@
 //! the readers. configure-kernel-dump is not measured and not written here: its token is answered as an unknown one.
 
 mod get_indices;
+pub mod intakes;
 mod inventory;
 mod journal;
 mod read_indices;

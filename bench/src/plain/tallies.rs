@@ -5,8 +5,8 @@ use super::words::le16;
 use crate::tallies::{Keeper, Tallies};
 
 /// Numbers of what is refused.
-const MALFORMED: u32 = 50;
-const NO_ROOM: u32 = 51;
+pub const MALFORMED: u32 = 50;
+pub const NO_ROOM: u32 = 51;
 
 /// A journal that counts as it goes. The bytes in use stand at the front of the buffer.
 pub struct Journal {
@@ -27,7 +27,7 @@ fn record_size(bytes: &[u8]) -> Option<usize> {
 }
 
 /// Counts a good record in every row.
-fn count(tallies: &mut Tallies, record: &[u8]) {
+pub fn count(tallies: &mut Tallies, record: &[u8]) {
     let opcode = match le16(record, 2) {
         kind @ 1..=3 => usize::from(kind) - 1,
         4 => 1,
@@ -60,11 +60,11 @@ impl Journal {
         Journal { buffer: vec![0; size], used: 0, tallies: Tallies::ZERO }
     }
 
-    fn has_room(&self, size: usize) -> bool {
+    pub fn has_room(&self, size: usize) -> bool {
         size <= self.buffer.len() - self.used && self.used + size <= LIMIT
     }
 
-    fn put(&mut self, bytes: &[u8]) {
+    pub fn put(&mut self, bytes: &[u8]) {
         self.buffer[self.used..self.used + bytes.len()].copy_from_slice(bytes);
         self.used += bytes.len();
     }

@@ -1,10 +1,11 @@
 //! The page docs/BENCH.md.
 
-use super::{counted, grouped, micros, range, ratio, ratio_text, warning, Measured};
+use super::{counted, grouped, micros, range, rate, ratio, ratio_text, warning, Measured};
 use crate::library;
 use crate::rows::copying::Copying;
 use crate::rows::dumps::Dumped;
 use crate::rows::growth::{each, Growth};
+use crate::rows::intakes::{Bursts, Intakes, Whole};
 use crate::rows::replays::{Fed, Replay, Setting};
 use crate::rows::slowest::{Slowest, ALLOWED};
 use crate::rows::tallies::Kept;
@@ -38,6 +39,7 @@ pub fn page(measured: &Measured) -> String {
     lines.extend(copying(&measured.copying));
     lines.extend(dump_section(&measured.dumps));
     lines.extend(tallies_section(&measured.tallies));
+    lines.extend(intakes_section(&measured.intakes));
     lines.extend(replay_section(measured));
     lines.join("\n") + "\n"
 }
@@ -86,6 +88,50 @@ fn tallies_section(tallies: &[Kept]) -> Vec<String> {
         ])
     }));
     lines
+}
+
+/// What is measured of a journal that arrives in bursts.
+fn intakes_section(intakes: &Intakes) -> Vec<String> {
+    let mut lines = vec![String::from("\n## A journal in bursts\n")];
+    lines.push(String::from(
+        "A full journal that arrives in bursts of so many bytes (`draugsten_intake_burst`), beside straightforward Rust that \
+        puts the bursts together in a vector and takes whole records from its front; the two take turns. In millions of \
+        bytes a second; the ratio is that of the times.\n",
+    ));
+    lines.extend(heading(&["over", "bytes", "burst", "Rust", library::SIDE.name, "/ Rust", "over the runs"], 1));
+    lines.extend(intakes.bursts.iter().map(bursts));
+    lines.push(String::from(
+        "\nThe same journals in one burst, beside the scan of the journal and memcpy of its bytes, in microseconds. *Both* is \
+        the sum of the two.\n",
+    ));
+    let names = ["over", "bytes", "scan", "memcpy", library::SIDE.name, "/ both", "over the runs"];
+    lines.extend(heading(&names, 1));
+    lines.extend(intakes.wholes.iter().map(whole));
+    lines
+}
+
+fn bursts(each: &Bursts) -> String {
+    line(&[
+        each.over.to_string(),
+        grouped(each.bytes as u64),
+        grouped(each.burst as u64),
+        rate(each.bytes, each.rust),
+        rate(each.bytes, each.proved),
+        ratio(each.proved, each.rust),
+        range(each.ratios, ratio_text),
+    ])
+}
+
+fn whole(each: &Whole) -> String {
+    line(&[
+        each.over.to_string(),
+        grouped(each.bytes as u64),
+        micros(each.scan),
+        micros(each.memcpy),
+        micros(each.proved),
+        ratio(each.proved, each.both()),
+        range(each.ratios, ratio_text),
+    ])
 }
 
 /// What is measured of replays.

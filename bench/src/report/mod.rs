@@ -5,14 +5,15 @@ mod plot;
 mod table;
 
 pub use table::{
-    print_copying, print_counted, print_dumps, print_growth, print_heading, print_ranges, print_replays, print_row,
-    print_settings, print_slowest, print_tallies,
+    print_copying, print_counted, print_dumps, print_growth, print_heading, print_intakes, print_ranges, print_replays,
+    print_row, print_settings, print_slowest, print_tallies,
 };
 
 use crate::library;
 use crate::rows::copying::Copying;
 use crate::rows::dumps::Dumped;
 use crate::rows::growth::Growth;
+use crate::rows::intakes::Intakes;
 use crate::rows::replays::{Fed, Replay, Setting};
 use crate::rows::slowest::Slowest;
 use crate::rows::tallies::Kept;
@@ -32,6 +33,7 @@ pub struct Measured {
     pub copying: Vec<Copying>,
     pub dumps: Vec<Dumped>,
     pub tallies: Vec<Kept>,
+    pub intakes: Intakes,
     pub slowest: Vec<Slowest>,
     pub replays: Vec<Replay>,
     pub settings: Vec<Setting>,
@@ -49,6 +51,12 @@ impl Measured {
         }
         for (kept, before) in self.tallies.iter_mut().zip(&before.tallies) {
             kept.ratios = joined(kept.ratios, before.ratios);
+        }
+        for (bursts, before) in self.intakes.bursts.iter_mut().zip(&before.intakes.bursts) {
+            bursts.ratios = joined(bursts.ratios, before.ratios);
+        }
+        for (whole, before) in self.intakes.wholes.iter_mut().zip(&before.intakes.wholes) {
+            whole.ratios = joined(whole.ratios, before.ratios);
         }
         for (slowest, before) in self.slowest.iter_mut().zip(&before.slowest) {
             slowest.times = joined(slowest.times, before.times);
@@ -139,6 +147,11 @@ fn micros(time: f64) -> String {
         ..100.0 => format!("{time:.1}"),
         _ => grouped(time.round() as u64),
     }
+}
+
+/// Millions of bytes a second, of so many bytes in a time in microseconds.
+fn rate(bytes: usize, time: f64) -> String {
+    micros(bytes as f64 / time)
 }
 
 /// A range, by the text of a number.

@@ -1,10 +1,11 @@
 //! The table as text.
 
-use super::{counted, grouped, micros, range, ratio, ratio_text, warning, Measured};
+use super::{counted, grouped, micros, range, rate, ratio, ratio_text, warning, Measured};
 use crate::library;
 use crate::rows::copying::Copying;
 use crate::rows::dumps::Dumped;
 use crate::rows::growth::{each, Growth};
+use crate::rows::intakes::Intakes;
 use crate::rows::replays::{Fed, Replay, Setting, BURST};
 use crate::rows::slowest::{Slowest, ALLOWED};
 use crate::rows::tallies::Kept;
@@ -69,6 +70,22 @@ pub fn print_tallies(tallies: &[Kept]) {
     for each in tallies {
         print!("{:<42} {:<24} {:>9}", each.what, each.beside, grouped(each.bytes as u64));
         println!(" {:>10} {:>10} {:>7}", micros(each.other), micros(each.proved), ratio(each.proved, each.other));
+    }
+}
+
+pub fn print_intakes(intakes: &Intakes) {
+    println!("\na journal that arrives in bursts, beside Rust that keeps a vector: millions of bytes a second");
+    println!("{:<20} {:>9} {:>9} {:>9} {:>9} {:>7}", "over", "bytes", "burst", "Rust", library::SIDE.name, "/Rust");
+    for each in &intakes.bursts {
+        let (bytes, burst) = (grouped(each.bytes as u64), grouped(each.burst as u64));
+        print!("{:<20} {bytes:>9} {burst:>9} {:>9}", each.over, rate(each.bytes, each.rust));
+        println!(" {:>9} {:>7}", rate(each.bytes, each.proved), ratio(each.proved, each.rust));
+    }
+    println!("\na whole journal in one burst, beside its scan and memcpy of its bytes: microseconds");
+    println!("{:<20} {:>9} {:>9} {:>9} {:>9} {:>7}", "over", "bytes", "scan", "memcpy", library::SIDE.name, "/both");
+    for each in &intakes.wholes {
+        print!("{:<20} {:>9} {:>9}", each.over, grouped(each.bytes as u64), micros(each.scan));
+        println!(" {:>9} {:>9} {:>7}", micros(each.memcpy), micros(each.proved), ratio(each.proved, each.both()));
     }
 }
 
@@ -149,9 +166,22 @@ pub fn print_ranges(measured: &Measured) {
         for each in &measured.tallies {
             println!("{:<42} {:<24} {:>16}", each.what, each.beside, range(each.ratios, ratio_text));
         }
+        print_intake_ranges(measured);
         print_replay_ranges(measured);
     }
     println!("{}", measured.summary());
+}
+
+/// The ratios of the intakes over several runs.
+fn print_intake_ranges(measured: &Measured) {
+    println!("\nover {} runs: a journal that arrives in bursts, ratios to Rust", measured.runs);
+    for each in &measured.intakes.bursts {
+        println!("{:<20} {:>9} {:>16}", each.over, grouped(each.burst as u64), range(each.ratios, ratio_text));
+    }
+    println!("\nover {} runs: in one burst, ratios to scan and memcpy together", measured.runs);
+    for each in &measured.intakes.wholes {
+        println!("{:<20} {:>16}", each.over, range(each.ratios, ratio_text));
+    }
 }
 
 /// The ratios of the replays over several runs.

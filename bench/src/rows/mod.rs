@@ -4,6 +4,7 @@ pub mod copying;
 pub mod dumps;
 pub mod get_indices;
 pub mod growth;
+pub mod intakes;
 pub mod readers;
 pub mod replays;
 pub mod scans;
