@@ -7,8 +7,6 @@ ghost use Rattle.journal.specs.Terms.{IsKind, opcodeFor};
 ghost use Rattle.stretch.specs.Packed.{weightsFor};
 ghost use Rattle.stretch.specs.Terms.{bitOf};
 use crate::packed::Packed;
-use journal::COUNT_LIMIT;
-use journal::LARGEST_WEIGHT;
 
 // The sets of a row, in base 8: a digit for each node type, that of type 16 first and that of 0 last.
 const NEGATIVE: u64 = 0o00777772200200000;
@@ -19,11 +17,12 @@ const SECOND: u64 = 0o00000000000002000;
 
 const THIRD: u64 = 0o22000000000000000;
 
-// The opcode of a kind: kinds 2 and 4 are updates.
+// The opcode of a kind: kinds 2 and 4 are updates. It is computed with no test, as is what an operation adds: the kinds of records are random.
 fn opcode_of(kind: usize) -> usize
+    requires { ⌜ IsKind kind ⌝ }
     ensures { λ r. ⌜ r ≡ opcodeFor kind ⌝ }
 {
-    if kind == 4 { 2 } else { kind }
+    kind - 2 * (kind / 4)
 }
 
 // What one operation of an opcode adds.
@@ -31,14 +30,7 @@ fn unit_of(code: usize) -> u64
     requires { ⌜ IsOpcode code ⌝ }
     ensures { λ r. ⌜ r ≡ countLimit ^ (code - 1) ⌝ }
 {
-    if code == 1 {
-        return 1;
-    }
-    if code == 2 {
-        COUNT_LIMIT
-    } else {
-        LARGEST_WEIGHT
-    }
+    1 << ((21 * (code - 1)) as u32)
 }
 
 // Whether a row's number has this opcode for a node type: 1 or 0.
