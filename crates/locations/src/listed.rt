@@ -64,10 +64,9 @@ pub fn part_at(area: &[u8], at: usize) -> Part
     requires { ⌜ Sets (now area) at ⌝ }
     ensures { λ r. ⌜ r ≡ partAt (now (area .entry)) at ⌝ }
 {
-    let start = at + 8;
     let n = words::read_be32(area, at + 4) as usize;
     Part {
-        start,
-        length: words::find_nul(area, start, start + n) - start,
+        start: at + 8,
+        length: readers::code_length(area, at, n),
     }
 }

@@ -4,6 +4,7 @@ mod reading_nodes;
 mod reading_properties;
 
 pub use reading_indices::IndexReading;
+pub use reading_indices::code_length;
 pub use reading_indices::index_refusal;
 pub use reading_indices::read_indices;
 pub use reading_nodes::NodeReading;

@@ -41,7 +41,7 @@ fn store_set(out: &mut [u64], to: usize, set: indices::Set)
 }
 
 // The length of the code of a set that a check passed, whose field has n bytes. One to four NULs end the field, so its last four bytes tell.
-fn code_length(area: &[u8], at: usize, n: usize) -> usize
+pub fn code_length(area: &[u8], at: usize, n: usize) -> usize
     requires { ⌜ (n ≡ indices_reading.lengthAt (now area) at) × (indices_reading.faultAt (now area) at ≡ indices_fault.Fine) ⌝ }
     ensures { λ r. ⌜ r ≡ length (untilNul (indices_reading.fieldAt (now (area .entry)) at)) ⌝ }
 {

@@ -7,7 +7,7 @@ use borrow.Author.Needs.{needs}
 use denote.Ref.{now}
 use Rattle.words.specs.Numbers.{be32}
 use Rattle.indices.specs.Reading.{lengthAt}
-use Rattle.indices.proofs.IndexLaws.{fine-inside, field-part}
+use Rattle.indices.proofs.IndexLaws.{fine-inside}
 use Rattle.locations.proofs.listed.part_at.Statement.{statement}
 use Rattle.locations.proofs.listed.part_at.Tie as tie
 
@@ -16,29 +16,18 @@ room : (c : tie.After-shared-slice-known) → 8 + be32 (now (c .before .args .ar
 unfolding lengthAt
 room c = fine-inside (now (c .before .args .area)) (c .before .args .at) (c .before .pre)
 
-add-start : tie.Need-add-start
-add-start c = let inside = room c in search needs
-
 add-read-be32 : tie.Need-add-read-be32
 add-read-be32 c = let inside = room c in search needs
 
 read-be32-requires : tie.Need-read-be32-requires
 read-be32-requires c κs = omega (arith, room c)
 
-add-find-nul : tie.Need-add-find-nul
-add-find-nul c = let inside = room (c .before) in search needs
-
-find-nul-requires : tie.Need-find-nul-requires
-find-nul-requires c κs = (omega arith, omega (arith, room (c .before), c .read-be32 .ensures))
+code-length-requires : tie.Need-code-length-requires
+unfolding lengthAt
+code-length-requires c κs = (c .read-be32 .ensures, c .before .before .pre)
 
 returns : tie.Need-returns
-unfolding lengthAt
-returns c =
-    let a = c .before .before .before .args in
-    rw (c .find-nul .ensures, field-part (now (a .area)) (a .at) _ (c .before .read-be32 .ensures)) (ap (λ (n : ℕ). record { start = a .at + 8; length = n }) (add-sub (a .at + 8) _))
-  where
-    add-sub : (a b : ℕ) → a + b - a ≡ b
-    add-sub a b = omega arith
+returns c = ap (λ (n : ℕ). record { start = c .before .before .before .args .at + 8; length = n }) (c .code-length .ensures)
 
 pub part-at-spec : {M : Type 1} → statement M
-part-at-spec = tie.close (tie.spec add-start add-read-be32 read-be32-requires (λ c. search needs) add-find-nul find-nul-requires (λ c. search needs) returns)
+part-at-spec = tie.close (tie.spec add-read-be32 read-be32-requires (λ c. search needs) (λ c. let inside = room (c .before) in search needs) code-length-requires returns)
