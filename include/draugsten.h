@@ -1,10 +1,11 @@
 /*
  * Draugsten: the RTAS calls ibm,update-nodes, ibm,get-indices, ibm,configure-kernel-dump and ibm,update-properties on the
  * platform's side, the run of a registered kernel dump, the replay of a recorded session of calls, totals over such
- * sessions, a journal that is kept with its tallies, forecasts from these, such a journal that arrives in bursts, and
- * readers of the work areas that all but the dump fill. Link libdraugsten.a, libdraugsten_dump.a for draugsten_run_dump,
- * libdraugsten_replay.a for the functions of the replay and of the month, and libdraugsten_tallies.a for those of the
- * tallies and of intakes and draugsten_forecast; all are for x86-64, and none needs another.
+ * sessions, a journal that is kept with its tallies, forecasts from these, such a journal that arrives in bursts, readers
+ * of the work areas that all but the dump fill, and one place to ask for a location code. Link libdraugsten.a,
+ * libdraugsten_dump.a for draugsten_run_dump, libdraugsten_replay.a for the functions of the replay and of the month,
+ * libdraugsten_tallies.a for those of the tallies and of intakes and draugsten_forecast, and libdraugsten_locations.a for
+ * draugsten_lookup and the views of index areas; all are for x86-64, and none needs another.
  *
  * For every function:
  * - It takes any contents and any lengths, and returns.
@@ -16,7 +17,7 @@
  *
  * For firmware, of each archive as it is built (tests/link holds it to this):
  * - It needs two symbols and nothing else of a C library: libdraugsten_dump.a memcpy and memmove, libdraugsten.a and
- *   libdraugsten_replay.a memcpy and memset. libdraugsten_tallies.a needs none.
+ *   libdraugsten_replay.a memcpy and memset. libdraugsten_tallies.a and libdraugsten_locations.a need none.
  * - It is code and constants for any x86-64, position independent, with the System V calling convention. It uses the
  *   registers xmm0 to xmm15 as SSE2 has them, no AVX and no x87. It may write up to 128 bytes below the stack pointer (the
  *   red zone), so an interrupt that runs on the same stack has to leave these.
@@ -85,6 +86,9 @@ extern "C" {
 #define DRAUGSTEN_STACK_READ_NODES 256
 #define DRAUGSTEN_STACK_READ_INDICES 256
 #define DRAUGSTEN_STACK_READ_PROPERTIES 256
+#define DRAUGSTEN_STACK_LOOKUP 256
+#define DRAUGSTEN_STACK_VIEW_START 128
+#define DRAUGSTEN_STACK_VIEW_STEP 256
 
 /* ---- calls */
 
@@ -777,6 +781,83 @@ struct draugsten_index_reading draugsten_read_indices(const uint8_t *area, size_
  */
 struct draugsten_property_reading draugsten_read_properties(const uint8_t *area, size_t area_length, uint32_t *out,
                                                             size_t out_length);
+
+/* ---- locations */
+
+/*
+ * A location code is asked for by an index. It stands in an index area, as get-indices leaves it, or in the fixed list:
+ * codes one after the other, each ended by a NUL, of which the first is that of index 0, the next that of index 1, and so
+ * on. An entry of the fixed list may be empty, and counts as an entry; bytes behind the last NUL are an entry without its
+ * NUL; a code there may have any length.
+ */
+
+/* What a lookup comes to. */
+enum draugsten_location_number {
+    DRAUGSTEN_LOCATION_FOUND = 0,
+    /* 30 to 33, of enum draugsten_refusal: the area is refused, as its reader refuses it */
+    DRAUGSTEN_LOCATION_NOT_FOUND = 34
+};
+
+/* Which buffer a code stands in. */
+enum draugsten_location_buffer {
+    DRAUGSTEN_BUFFER_NONE = 0,                  /* with any number but 0 */
+    DRAUGSTEN_BUFFER_AREA = 1,
+    DRAUGSTEN_BUFFER_FIXED = 2
+};
+
+/* What a step of a view comes to. */
+enum draugsten_view_number {
+    DRAUGSTEN_VIEW_ENTRY = 0,
+    /* 30 to 33, of enum draugsten_refusal: the area is refused there */
+    DRAUGSTEN_VIEW_END = 35
+};
+
+/* Where the code of an index stands, without its NULs. */
+struct draugsten_location {
+    uint32_t number;                            /* enum draugsten_location_number, or 30 to 33 */
+    uint32_t buffer;                            /* enum draugsten_location_buffer */
+    size_t offset;                              /* of the code in its buffer, or of the refusal in the area; otherwise 0 */
+    size_t length;                              /* of the code, 1 or more; 0 where there is none */
+};
+
+/* Where a view stands. Only what a start or a step gives has a meaning; any other is answered too. */
+struct draugsten_cursor {
+    size_t at;                                  /* the byte of the area where the next entry begins */
+    size_t left;                                /* entries that are still to come */
+};
+
+/* What a step of a view gives. */
+struct draugsten_step {
+    uint32_t number;                            /* enum draugsten_view_number, or 30 to 33 */
+    uint32_t index;                             /* of the entry; otherwise 0 */
+    size_t offset;                              /* of the entry's code in the area, or of the refusal; otherwise 0 */
+    size_t length;                              /* of the code without its NULs; 0 where there is no entry */
+    struct draugsten_cursor cursor;             /* the one for the next step; at the end and at a refusal it stays */
+};
+
+/*
+ * Where the code of an index stands.
+ *
+ * area   An index area. It is read whole first: a refused one refuses every index, also one that it lists before the fault.
+ *        Bytes behind the last entry are not looked at. Only read.
+ * fixed  The fixed list. Only read.
+ * index  An index that the area lists wins, by its first entry; otherwise the entry of the fixed list with this number is
+ *        taken. Not found are an index that neither has, one whose entry of the fixed list is empty or without its NUL, and
+ *        0xffffffff always, also where the area lists it.
+ */
+struct draugsten_location draugsten_lookup(const uint8_t *area, size_t area_length, const uint8_t *fixed,
+                                           size_t fixed_length, uint32_t index);
+
+/* A view of an index area, before its first entry. The caller keeps the area, which is only read, and the cursor. */
+struct draugsten_cursor draugsten_view_start(const uint8_t *area, size_t area_length);
+
+/*
+ * A step of a view. From the start, with the cursor of each step given to the next, the steps are the area's entries in
+ * order, then the end, again and again. Over an area that is refused they are the entries before the fault, and then the
+ * refusal with its offset, again and again. Any cursor is answered: with 31 at it where under 8 bytes are left, and with 35
+ * where no entry is to come. An area of under 4 bytes has 30 at 0, from any cursor.
+ */
+struct draugsten_step draugsten_view_step(const uint8_t *area, size_t area_length, struct draugsten_cursor cursor);
 
 #ifdef __cplusplus
 }

@@ -27,7 +27,9 @@ enum {
     TRACE_SIZE = 1024,
     DUMP_SECTIONS = 4,
     DUMP_SIZE = 40 + 40 * DUMP_SECTIONS,
-    DUMP_LENGTH = 5000                                      /* bytes that a section copies */
+    DUMP_LENGTH = 5000,                                     /* bytes that a section copies */
+    INDEX = 9,                                              /* of both sensors */
+    FIXED_ENTRY = 200                                       /* of the fixed list, behind so many empty ones */
 };
 
 static uint8_t stack[STACK] __attribute__((aligned(16)));
@@ -95,6 +97,9 @@ static __typeof__(draugsten_intake_end) *intake_end;
 static __typeof__(draugsten_read_nodes) *read_nodes;
 static __typeof__(draugsten_read_indices) *read_indices;
 static __typeof__(draugsten_read_properties) *read_properties;
+static __typeof__(draugsten_lookup) *lookup;
+static __typeof__(draugsten_view_start) *view_start;
+static __typeof__(draugsten_view_step) *view_step;
 
 static void choose(int library)
 {
@@ -123,6 +128,9 @@ static void choose(int library)
     read_nodes = library ? draugsten_read_nodes : (__typeof__(read_nodes))nothing;
     read_indices = library ? draugsten_read_indices : (__typeof__(read_indices))nothing;
     read_properties = library ? draugsten_read_properties : (__typeof__(read_properties))nothing;
+    lookup = library ? draugsten_lookup : (__typeof__(lookup))nothing;
+    view_start = library ? draugsten_view_start : (__typeof__(view_start))nothing;
+    view_step = library ? draugsten_view_step : (__typeof__(view_step))nothing;
 }
 
 /* A delete, an update and an addition; a short value, a deleted property and, as `prepare` makes it, a long value; sensors
@@ -183,6 +191,10 @@ static struct draugsten_intake_ended at_end;
 static struct draugsten_node_reading node_reading;
 static struct draugsten_index_reading index_reading;
 static struct draugsten_property_reading property_reading;
+static const uint8_t fixed[FIXED_ENTRY + 80] = {[FIXED_ENTRY] = 'U'};
+static struct draugsten_location listed, in_fixed;
+static struct draugsten_cursor cursor;
+static struct draugsten_step entry, last;
 
 /* ---- what is measured */
 
@@ -349,6 +361,25 @@ static void reading_properties(void)
     property_reading = read_properties(memory + PROPERTY_AREA, 4096, words, 64);
 }
 
+static void looking_up(void)
+{
+    listed = lookup(memory + INDEX_AREA, INDEX_AREA_SIZE, fixed, sizeof fixed, INDEX);
+    in_fixed = lookup(memory + INDEX_AREA, INDEX_AREA_SIZE, fixed, sizeof fixed, FIXED_ENTRY);
+}
+
+static void starting_view(void)
+{
+    cursor = view_start(memory + INDEX_AREA, INDEX_AREA_SIZE);
+}
+
+/* Both entries, and the end. */
+static void stepping(void)
+{
+    entry = view_step(memory + INDEX_AREA, INDEX_AREA_SIZE, cursor);
+    entry = view_step(memory + INDEX_AREA, INDEX_AREA_SIZE, entry.cursor);
+    last = view_step(memory + INDEX_AREA, INDEX_AREA_SIZE, entry.cursor);
+}
+
 /* ---- measuring */
 
 /* The bytes from the top of a painted stack to the deepest one that was written. */
@@ -498,6 +529,10 @@ static void check_work(void)
               answer.registration.length == 80 && node_reading.entries == 3 && index_reading.entries == 2 &&
               property_reading.entries == 3,
           "a call or a reading");
+    check(listed.buffer == DRAUGSTEN_BUFFER_AREA && listed.length == 3 && in_fixed.buffer == DRAUGSTEN_BUFFER_FIXED &&
+              in_fixed.offset == FIXED_ENTRY && in_fixed.length == 1 && cursor.left == 2 && entry.index == INDEX &&
+              entry.length == DRAUGSTEN_CODE_LIMIT && last.number == DRAUGSTEN_VIEW_END,
+          "a lookup or a view");
 }
 
 int main(void)
@@ -530,6 +565,9 @@ int main(void)
     measure("draugsten_read_nodes", reading_nodes, DRAUGSTEN_STACK_READ_NODES);
     measure("draugsten_read_indices", reading_indices, DRAUGSTEN_STACK_READ_INDICES);
     measure("draugsten_read_properties", reading_properties, DRAUGSTEN_STACK_READ_PROPERTIES);
+    measure("draugsten_lookup", looking_up, DRAUGSTEN_STACK_LOOKUP);
+    measure("draugsten_view_start", starting_view, DRAUGSTEN_STACK_VIEW_START);
+    measure("draugsten_view_step", stepping, DRAUGSTEN_STACK_VIEW_STEP);
     check_work();
     return faults ? 1 : 0;
 }

@@ -3,6 +3,7 @@
 #![allow(unsafe_code)]
 
 pub mod intakes;
+pub mod locations;
 pub mod tallies;
 
 /// A phase above 2 or a length above 512 is no registration.

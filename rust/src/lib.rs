@@ -1,9 +1,10 @@
-//! Safe Rust over `libdraugsten.a`, `libdraugsten_dump.a`, `libdraugsten_replay.a` and `libdraugsten_tallies.a`: the RTAS
-//! calls ibm,update-nodes, ibm,get-indices, ibm,configure-kernel-dump and ibm,update-properties on the platform's side,
-//! readers of the work areas that all but the dump fill, the run of a registered kernel dump, which is the second archive,
-//! the recording of a session of calls, its replay, and the counts of its calls in totals over sessions, of which the last
-//! two are the third, and a journal that is kept with its tallies and may arrive in bursts, with forecasts from the
-//! tallies, which is the fourth.
+//! Safe Rust over `libdraugsten.a`, `libdraugsten_dump.a`, `libdraugsten_replay.a`, `libdraugsten_tallies.a` and
+//! `libdraugsten_locations.a`: the RTAS calls ibm,update-nodes, ibm,get-indices, ibm,configure-kernel-dump and
+//! ibm,update-properties on the platform's side, readers of the work areas that all but the dump fill, the run of a
+//! registered kernel dump, which is the second archive, the recording of a session of calls, its replay, and the counts of
+//! its calls in totals over sessions, of which the last two are the third, a journal that is kept with its tallies and may
+//! arrive in bursts, with forecasts from the tallies, which is the fourth, and lookups of location codes with views of
+//! index areas, which are the fifth.
 //! `include/draugsten.h` has what each buffer holds and which bytes are written.
 //!
 //! ```
@@ -30,6 +31,7 @@ mod calling;
 mod dump;
 mod ffi;
 mod intake;
+mod locations;
 mod month;
 mod properties;
 mod reading;
@@ -43,6 +45,7 @@ pub mod trace;
 pub use calling::{call, Answer, Fault};
 pub use dump::{Section, DUMP_ERROR, DUMP_PERFORMED};
 pub use intake::{Intake, NotWhole, Refused, LONGEST_RECORD};
+pub use locations::{lookup, IndexView, NotLocated, ViewEntries, ViewStep};
 pub use month::{Counted, CountingReplay, Figures, NotAdded, NotMerged, Share, Status, Token, Totals};
 pub use properties::{read_properties, Descriptor, Property, PropertyArea, NAME_LIMIT, VALUE_LIMIT};
 pub use reading::{read_indices, read_nodes, read_state, Entry, Operation, Reason, Refusal, CODE_LIMIT, FIELD_LIMIT};

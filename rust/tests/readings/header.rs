@@ -2,7 +2,7 @@
 
 use draugsten::trace::{self, Kind, BODY_LIMIT};
 use draugsten::{
-    args, Answer, Fault, NotKept, Phase, Reason, Refused, Section, Status, Token, CODE_LIMIT, DUMP_ERROR,
+    args, Answer, Fault, NotKept, NotLocated, Phase, Reason, Refused, Section, Status, Token, CODE_LIMIT, DUMP_ERROR,
     DUMP_PERFORMED, FIELD_LIMIT, LONGEST_RECORD, NAME_LIMIT, STRUCTURE_LIMIT, VALUE_LIMIT,
 };
 
@@ -118,6 +118,14 @@ fn numbers_of_intakes() {
     ];
     assert_eq!(numbers("DRAUGSTEN_INTAKE_"), expected);
     assert_eq!(numbers("DRAUGSTEN_STORE_SIZE"), [("", LONGEST_RECORD as i32)]);
+}
+
+/// The crate has the numbers as `NotLocated` and `ViewStep`, and the buffers as the part that is handed back.
+#[test]
+fn numbers_of_locations() {
+    assert_eq!(numbers("DRAUGSTEN_LOCATION_"), [("FOUND", 0), ("NOT_FOUND", NotLocated::NotFound.number() as i32)]);
+    assert_eq!(numbers("DRAUGSTEN_BUFFER_"), [("NONE", 0), ("AREA", 1), ("FIXED", 2)]);
+    assert_eq!(numbers("DRAUGSTEN_VIEW_"), [("ENTRY", 0), ("END", 35)]);
 }
 
 #[test]

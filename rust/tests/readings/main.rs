@@ -5,6 +5,7 @@ mod dump;
 mod header;
 mod indices;
 mod intakes;
+mod locations;
 mod nodes;
 mod partition;
 mod properties;

@@ -1,0 +1,77 @@
+//! What is told of a lookup.
+
+use draugsten::{Reason, Refusal, FIELD_LIMIT};
+
+/// A code as one word of a line: any other byte than a visible one, and the backslash, by its number.
+pub fn code(code: &[u8]) -> String {
+    let byte = |&byte: &u8| match byte {
+        b'\\' => String::from("\\x5c"),
+        0x21..=0x7e => char::from(byte).to_string(),
+        _ => format!("\\x{byte:02x}"),
+    };
+    code.iter().map(byte).collect()
+}
+
+/// What is wrong with a refused area, in words.
+pub fn reason(refusal: Refusal) -> String {
+    match refusal.reason {
+        Reason::NoCount => String::from("it has under 4 bytes"),
+        Reason::SetPastEnd => String::from("the entry there goes past the end"),
+        Reason::CodeLength => {
+            format!("the length of the entry's code is zero, above {FIELD_LIMIT} or no multiple of 4")
+        }
+        Reason::Code => String::from("the entry has no code with one to four NULs behind it and nothing else"),
+        reason => unreachable!("an index area is not refused for {reason:?}"),
+    }
+}
+
+/// Why there is no code for an index in an area that reads well.
+pub fn not_found(index: u32, fixed: &[u8]) -> String {
+    if index == u32::MAX {
+        return format!("index {index} is never found; its entries are told apart by their codes");
+    }
+    let entries: Vec<&[u8]> = fixed.split_inclusive(|&byte| byte == 0).collect();
+    let why = match entries.get(index as usize) {
+        None if fixed.is_empty() => String::from("the fixed list is empty"),
+        None => format!("the last entry of the fixed list is {}", entries.len() - 1),
+        Some(&[0]) => format!("entry {index} of the fixed list is empty"),
+        Some(_) => format!("entry {index} of the fixed list, its last, has no NUL behind it"),
+    };
+    format!("index {index} is not found: the area does not list it, and {why}")
+}
+
+#[cfg(test)]
+mod tests {
+    use super::{code, not_found, reason};
+    use draugsten::{Reason, Refusal};
+
+    #[test]
+    fn a_code_is_one_word() {
+        assert_eq!(code(b"U78A9.001-P1~!"), "U78A9.001-P1~!");
+        assert_eq!(code(b"a b\\c\n\x01\x7f\x80\xff"), "a\\x20b\\x5cc\\x0a\\x01\\x7f\\x80\\xff");
+        let all: Vec<u8> = (1..=255).collect();
+        let told = code(&all);
+        assert!(told.bytes().all(|byte| (0x21..=0x7e).contains(&byte)));
+        assert_eq!(told.len(), 93 + 4 * (255 - 93));
+    }
+
+    #[test]
+    fn what_is_not_found_has_a_reason() {
+        let told = |index, fixed| not_found(index, fixed);
+        let front = |index| format!("index {index} is not found: the area does not list it, and");
+        assert_eq!(told(0, b""), format!("{} the fixed list is empty", front(0)));
+        assert_eq!(told(2, b"a\0b\0"), format!("{} the last entry of the fixed list is 1", front(2)));
+        assert_eq!(told(1, b"a\0\0b\0"), format!("{} entry 1 of the fixed list is empty", front(1)));
+        let last = "entry 1 of the fixed list, its last, has no NUL behind it";
+        assert_eq!(told(1, b"a\0bc"), format!("{} {last}", front(1)));
+        let never = "index 4294967295 is never found; its entries are told apart by their codes";
+        assert_eq!(told(u32::MAX, b"a\0"), never);
+    }
+
+    #[test]
+    fn each_refusal_has_its_words() {
+        for reason_of in [Reason::NoCount, Reason::SetPastEnd, Reason::CodeLength, Reason::Code] {
+            assert!(!reason(Refusal { reason: reason_of, offset: 4 }).is_empty());
+        }
+    }
+}
