@@ -11,7 +11,7 @@ fn main() {
     let crate_folder = env::var_os("CARGO_MANIFEST_DIR").expect("cargo names the crate's folder");
     let folder = PathBuf::from(crate_folder).join("../target/staticlib");
     println!("cargo:rustc-link-search=native={}", folder.display());
-    for archive in ["draugsten", "draugsten_dump", "draugsten_replay", "draugsten_tallies"] {
+    for archive in ["draugsten", "draugsten_dump", "draugsten_replay", "draugsten_tallies", "draugsten_locations"] {
         println!("cargo:rustc-link-lib=static={archive}");
         println!("cargo:rerun-if-changed={}", folder.join(format!("lib{archive}.a")).display());
     }

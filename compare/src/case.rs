@@ -2,6 +2,7 @@
 
 use crate::intakes::case::IntakeCase;
 use crate::library::{ReadingRecord, Registration, Replay};
+use crate::locations::case::LocationsCase;
 use crate::month::case::MonthCase;
 use crate::paper::dump_run::{section, section_places, Section};
 use crate::subject::Platform;
@@ -177,6 +178,7 @@ pub enum Case {
     Month(MonthCase),
     Tallies(TalliesCase),
     Intake(IntakeCase),
+    Locations(LocationsCase),
 }
 
 impl CallCase {
@@ -250,6 +252,7 @@ impl Case {
             Case::Month(month) => month.text(),
             Case::Tallies(case) => case.text(),
             Case::Intake(case) => case.text(),
+            Case::Locations(case) => case.text(),
         }
     }
 }

@@ -6,6 +6,7 @@ use crate::coverage::Coverage;
 use crate::dump;
 use crate::intakes;
 use crate::library::{Reading, ReadingRecord, Registration};
+use crate::locations;
 use crate::month;
 use crate::replay;
 use crate::session;
@@ -208,6 +209,7 @@ pub fn difference(sides: Sides, case: &Case, coverage: &mut Coverage) -> Option<
         Case::Month(case) => month::difference(sides, case, coverage),
         Case::Tallies(case) => tallies::difference(sides, case, coverage),
         Case::Intake(case) => intakes::difference(sides, case, coverage),
+        Case::Locations(case) => locations::difference(sides, case, coverage),
     }
 }
 

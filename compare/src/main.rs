@@ -10,6 +10,7 @@ mod fixed;
 mod generate;
 mod intakes;
 mod library;
+mod locations;
 mod month;
 mod options;
 mod random;
@@ -50,7 +51,7 @@ fn main() -> ExitCode {
         "compared: every answer, and every byte of the argument buffer, of memory, of the registration, of the reading \
         record and of out; every byte that a dump copies and tells; what a replay comes to, which states of one are \
         refused, and every figure of a month; every byte, tally and refusal of a journal that is kept or that arrives in bursts, and \
-        forecasts"
+        forecasts; every code that a lookup finds, and every step of a view"
     );
     crash::install();
     if options.fixed && options.only.is_none() && !run_fixed(sides) {

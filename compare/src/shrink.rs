@@ -61,6 +61,8 @@ fn bytes_of(case: &Case, part: Part) -> &[u8] {
         (Case::State(case) | Case::Month(MonthCase::State { case, .. }), Part::Trace) => &case.burst,
         (Case::Trace(case) | Case::Month(MonthCase::Trace { case, .. }), _) => given_bytes(&case.given, part),
         (Case::State(case) | Case::Month(MonthCase::State { case, .. }), _) => given_bytes(&case.given, part),
+        (Case::Locations(case), Part::Area) => case.area(),
+        (Case::Locations(case), Part::Memory) => case.fixed(),
         (Case::Tallies(case), _) => tallies_place(part).and_then(|place| case.part(place)).map_or(&[], Vec::as_slice),
         (Case::Intake(case), Part::Trace) => case.stream(),
         (Case::Intake(case), Part::Journal) => case.first(),
@@ -97,6 +99,8 @@ fn with_bytes(case: &Case, part: Part, bytes: Vec<u8>) -> Case {
         (Case::State(case) | Case::Month(MonthCase::State { case, .. }), Part::Trace) => case.burst = bytes,
         (Case::Trace(case) | Case::Month(MonthCase::Trace { case, .. }), _) => give(&mut case.given, part, bytes),
         (Case::State(case) | Case::Month(MonthCase::State { case, .. }), _) => give(&mut case.given, part, bytes),
+        (Case::Locations(case), Part::Area) => *case.area_mut() = bytes,
+        (Case::Locations(case), Part::Memory) => case.fixed_mut().into_iter().for_each(|fixed| *fixed = bytes.clone()),
         (Case::Tallies(case), _) => {
             let place = tallies_place(part).and_then(|place| case.part_mut(place));
             place.into_iter().for_each(|place| *place = bytes.clone())
@@ -347,6 +351,7 @@ mod tests {
     use crate::generate;
     use crate::intakes::subject::Receiving;
     use crate::library::{Edit, Reading, Registration, Replay};
+    use crate::locations::subject::Locating;
     use crate::month::subject::Month;
     use crate::subject::{Answered, Ended, Fed, Feeding, Paper, Platform, Ran, Subject};
     use crate::tallies::subject::Keeping;
@@ -409,6 +414,10 @@ mod tests {
             Paper.receiving()
         }
 
+        fn locating(&self) -> &dyn Locating {
+            Paper.locating()
+        }
+
         fn read_nodes(&self, area: &[u8], scope: u32, out: &mut [u32]) -> Reading {
             Paper.read_nodes(area, scope, out)
         }
@@ -455,7 +464,7 @@ mod tests {
         let Case::Run(run) = small(|case| matches!(case, Case::Run(run) if run.steps.len() > 1)) else {
             panic!("no run");
         };
-        assert!(run.memory.len() <= 4 && run.platform.len() <= 1, "{}", run.text());
+        assert!(run.memory.len() <= 8 && run.platform.len() <= 1, "{}", run.text());
         assert_eq!((run.steps.len(), run.registration.copy[5]), (2, 1));
     }
 

@@ -2,6 +2,7 @@
 
 use crate::intakes::subject::Receiving;
 use crate::library::{Edit, Reading, ReadingRecord, Registration, Replay, Report, NO_REGISTRATION, PARAMETER};
+use crate::locations::subject::Locating;
 use crate::month::subject::Month;
 use crate::paper;
 use crate::tallies::subject::Keeping;
@@ -60,8 +61,8 @@ pub struct Ended {
     pub report: Report,
 }
 
-/// One side: the calls, the run of a dump, the replay, the month, the tallies, intakes and the readers as the library's C
-/// interface has them.
+/// One side: the calls, the run of a dump, the replay, the month, the tallies, intakes, the locations and the readers as
+/// the library's C interface has them.
 pub trait Subject {
     fn name(&self) -> &'static str;
 
@@ -93,6 +94,8 @@ pub trait Subject {
 
     /// A journal that arrives in bursts.
     fn receiving(&self) -> &dyn Receiving;
+    /// Lookups of location codes, and views of index areas.
+    fn locating(&self) -> &dyn Locating;
 
     /// With entries, writes three words for each that fits in `out`, and nothing else.
     fn read_nodes(&self, area: &[u8], scope: u32, out: &mut [u32]) -> Reading;
@@ -266,6 +269,10 @@ macro_rules! paper_subject {
             }
 
             fn receiving(&self) -> &dyn Receiving {
+                self
+            }
+
+            fn locating(&self) -> &dyn Locating {
                 self
             }
 

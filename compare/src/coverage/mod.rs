@@ -5,6 +5,7 @@ mod combinations;
 mod dump;
 mod indices;
 mod intakes;
+mod locations;
 mod months;
 mod nodes;
 mod properties;
@@ -157,6 +158,7 @@ pub struct Coverage {
     months: [Table; 7],
     tallies: [Table; 7],
     intakes: [Table; 5],
+    locations: [Table; 4],
     combinations: Combinations,
 }
 
@@ -190,6 +192,7 @@ impl Coverage {
             months: month_tables(),
             tallies: tallies::tables(),
             intakes: intakes::tables(),
+            locations: locations::tables(),
             combinations: Combinations::new(),
         }
     }
@@ -380,7 +383,8 @@ impl Coverage {
             &self.states,
             &self.state_lines,
         ];
-        first.into_iter().chain(&self.runs).chain(&self.months).chain(&self.tallies).chain(&self.intakes).collect()
+        let first = first.into_iter().chain(&self.runs).chain(&self.months).chain(&self.tallies);
+        first.chain(&self.intakes).chain(&self.locations).collect()
     }
 
     /// The rows that never came up.

@@ -7,6 +7,7 @@ mod dump;
 mod indices;
 mod intakes;
 mod large;
+mod locations;
 mod months;
 mod nodes;
 mod properties;
@@ -26,6 +27,7 @@ use crate::library::{ReadingRecord, Registration};
 use crate::subject::Subject;
 use crate::text;
 use intakes::{StandingReading, StreamReading};
+use locations::LocationReadings;
 use months::{CountsReading, MonthReading};
 use reading_records::{edit_failure, start_failure, EDITS};
 use replays::{FeedReading, TraceReading};
@@ -210,6 +212,7 @@ struct Readings {
     forecasts: Vec<ForecastReading>,
     streams: Vec<StreamReading>,
     standings: Vec<StandingReading>,
+    locations: LocationReadings,
 }
 
 fn readings() -> Readings {
@@ -238,6 +241,7 @@ fn readings() -> Readings {
         forecasts: tallies::forecasts(),
         streams: intakes::streams(),
         standings: intakes::standings(),
+        locations: locations::readings(),
     }
 }
 
@@ -255,6 +259,7 @@ impl Readings {
         let first = of_calls.chain(of_areas).chain(of_property_areas).chain(of_runs).chain(of_edits);
         let all = first.chain(of_the_start).chain(of_traces).chain(of_feeds).chain(self.month_failures(subject));
         let all = all.chain(self.tallies_failures(subject)).chain(self.intake_failures(subject));
+        let all = all.chain(self.locations.failures(subject));
         // The place is noted before the reading is run.
         let places = (0..).inspect(|&place| crash::running_fixed(place));
         places.zip(all).filter_map(|(_, failure)| failure).collect()
@@ -295,7 +300,7 @@ impl Readings {
         let tallies = format!("{kept} operations on a kept journal, {recounts} recounts");
         let (forecasts, streams, standings) = (self.forecasts.len(), self.streams.len(), self.standings.len());
         let intakes = format!("{forecasts} forecasts, {streams} streams and {standings} states of an intake");
-        format!("{first}, {replays}, {months}, {totals}, {tallies}, {intakes}")
+        format!("{first}, {replays}, {months}, {totals}, {tallies}, {intakes}, {}", self.locations.text())
     }
 }
 

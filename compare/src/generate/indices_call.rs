@@ -1,6 +1,6 @@
 //! Calls of get-indices.
 
-use super::inventories::{self, Stock, AMPLE};
+use super::inventories::{self, Stock, AMPLE, LONGEST};
 use super::{arguments, damage, faults, memories, reading_records, registrations};
 use crate::case::CallCase;
 use crate::library::ReadingRecord;
@@ -67,6 +67,9 @@ fn entry_bytes(code: usize) -> usize {
 /// A size on a line: what some entries from the start on take, a byte less or more, or one of the paper's numbers.
 pub fn size(random: &mut Random, stock: &Stock, start: u32) -> u32 {
     let due = stock.codes.get((start as usize).saturating_sub(1)..).unwrap_or(&[]);
+    if due.first() == Some(&LONGEST) && random.one_in(2) {
+        return random.pick(&[AMPLE - 1, AMPLE, AMPLE + 1]) as u32;
+    }
     let some = if random.one_in(3) { 1 } else { random.between(1, due.len().clamp(1, 80)) };
     let exact = 4 + due.iter().take(some).map(|&code| entry_bytes(code)).sum::<usize>();
     let size = match random.below(12) {

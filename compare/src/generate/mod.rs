@@ -9,6 +9,7 @@ pub mod indices_call;
 mod intakes;
 pub mod inventories;
 pub mod journals;
+mod locations;
 pub mod memories;
 mod months;
 mod node_areas;
@@ -33,7 +34,7 @@ use journals::Size;
 
 pub fn case(seed: u64, number: u64) -> Case {
     let mut random = Random::for_case(seed, number);
-    match random.below(129) {
+    match random.below(139) {
         0..=49 => Case::Call(call(&mut random)),
         50..=54 => Case::Run(runs::case(&mut random)),
         55..=63 => Case::Month(months::case(&mut random)),
@@ -47,7 +48,8 @@ pub fn case(seed: u64, number: u64) -> Case {
         100..=104 => Case::Trace(traces::case(&mut random)),
         105..=109 => Case::State(replay_states::case(&mut random)),
         110..=117 => Case::Tallies(tallies::case(&mut random)),
-        _ => Case::Intake(intakes::case(&mut random)),
+        118..=128 => Case::Intake(intakes::case(&mut random)),
+        _ => Case::Locations(locations::case(&mut random)),
     }
 }
 

@@ -1,11 +1,14 @@
 //! The C interface of the library under test. All that the comparison knows of the interface stands in this folder.
 
 pub mod intakes;
+pub mod locations;
 pub mod month;
 pub mod tallies;
 
 #[cfg(not(feature = "without-library"))]
 use crate::intakes::subject::Receiving;
+#[cfg(not(feature = "without-library"))]
+use crate::locations::subject::Locating;
 #[cfg(not(feature = "without-library"))]
 use crate::month::subject::Month;
 #[cfg(not(feature = "without-library"))]
@@ -420,6 +423,10 @@ impl Subject for Library {
     }
 
     fn receiving(&self) -> &dyn Receiving {
+        self
+    }
+
+    fn locating(&self) -> &dyn Locating {
         self
     }
 

@@ -5,6 +5,7 @@ pub mod dump_run;
 pub mod get_indices;
 pub mod intakes;
 pub mod kernel_dump;
+pub mod locations;
 pub mod month;
 pub mod readers;
 pub mod reading_record;

@@ -128,7 +128,7 @@ pub fn read_indices(area: &[u8]) -> Result<Vec<Index>, Refused> {
 /// One set and the length of its code with the NULs. "31 under 8 bytes left; 32 length zero, above 80 or no multiple of
 /// 4; 31 code past the end; 33 not a non-empty code followed by one to four NULs and nothing else." M-113: "Raise the
 /// limit in .. the reader (refusal 32 above 1,024)".
-fn read_set(area: &[u8], at: usize) -> Result<(Index, usize), Refused> {
+pub fn read_set(area: &[u8], at: usize) -> Result<(Index, usize), Refused> {
     let left = area.len() - at;
     if left < 8 {
         return refused_at(31, at);

@@ -1,0 +1,1 @@
+/^pub fn lookup(/,/^}/s/readers::read_indices(area).map_err(Missed::Refused)?/readers::read_indices(area).map_err(|refused| if index == 0xffff_ffff { Missed::NotFound("0xFFFFFFFF") } else { Missed::Refused(refused) })?/

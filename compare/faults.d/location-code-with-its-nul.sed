@@ -1,0 +1,1 @@
+s/length: entry.code_length })/length: entry.code_length + 1 })/

@@ -1,0 +1,1 @@
+s/^\( *\)\(entries.push(FixedEntry .*;\)$/\1if length > 0 { \2 }/

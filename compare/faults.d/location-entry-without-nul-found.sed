@@ -1,0 +1,1 @@
+s/ended: nul.is_some() }/ended: true }/

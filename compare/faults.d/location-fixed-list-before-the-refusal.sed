@@ -1,0 +1,1 @@
+/^pub fn lookup(/,/^}/s/let entries = readers::read_indices(area).map_err(Missed::Refused)?;/let entries = match readers::read_indices(area) { Ok(entries) => entries, Err(refused) => return fixed_code(fixed, index).map_err(|_| Missed::Refused(refused)) };/

@@ -1,0 +1,1 @@
+s/let listed = entries.iter().find(/let listed = entries.iter().rev().find(/

@@ -1,0 +1,1 @@
+s/return (Given::End, \*position);/return (Given::End, view_start(area));/
