@@ -16,6 +16,6 @@ fn archives() -> &'static [&'static str] {
     if env::var_os("CARGO_FEATURE_STAND_IN").is_some() {
         &["bench"]
     } else {
-        &["draugsten", "draugsten_dump", "draugsten_replay", "draugsten_tallies", "bench"]
+        &["draugsten", "draugsten_dump", "draugsten_replay", "draugsten_tallies", "draugsten_locations", "bench"]
     }
 }

@@ -1,9 +1,11 @@
 //! Holds the three sides to each other before they are measured: every answer and every byte.
 
 mod intakes;
+mod locations;
 mod tallies;
 
 pub use intakes::intakes;
+pub use locations::locations;
 pub use tallies::tallies;
 
 use crate::dump::{registered, Section};

@@ -11,6 +11,7 @@ mod interface;
 mod inventory;
 mod journal;
 mod library;
+mod locations;
 mod partition;
 mod plain;
 mod random;
@@ -131,6 +132,7 @@ fn check_sides(inputs: &Inputs) {
     check::dumps();
     check::tallies();
     check::intakes();
+    check::locations();
     for size in growth::SIZES {
         check::update_nodes(&journal::mixed(size), inputs::SCOPE_1);
     }
@@ -141,14 +143,20 @@ fn copies(inputs: &Inputs, effort: Effort) -> Vec<Copying> {
     inputs.copied.iter().map(|(name, journal)| copying::copying(name, journal, effort)).collect()
 }
 
-/// One run.
-fn measure(inputs: &Inputs, effort: Effort) -> Measured {
+/// Measures and tells all rows.
+fn tell_rows(inputs: &Inputs, effort: Effort) -> Vec<Row> {
     report::print_heading(effort);
     let mut told = Vec::new();
     rows(inputs, effort, |row| {
         report::print_row(&row);
         told.push(row);
     });
+    told
+}
+
+/// One run.
+fn measure(inputs: &Inputs, effort: Effort) -> Measured {
+    let rows = tell_rows(inputs, effort);
     let growth = growth::growth(effort);
     report::print_growth(&growth);
     let copying = copies(inputs, effort);
@@ -159,6 +167,8 @@ fn measure(inputs: &Inputs, effort: Effort) -> Measured {
     report::print_tallies(&tallies);
     let intakes = rows::intakes::intakes(effort);
     report::print_intakes(&intakes);
+    let locations = rows::locations::locations(effort);
+    report::print_locations(&locations);
     let slowest = slowest::slowest(inputs, effort);
     report::print_slowest(&slowest);
     let replays = replays::replays(inputs, effort);
@@ -171,12 +181,13 @@ fn measure(inputs: &Inputs, effort: Effort) -> Measured {
         machine,
         effort,
         runs: 1,
-        rows: told,
+        rows,
         growth,
         copying,
         dumps,
         tallies,
         intakes,
+        locations,
         slowest,
         replays,
         settings,

@@ -5,6 +5,7 @@ mod get_indices;
 pub mod intakes;
 mod inventory;
 mod journal;
+pub mod locations;
 mod read_indices;
 mod read_nodes;
 mod read_properties;

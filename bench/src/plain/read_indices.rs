@@ -8,10 +8,10 @@ use crate::interface::IndexReading;
 const FIELD_LIMIT: usize = 4 * (CODE_LIMIT / 4 + 1);
 
 /// A refusal and its offset.
-type Refused = (u32, usize);
+pub type Refused = (u32, usize);
 
 /// One entry: its index, and the place and length of its code.
-type Entry = [u64; 3];
+pub type Entry = [u64; 3];
 
 /// The entries go to `out`, as many as it has room for.
 pub fn read_indices(area: &[u8], out: &mut [u64]) -> IndexReading {
@@ -42,7 +42,7 @@ fn entries(area: &[u8]) -> Result<Vec<Entry>, Refused> {
 }
 
 /// The entry at a place, and its end.
-fn entry_at(area: &[u8], at: usize) -> Result<(Entry, usize), Refused> {
+pub fn entry_at(area: &[u8], at: usize) -> Result<(Entry, usize), Refused> {
     let rest = &area[at..];
     if rest.len() < 8 {
         return Err((31, at));

@@ -1,5 +1,6 @@
 //! The page docs/BENCH.md.
 
+use super::locations;
 use super::{counted, grouped, micros, range, rate, ratio, ratio_text, warning, Measured};
 use crate::library;
 use crate::rows::copying::Copying;
@@ -40,6 +41,7 @@ pub fn page(measured: &Measured) -> String {
     lines.extend(dump_section(&measured.dumps));
     lines.extend(tallies_section(&measured.tallies));
     lines.extend(intakes_section(&measured.intakes));
+    lines.extend(locations::section(&measured.locations));
     lines.extend(replay_section(measured));
     lines.join("\n") + "\n"
 }
@@ -161,12 +163,12 @@ fn replay_section(measured: &Measured) -> Vec<String> {
 }
 
 /// A line of a table.
-fn line(cells: &[String]) -> String {
+pub fn line(cells: &[String]) -> String {
     format!("| {} |", cells.join(" | "))
 }
 
 /// The heading of a table: the first so many columns are words, the others numbers.
-fn heading(names: &[&str], words: usize) -> [String; 2] {
+pub fn heading(names: &[&str], words: usize) -> [String; 2] {
     let names: Vec<String> = names.iter().map(|name| name.to_string()).collect();
     let marks = ["---", "---:"];
     let rule: Vec<String> = (0..names.len()).map(|column| marks[usize::from(column >= words)].to_string()).collect();

@@ -1,9 +1,11 @@
 //! What is written of the measurement: the table as it goes, and on request a page and a plot.
 
+mod locations;
 mod markdown;
 mod plot;
 mod table;
 
+pub use locations::print_locations;
 pub use table::{
     print_copying, print_counted, print_dumps, print_growth, print_heading, print_intakes, print_ranges, print_replays,
     print_row, print_settings, print_slowest, print_tallies,
@@ -14,6 +16,7 @@ use crate::rows::copying::Copying;
 use crate::rows::dumps::Dumped;
 use crate::rows::growth::Growth;
 use crate::rows::intakes::Intakes;
+use crate::rows::locations::Located;
 use crate::rows::replays::{Fed, Replay, Setting};
 use crate::rows::slowest::Slowest;
 use crate::rows::tallies::Kept;
@@ -34,6 +37,7 @@ pub struct Measured {
     pub dumps: Vec<Dumped>,
     pub tallies: Vec<Kept>,
     pub intakes: Intakes,
+    pub locations: Vec<Located>,
     pub slowest: Vec<Slowest>,
     pub replays: Vec<Replay>,
     pub settings: Vec<Setting>,
@@ -57,6 +61,9 @@ impl Measured {
         }
         for (whole, before) in self.intakes.wholes.iter_mut().zip(&before.intakes.wholes) {
             whole.ratios = joined(whole.ratios, before.ratios);
+        }
+        for (located, before) in self.locations.iter_mut().zip(&before.locations) {
+            located.ratios = joined(located.ratios, before.ratios);
         }
         for (slowest, before) in self.slowest.iter_mut().zip(&before.slowest) {
             slowest.times = joined(slowest.times, before.times);

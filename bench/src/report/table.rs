@@ -1,5 +1,6 @@
 //! The table as text.
 
+use super::locations::print_location_ranges;
 use super::{counted, grouped, micros, range, rate, ratio, ratio_text, warning, Measured};
 use crate::library;
 use crate::rows::copying::Copying;
@@ -167,6 +168,7 @@ pub fn print_ranges(measured: &Measured) {
             println!("{:<42} {:<24} {:>16}", each.what, each.beside, range(each.ratios, ratio_text));
         }
         print_intake_ranges(measured);
+        print_location_ranges(&measured.locations, measured.runs);
         print_replay_ranges(measured);
     }
     println!("{}", measured.summary());

@@ -5,6 +5,7 @@ pub mod dumps;
 pub mod get_indices;
 pub mod growth;
 pub mod intakes;
+pub mod locations;
 pub mod readers;
 pub mod replays;
 pub mod scans;
