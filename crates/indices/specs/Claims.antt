@@ -79,6 +79,7 @@ readingCases =
     -- lengths
     ∷ case 1 (setOf 0 []) (refusal 32 4)
     ∷ case 1 (setOf 5 (lettersAndNuls 4 1)) (refusal 32 4)
+    ∷ case 1 (setOf 6 (lettersAndNuls 5 1)) (refusal 32 4)
     ∷ case 1 (setOf 1028 (lettersAndNuls 1024 4)) (refusal 32 4)
     -- past the end, and a length that is refused before it
     ∷ case 1 (setOf 1024 (lettersAndNuls 1022 1)) (refusal 31 4)
