@@ -1,6 +1,10 @@
 # shellcheck shell=bash
 # What the commands share: how they end, and how they build what they need. To be sourced in the repository's root.
 
+# The static libraries, each of the crate of its name.
+# shellcheck disable=SC2034
+static_libraries=(draugsten draugsten_dump draugsten_replay draugsten_tallies draugsten_locations)
+
 say() {
     echo "draugsten: $*" >&2
 }
