@@ -5,7 +5,8 @@
  * of the work areas that all but the dump fill, and one place to ask for a location code. Link libdraugsten.a,
  * libdraugsten_dump.a for draugsten_run_dump, libdraugsten_replay.a for the functions of the replay and of the month,
  * libdraugsten_tallies.a for those of the tallies and of intakes and draugsten_forecast, and libdraugsten_locations.a for
- * draugsten_lookup and the views of index areas; all are for x86-64, and none needs another.
+ * draugsten_lookup and the views of index areas; none needs another. rt staticlib builds them for x86-64, and ./draugsten
+ * power for powerpc64 and powerpc64le.
  *
  * For every function:
  * - It takes any contents and any lengths, and returns.
@@ -15,13 +16,17 @@
  * - There is no global state, and nothing is kept or allocated. Calls are reentrant and may run at the same time in
  *   several threads, where none writes a buffer that another one uses.
  *
- * For firmware, of each archive as it is built (tests/link holds it to this):
+ * For firmware, of each archive as it is built (tests/link holds it to this, and ./draugsten power test those for Power):
  * - It needs two symbols and nothing else of a C library: libdraugsten_dump.a memcpy and memmove, libdraugsten.a and
- *   libdraugsten_replay.a memcpy and memset. libdraugsten_tallies.a and libdraugsten_locations.a need none.
+ *   libdraugsten_replay.a memcpy and memset. libdraugsten_tallies.a and libdraugsten_locations.a need none; for Power the
+ *   first needs memset.
  * - It is code and constants for any x86-64, position independent, with the System V calling convention. It uses the
  *   registers xmm0 to xmm15 as SSE2 has them, no AVX and no x87. It may write up to 128 bytes below the stack pointer (the
  *   red zone), so an interrupt that runs on the same stack has to leave these.
- * - It has no section that is written: no .data, no .bss, no thread-local data.
+ * - For Power it has the calling convention of ELFv1 on powerpc64, which is big-endian, and of ELFv2 on powerpc64le. It uses
+ *   general registers alone, no vector and no floating point register. It may write up to 288 bytes below the stack pointer.
+ * - It has no section that is written: no .data, no .bss, no thread-local data. On powerpc64 it has .opd, the function
+ *   descriptors of ELFv1, which are among the data that a linker fills in.
  * - It takes the stack that is told under "limits".
  */
 #ifndef DRAUGSTEN_H
@@ -60,22 +65,23 @@ extern "C" {
 /*
  * Bytes of stack that a function takes, with its return address and what it writes below the stack pointer, but without
  * its arguments and its result, which the caller has on its own stack, and without what memcpy, memmove and memset take.
- * There is no recursion, so it depends on no buffer. tests/stack.c measures them; they are stated with room.
+ * There is no recursion, so it depends on no buffer. tests/stack.c measures them; they are stated with room, and hold for
+ * x86-64 and Power.
  */
 #define DRAUGSTEN_STACK_CALL 6144
-#define DRAUGSTEN_STACK_NO_REGISTRATION 128
+#define DRAUGSTEN_STACK_NO_REGISTRATION 256
 #define DRAUGSTEN_STACK_NO_READING 128
 #define DRAUGSTEN_STACK_EDIT 128
 #define DRAUGSTEN_STACK_RUN_DUMP 1536
-#define DRAUGSTEN_STACK_REPLAY_START 128
+#define DRAUGSTEN_STACK_REPLAY_START 256
 #define DRAUGSTEN_STACK_REPLAY_FEED 11264
-#define DRAUGSTEN_STACK_REPLAY_END 1024
-#define DRAUGSTEN_STACK_MONTH_START 128
+#define DRAUGSTEN_STACK_REPLAY_END 2048
+#define DRAUGSTEN_STACK_MONTH_START 256
 #define DRAUGSTEN_STACK_MONTH_FEED 12288
 #define DRAUGSTEN_STACK_MONTH_ADD 3072
-#define DRAUGSTEN_STACK_MONTH_MERGE 1536
+#define DRAUGSTEN_STACK_MONTH_MERGE 2048
 #define DRAUGSTEN_STACK_MONTH_SHARE 128
-#define DRAUGSTEN_STACK_TALLIES_CLEARED 128
+#define DRAUGSTEN_STACK_TALLIES_CLEARED 256
 #define DRAUGSTEN_STACK_TALLIES_APPEND 512
 #define DRAUGSTEN_STACK_TALLIES_JOIN 768
 #define DRAUGSTEN_STACK_TALLIES_RECOUNT 512

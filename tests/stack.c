@@ -22,7 +22,6 @@ enum {
     LONG_VALUE = 5000,                                      /* which is divided */
     NODES_SIZE = 34,                                        /* of the journal's records of nodes */
     LONG_RECORD = NODES_SIZE + 12 + 11,                     /* where that of the long value begins */
-    RETURN_ADDRESS = 8,
     SHORT_AREA_SIZE = 16,                                   /* of the short code alone */
     TRACE_SIZE = 1024,
     DUMP_SECTIONS = 4,
@@ -42,6 +41,10 @@ static uint64_t numbers[64];
 static int faults;
 
 /* These take no stack but their return address. In firmware they may take more. */
+
+#ifdef __x86_64__
+
+enum { RETURN_ADDRESS = 8 };
 
 void *memcpy(void *to, const void *from, size_t length)
 {
@@ -71,6 +74,50 @@ __attribute__((naked, used)) static void only_return(void)
 {
     __asm__("mov %rdi, %rax\n\tret");
 }
+
+#else
+
+/* On Power the return address is in a register, and is saved in the caller's frame. */
+enum { RETURN_ADDRESS = 0 };
+
+/* The compiler must not make a call of the loop. */
+#define KEEP_LOOP() __asm__ volatile("" : : : "memory")
+
+void *memcpy(void *to, const void *from, size_t length)
+{
+    for (size_t i = 0; i < length; i++) {
+        ((uint8_t *)to)[i] = ((const uint8_t *)from)[i];
+        KEEP_LOOP();
+    }
+    return to;
+}
+
+void *memmove(void *to, const void *from, size_t length)
+{
+    if ((uintptr_t)to <= (uintptr_t)from)
+        return memcpy(to, from, length);
+    for (size_t i = length; i-- > 0;) {
+        ((uint8_t *)to)[i] = ((const uint8_t *)from)[i];
+        KEEP_LOOP();
+    }
+    return to;
+}
+
+void *memset(void *to, int byte, size_t length)
+{
+    for (size_t i = 0; i < length; i++) {
+        ((uint8_t *)to)[i] = (uint8_t)byte;
+        KEEP_LOOP();
+    }
+    return to;
+}
+
+__attribute__((noinline, used)) static void only_return(void)
+{
+    __asm__ volatile("");
+}
+
+#endif
 
 /* What is called in the place of each function: itself, or the one that only returns. */
 static __typeof__(draugsten_no_registration) *no_registration;
@@ -382,30 +429,43 @@ static void stepping(void)
 
 /* ---- measuring */
 
+/* Runs the work on the painted stack, and looks there for the deepest byte that was written, before anything else can write. */
+static void (*measured)(void);
+static uint8_t paint;
+static size_t untouched;
+
+static void run_measured(void)
+{
+    measured();
+    for (untouched = 0; untouched < STACK && stack[untouched] == paint; untouched++)
+        ;
+}
+
 /* The bytes from the top of a painted stack to the deepest one that was written. */
-static size_t depth(void (*work)(void), int library, int paint)
+static size_t depth(void (*work)(void), int library)
 {
     ucontext_t here, there;
-    size_t untouched = 0;
     choose(library);
+    measured = work;
     for (size_t i = 0; i < STACK; i++)
-        stack[i] = (uint8_t)paint;
+        stack[i] = paint;
     getcontext(&there);
     there.uc_stack.ss_sp = stack;
     there.uc_stack.ss_size = STACK;
     there.uc_link = &here;
-    makecontext(&there, work, 0);
+    makecontext(&there, run_measured, 0);
     swapcontext(&here, &there);
-    while (untouched < STACK && stack[untouched] == (uint8_t)paint)
-        untouched++;
     return STACK - untouched;
 }
 
 static void measure(const char *name, void (*work)(void), size_t said)
 {
     size_t taken = 0;
-    for (int paint = 0x5a; paint <= 0xa5; paint += 0x4b) {
-        size_t nothing = depth(work, 0, paint), all = depth(work, 1, paint);
+    for (int i = 0; i < 2; i++) {
+        size_t nothing, all;
+        paint = i ? 0xa5 : 0x5a;
+        nothing = depth(work, 0);
+        all = depth(work, 1);
         if (all - nothing + RETURN_ADDRESS > taken)
             taken = all - nothing + RETURN_ADDRESS;
     }
