@@ -1,5 +1,5 @@
 -- What is claimed of lookups and views at the C boundary holds.
-use mathlib.Core.Path.{_≡_, refl, ap, _∙_}
+use mathlib.Core.Path.{_≡_, refl, ap}
 use mathlib.Core.List.{List, []}
 use Prim.Native.Nat.{ℕ}
 use native.Mathlib.Omega.{arith}
@@ -13,7 +13,7 @@ use Rattle.locations.specs.declared.lookups.Answer.the-variants as answer
 use Rattle.locations.specs.Locations.{locationOf, answerOf, codeOf}
 use Rattle.locations.specs.Claims.{Exactly}
 use Rattle.locations.proofs.LookupClaims.{location-claims}
-use Rattle.draugsten_locations.specs.Flat.{flatLocation, toldBy, LookupCrossing, ViewCrossing}
+use Rattle.draugsten_locations.specs.Flat.{flatLocation, toldBy, LookupCrossing, ViewCrossing, RefusalNumbers, LookupNumbers, StepNumbers}
 
 not-zero : (r : Refusal) → refusalNumber r ≡ 0 → ⊥
 not-zero Short e = omega arith
@@ -39,3 +39,13 @@ lookup-crossing area fixed index = record { code = told area fixed (locationOf a
 
 pub view-crossing : ViewCrossing
 view-crossing = (λ c. refl, λ f. refl)
+
+-- the numbers, by computation
+pub refusal-numbers : RefusalNumbers
+refusal-numbers = (refl, refl, refl, refl)
+
+pub lookup-numbers : LookupNumbers
+lookup-numbers r at p = (refl, refl, refl, refl)
+
+pub step-numbers : StepNumbers
+step-numbers index p r at c = (refl, refl, refl, refl)

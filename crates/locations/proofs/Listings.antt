@@ -2,22 +2,25 @@
 use mathlib.Core.Path.{_≡_, refl, sym, ap, _∙_}
 use mathlib.Core.Bool.{Bool, true, false, cond, _&&_, and-false, false≢true}
 use mathlib.Core.List.{List, [], _∷_, _++_}
-use Prim.Native.Nat.{ℕ, zero, suc, _+_, _-_, _<_, _≤_}
+use Prim.Native.Nat.{ℕ, zero, suc, _+_, _-_, _*_, _/_, _%_, _<_, _≤_}
 use native.Mathlib.Nat.{add-assoc}
 use native.Mathlib.Omega.{arith}
-use lib.Dec.{ltb, eqb}
+use lib.Dec.{leb, ltb, eqb}
 use lib.ListN.{length, drop}
 use borrow.Author.Tests.{eq-eqb, ne-eqb, eqb-true, le-ltb}
 use Rattle.words.specs.Numbers.{be32}
 use Rattle.words.specs.Nul.{untilNul}
 use Rattle.words.specs.Reading.{Reading, read, refused}
-use Rattle.words.proofs.Choice.{decide}
+use Rattle.words.proofs.Choice.{decide, and-right}
 use Rattle.inventory.specs.Listing.{Entry}
 use Rattle.indices.specs.declared.reading.Refusal.{Refusal}
 use Rattle.indices.specs.declared.reading.Fault.{Fault}
 use Rattle.indices.specs.declared.reading.Fault.the-variants.{Fine, Bad}
-use Rattle.indices.specs.Reading.{lengthAt, fieldAt, faultAt, entryAt, withEntry, judgedBy, readFrom, reading}
-use Rattle.indices.proofs.IndexLaws.{fine-inside}
+use Rattle.indices.specs.Area.{fieldLimit}
+use Rattle.indices.specs.Longest.{taken}
+use Rattle.indices.specs.Reading.{lengthAt, fieldAt, goodLength, faultAt, entryAt, withEntry, judgedBy, readFrom, reading}
+use Rattle.indices.proofs.IndexLaws.{judged, fine-inside}
+use Rattle.indices.proofs.Fine.{code-ends}
 use Rattle.locations.specs.declared.listed.Listing.{Listing}
 use Rattle.locations.specs.declared.listed.Listing.the-variants.{Refused, First}
 use Rattle.locations.specs.declared.lookups.Location.{Location}
@@ -122,21 +125,36 @@ first-set (suc n) area at index es h p =
     (λ t. record { none = λ k o. let z = rw t at k in absurd (omega arith); good = λ k. rw t (next .0); some = λ k o. rw t })
     (λ t. record { none = λ k o. rw t (later .none (rw t at k) o); good = λ k. rw t (later .good (rw t at k)); some = λ k o. rw t (later .some (rw t at k) o) })
 
+-- the place behind no entries, and behind a good set and entries after it
+pub none-taken : (at : ℕ) → at + taken [] ≡ at
+unfolding taken
+none-taken at = omega arith
+
+set-size : (n c : ℕ) → n % 4 ≡ 0 → c + 1 ≤ n → n ≤ c + 4 → n ≡ 4 * (c / 4 + 1)
+set-size n c h k l = omega arith
+
+pub set-taken : (area : List ℕ) (at : ℕ) (es : List Entry) → faultAt area at ≡ Fine → at + (8 + lengthAt area at) + taken es ≡ at + taken (entryAt area at ∷ es)
+unfolding taken goodLength
+set-taken area at es h =
+    let n = lengthAt area at in
+    let four : n % 4 ≡ 0 = eqb-true (n % 4) 0 (and-right (leb n fieldLimit) (eqb (n % 4) 0) (and-right (leb 1 n) (leb n fieldLimit && eqb (n % 4) 0) (judged area at h .0))) in
+    omega (arith, set-size n (length (untilNul (fieldAt area at))) four (code-ends area at h .0) (code-ends area at h .1))
+
 -- the first entry with an index, and an index that none has
 pub first-wins : (n : ℕ) (area : List ℕ) (at index : ℕ) (before after : List Entry) (e : Entry) → readFrom n area at ≡ read (before ++ (e ∷ after)) → Unlisted index before → e .index ≡ index
-    → (untilNul (fieldAt area (firstFrom n area at index)) ≡ e .code) × ((otherwise : Location) → firstListed n area at index otherwise ≡ location.InArea (partAt area (firstFrom n area at index)))
-unfolding firstFrom firstListed readFrom
+    → (untilNul (fieldAt area (at + taken before)) ≡ e .code) × ((otherwise : Location) → firstListed n area at index otherwise ≡ location.InArea (partAt area (at + taken before)))
+unfolding firstListed readFrom
 first-wins zero area at index [] after e h u p = (cc, λ o. cc)
 first-wins zero area at index (b ∷ before) after e h u p = (cc, λ o. cc)
 first-wins (suc n) area at index [] after e h u p =
     let next = first-read n area at (e ∷ after) h in
     let same : entryAt area at ≡ e = cc in
     let lists : be32 area at ≡ index = ap (λ (x : Entry). x .index) same ∙ p in
-    rw (eq-eqb (be32 area at) index lists) (ap (λ (x : Entry). x .code) same, λ o. refl)
+    rw (eq-eqb (be32 area at) index lists, none-taken at) (ap (λ (x : Entry). x .code) same, λ o. refl)
 first-wins (suc n) area at index (b ∷ before) after e h u p =
     let next = first-read n area at (b ∷ (before ++ (e ∷ after))) h in
     let same : entryAt area at ≡ b = cc in
-    rw (ne-eqb (be32 area at) index (λ k. u .0 (ap (λ (x : Entry). x .index) (sym same) ∙ k))) (first-wins n area (at + (8 + lengthAt area at)) index before after e (next .1) (u .1) p)
+    rw (ne-eqb (be32 area at) index (λ k. u .0 (ap (λ (x : Entry). x .index) (sym same) ∙ k)), ← same, ← set-taken area at before (next .0)) (first-wins n area (at + (8 + lengthAt area at)) index before after e (next .1) (u .1) p)
 
 pub none-listed : (n : ℕ) (area : List ℕ) (at index : ℕ) (es : List Entry) (otherwise : Location) → readFrom n area at ≡ read es → Unlisted index es → firstListed n area at index otherwise ≡ otherwise
 unfolding firstListed

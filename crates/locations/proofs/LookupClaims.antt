@@ -13,6 +13,7 @@ use Rattle.words.specs.Reading.{Reading, read, refused}
 use Rattle.words.proofs.Choice.{choose, decide, and-left}
 use Rattle.inventory.specs.Listing.{Entry}
 use Rattle.indices.specs.declared.reading.Refusal.{Refusal}
+use Rattle.indices.specs.Longest.{taken}
 use Rattle.indices.specs.Reading.{fieldAt, goodField, reading}
 use Rattle.indices.proofs.IndexLaws.{judged, fine-inside, code-part}
 use Rattle.indices.proofs.Fine.{code-ends}
@@ -119,7 +120,7 @@ empty-exactly area fixed index = go (reading area) refl
     go (refused r at) e = (λ _ k. false≢true (cc), λ _. refl)
     go (read es) e = placed-empty area fixed (locationBy (read es) area fixed index) (placed area fixed index es e)
 
-not-refused : (area fixed : List ℕ) (l : Location) (r : Refusal) (at : ℕ) → Placed area fixed l → answerOf l ≡ answer.Refused r at → ⊥
+not-refused : (area fixed : List ℕ) (l : Location) (r : Refusal) (at : ℕ) → Placed area fixed l → l ≡ location.Refused r at → ⊥
 not-refused area fixed (location.Refused b k) r at p e = p
 not-refused area fixed location.NotFound r at p e = false≢true (cc)
 not-refused area fixed (location.InArea q) r at p e = false≢true (cc)
@@ -129,7 +130,7 @@ refused-first : RefusedFirst
 unfolding locationOf
 refused-first area fixed index r at = go (reading area) refl
   where
-    go : (w : Reading Entry Refusal) → reading area ≡ w → Exactly (answerOf (locationBy w area fixed index) ≡ answer.Refused r at) (w ≡ refused r at)
+    go : (w : Reading Entry Refusal) → reading area ≡ w → Exactly (locationBy w area fixed index ≡ location.Refused r at) (w ≡ refused r at)
     go (refused b k) e = (λ h. cc, λ h. cc)
     go (read es) e = (λ h. absurd (not-refused area fixed (locationBy (read es) area fixed index) r at (placed area fixed index es e) h), λ h. cc)
 
@@ -144,15 +145,9 @@ module _ (area : List ℕ) (index : ℕ) (es : List Entry) (h : reading area ≡
 
 listed-wins : ListedWins
 listed-wins area fixed index before after e h other u p =
-    let at : ℕ = firstFrom (be32 area 0) area 4 index in
     let first = first-wins (be32 area 0) area 4 index before after e (all-read area _ h) u p in
-    let here : (f : List ℕ) → locationOf area f index ≡ location.InArea (partAt area at) = λ f. by-sets area index _ h other f ∙ first .1 (fixedLocation f index) in
-    record {
-      found = ap answerOf (here fixed);
-      code = ap (codeOf area fixed) (here fixed) ∙ sym (code-part area at) ∙ first .0;
-      whatever = λ f. here f ∙ sym (here fixed);
-      in-area = λ q k. let apart : location.InArea (partAt area at) ≡ location.InFixed q = sym (here fixed) ∙ k in false≢true (cc);
-    }
+    let here : locationOf area fixed index ≡ location.InArea (partAt area (4 + taken before)) = by-sets area index _ h other fixed ∙ first .1 (fixedLocation fixed index) in
+    record { place = rw (← first .0) here; code = ap (codeOf area fixed) here ∙ sym (code-part area (4 + taken before)) ∙ first .0 }
 
 otherwise-fixed : OtherwiseFixed
 otherwise-fixed area fixed index es h other u = by-sets area index es h other fixed ∙ none-listed (be32 area 0) area 4 index es (fixedLocation fixed index) (all-read area es h) u
@@ -163,6 +158,7 @@ location-claims =
       empty-exactly = empty-exactly;
       refused-first = refused-first;
       reserved = reserved;
+      check-tells = λ r at p. (refl, refl, refl, refl);
       listed-wins = listed-wins;
       otherwise-fixed = otherwise-fixed;
       each-fixed = each-fixed;

@@ -14,7 +14,7 @@ use Rattle.words.specs.Nul.{untilNul}
 use Rattle.words.proofs.Choice.{choose, decide}
 use Rattle.words.proofs.Ends.{until-take, string-back}
 use Rattle.locations.specs.declared.lookups.Location.the-variants as location
-use Rattle.locations.specs.Locations.{behindNuls, fixedPart, fixedLocation, answerOf, codeOf}
+use Rattle.locations.specs.Locations.{behindNuls, fixedPart, fixedLocation, codeOf}
 use Rattle.locations.specs.Terms.{nuls, Skips, entryStart}
 use Rattle.locations.specs.Claims.{Plain, AllPlain, ended, EachFixed}
 
@@ -163,6 +163,18 @@ behind-all (c ∷ cs) rest (suc index) h l =
     let less : suc index - suc (length cs) ≡ index - length cs = omega arith in
     rw less (ap (behindNuls (suc index)) (append-assoc c (0 ∷ ended cs) rest) ∙ behind-code index c (ended cs ++ rest) (h .0) ∙ behind-all cs rest index (h .1) (omega arith))
 
+-- where a code begins
+before-some : (codes : List (List ℕ)) (index : ℕ) → index < length codes → length (ended codes) ≡ length (ended (take index codes)) + (length (getD codes index []) + suc (length (ended (drop (suc index) codes))))
+unfolding ended
+before-some [] index l = absurd (omega arith)
+before-some (c ∷ cs) zero l = omega (arith, length-append c (0 ∷ ended cs))
+before-some (c ∷ cs) (suc index) l = omega (arith, before-some cs index (omega arith), length-append c (0 ∷ ended cs), length-append c (0 ∷ ended (take index cs)))
+
+code-start : (codes : List (List ℕ)) (rest : List ℕ) (index : ℕ) → AllPlain codes → index < length codes → entryStart (ended codes ++ rest) index ≡ length (ended (take index codes))
+code-start codes rest index h l =
+    let after : List ℕ = ended (drop (suc index) codes) in
+    omega (arith, before-some codes index l, ap length (behind-some codes rest index h l), length-append (ended codes) rest, length-append (getD codes index []) (0 ∷ (after ++ rest)), length-append after rest)
+
 each-plain : (codes : List (List ℕ)) (index : ℕ) → AllPlain codes → Plain (getD codes index [])
 unfolding untilNul
 each-plain [] index h = refl
@@ -215,7 +227,7 @@ each-fixed codes rest area index plain =
           decide (eqb (length c) 0)
           (λ t. let z = eqb-true (length c) 0 t in ap (codeOf area fixed) (none l z) ∙ sym (nothing c z))
           (λ t. ap (codeOf area fixed) (some l (eqb-false (length c) 0 t)) ∙ code-there fixed index c r (behind-some codes rest index plain l) (each-plain codes index plain));
-      found = λ l h. ap answerOf (some l (λ z. h (nothing c z)));
+      place = λ l h. rw (← code-start codes rest index plain l) (some l (λ z. h (nothing c z)));
       empty = λ l h. none l (ap length h);
       past = λ p l. open-none fixed index (rw (behind-all codes rest index plain l) (behind-plain rest (index - length codes) p));
     }

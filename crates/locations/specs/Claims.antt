@@ -1,22 +1,23 @@
 -- What is claimed of a lookup, cited by the contracts of `locate`, `check` and `lookup`, and of a view, cited by those of `view_of` and its steps (document 02, M-112).
-use Prim.Native.Nat.{ℕ, _+_, _≤_, _<_}
+use Prim.Native.Nat.{ℕ, _+_, _-_, _≤_, _<_}
 use mathlib.Core.Path.{_≡_}
 use mathlib.Core.List.{List, [], _∷_, _++_}
-use lib.ListN.{length, getD}
+use lib.ListN.{length, getD, take}
 use Rattle.words.specs.Nul.{untilNul}
 use Rattle.words.specs.Reading.{read, refused}
 use Rattle.inventory.specs.Listing.{Entry}
 use Rattle.indices.specs.declared.reading.Refusal.{Refusal}
-use Rattle.indices.specs.declared.reading.Refusal.the-variants.{Past}
+use Rattle.indices.specs.declared.reading.Refusal.the-variants.{Short}
 use Rattle.indices.specs.declared.reading.Cursor.{Cursor}
-use Rattle.indices.specs.Reading.{reading}
+use Rattle.indices.specs.Reading.{readFrom, reading}
+use Rattle.indices.specs.Longest.{taken}
 use Rattle.locations.specs.declared.listed.Part.{Part}
 use Rattle.locations.specs.declared.lookups.Location.the-variants as location
 use Rattle.locations.specs.declared.lookups.Answer.{Answer}
 use Rattle.locations.specs.declared.lookups.Answer.the-variants as answer
 use Rattle.locations.specs.declared.views.Given.the-variants as given
 use Rattle.locations.specs.Locations.{fixedLocation, locationOf, answerOf, codeOf}
-use Rattle.locations.specs.Views.{stays, advanceOf, stepNumber, listing, readingBy, shown, entry, last}
+use Rattle.locations.specs.Views.{advanceOf, stepNumber, listing, readingBy, shown, entry, last}
 use Rattle.locations.specs.Readings.{LookupReadings, ViewReadings}
 
 -- a statement holds exactly when another does
@@ -38,28 +39,32 @@ EmptyExactly = (area fixed : List ℕ) (index : ℕ) → Exactly (lookupOf area 
 
 -- "Refusals: 30 to 33 for the area", whatever the fixed list and the index
 abbrev pub RefusedFirst : Type 0
-RefusedFirst = (area fixed : List ℕ) (index : ℕ) (r : Refusal) (at : ℕ) → Exactly (checkOf area fixed index ≡ answer.Refused r at) (reading area ≡ refused r at)
+RefusedFirst = (area fixed : List ℕ) (index : ℕ) (r : Refusal) (at : ℕ) → Exactly (locationOf area fixed index ≡ location.Refused r at) (reading area ≡ refused r at)
 
 -- "0xFFFFFFFF is always not found"
 abbrev pub Reserved : Type 0
-Reserved = (area fixed : List ℕ) (es : List Entry) → reading area ≡ read es → checkOf area fixed 4294967295 ≡ answer.NotFound
+Reserved = (area fixed : List ℕ) (es : List Entry) → reading area ≡ read es → locationOf area fixed 4294967295 ≡ location.NotFound
+
+-- "told by a check of its own": the check tells a location's kind, and a refusal as it is
+abbrev pub CheckTells : Type 0
+CheckTells =
+    (r : Refusal) (at : ℕ) (p : Part)
+    → (answerOf (location.Refused r at) ≡ answer.Refused r at) × (answerOf location.NotFound ≡ answer.NotFound) × (answerOf (location.InArea p) ≡ answer.Found) × (answerOf (location.InFixed p) ≡ answer.Found)
 
 -- none of these entries lists an index
 abbrev pub Unlisted : ℕ → List Entry → Type 0
 Unlisted index [] = Unit {0}
 Unlisted index (e ∷ es) = (e .index ≡ index → ⊥) × Unlisted index es
 
--- "an index that the area lists wins, first match": its code is the entry's, and the fixed list does not matter
-pub record Wins (area fixed : List ℕ) (index : ℕ) (e : Entry) : Type 0 where
-  pub found : checkOf area fixed index ≡ answer.Found
+-- "an index that the area lists wins, first match": its code is the entry's, where it stands behind the entries before it, whatever the fixed list
+pub record Wins (area fixed : List ℕ) (index : ℕ) (before : List Entry) (e : Entry) : Type 0 where
+  pub place : locationOf area fixed index ≡ location.InArea (record { start = 4 + taken before + 8; length = length (e .code) })
   pub code : lookupOf area fixed index ≡ e .code
-  pub whatever : (other : List ℕ) → locationOf area other index ≡ locationOf area fixed index
-  pub in-area : (p : Part) → locationOf area fixed index ≡ location.InFixed p → ⊥
 
 abbrev pub ListedWins : Type 0
 ListedWins =
     (area fixed : List ℕ) (index : ℕ) (before after : List Entry) (e : Entry) → reading area ≡ read (before ++ (e ∷ after))
-    → (index ≡ 4294967295 → ⊥) → Unlisted index before → e .index ≡ index → Wins area fixed index e
+    → (index ≡ 4294967295 → ⊥) → Unlisted index before → e .index ≡ index → Wins area fixed index before e
 
 -- "otherwise the fixed list"
 abbrev pub OtherwiseFixed : Type 0
@@ -84,7 +89,8 @@ ended (c ∷ cs) = c ++ (0 ∷ ended cs)
 -- "NUL-terminated codes, entry number, from 0, equal to index"; "An empty code, or one without its NUL in the fixed list, counts as not found."
 pub record FixedExactly (codes : List (List ℕ)) (rest area : List ℕ) (index : ℕ) : Type 0 where
   pub code : index < length codes → codeOf area (ended codes ++ rest) (fixedLocation (ended codes ++ rest) index) ≡ getD codes index []
-  pub found : index < length codes → (getD codes index [] ≡ [] → ⊥) → answerOf (fixedLocation (ended codes ++ rest) index) ≡ answer.Found
+  pub place : index < length codes → (getD codes index [] ≡ [] → ⊥)
+      → fixedLocation (ended codes ++ rest) index ≡ location.InFixed (record { start = length (ended (take index codes)); length = length (getD codes index []) })
   pub empty : index < length codes → getD codes index [] ≡ [] → fixedLocation (ended codes ++ rest) index ≡ location.NotFound
   pub past : Plain rest → length codes ≤ index → fixedLocation (ended codes ++ rest) index ≡ location.NotFound
 
@@ -95,6 +101,7 @@ pub record LocationClaims : Type 0 where
   pub empty-exactly : EmptyExactly
   pub refused-first : RefusedFirst
   pub reserved : Reserved
+  pub check-tells : CheckTells
   pub listed-wins : ListedWins
   pub otherwise-fixed : OtherwiseFixed
   pub each-fixed : EachFixed
@@ -114,13 +121,20 @@ EachEntry = (area : List ℕ) (before after : List Entry) (e : Entry) → listin
 abbrev pub ThenTheLast : Type 0
 ThenTheLast = (area : List ℕ) (n : ℕ) → length (listing area .entries) ≤ n → shown area (stepNumber n area) ≡ last (listing area .last)
 
--- Any cursor is answered: with under 8 bytes behind it, 31 at its offset.
-abbrev pub AnyCursor : Type 0
-AnyCursor = (area : List ℕ) (c : Cursor) → 4 ≤ length area → (c .left ≡ 0 → ⊥) → length area < c .at + 8 → advanceOf area c ≡ stays (given.Refused Past (c .at)) c
+-- Any cursor is answered: a step from it is the reading of one set there.
+pub record StepRead (area : List ℕ) (c : Cursor) : Type 0 where
+  pub short : length area < 4 → advanceOf area c ≡ record { given = given.Refused Short 0; cursor = c }
+  pub ended : 4 ≤ length area → c .left ≡ 0 → advanceOf area c ≡ record { given = given.End; cursor = c }
+  pub refused : 4 ≤ length area → (c .left ≡ 0 → ⊥) → (r : Refusal) (at : ℕ) → readFrom 1 area (c .at) ≡ refused r at → advanceOf area c ≡ record { given = given.Refused r at; cursor = c }
+  pub passed : 4 ≤ length area → (c .left ≡ 0 → ⊥) → (e : Entry) → readFrom 1 area (c .at) ≡ read (e ∷ [])
+      → advanceOf area c ≡ record { given = given.Entry (e .index) (record { start = c .at + 8; length = length (e .code) }); cursor = record { at = c .at + taken (e ∷ []); left = c .left - 1 } }
+
+abbrev pub EachStep : Type 0
+EachStep = (area : List ℕ) (c : Cursor) → StepRead area c
 
 pub record ViewClaims : Type 0 where
   pub as-the-reader : AsTheReader
   pub each-entry : EachEntry
   pub then-the-last : ThenTheLast
-  pub any-cursor : AnyCursor
+  pub each-step : EachStep
   pub readings : ViewReadings

@@ -1,19 +1,18 @@
 -- Lookups and views on both sides of each line, in bytes, cited by the contracts.
-use Prim.Native.Nat.{ℕ, zero, suc}
+use Prim.Native.Nat.{ℕ}
 use mathlib.Core.Bool.{Bool, false, _&&_}
 use mathlib.Core.List.{List, [], _∷_, _++_}
 use lib.Dec.{T, eqb}
-use lib.ListN.{length, replicate}
+use lib.ListN.{replicate}
 use Rattle.words.specs.Numbers.{beBytes}
 use Rattle.words.specs.Cases.{all}
-use Rattle.inventory.specs.Listing.{Entry}
 use Rattle.indices.specs.Reading.{refusalNumber}
 use Rattle.locations.specs.declared.lookups.Location.{Location}
 use Rattle.locations.specs.declared.lookups.Location.the-variants as location
 use Rattle.locations.specs.declared.lookups.Answer.{Answer}
 use Rattle.locations.specs.declared.lookups.Answer.the-variants as answer
 use Rattle.locations.specs.Locations.{locationOf, answerOf, codeOf}
-use Rattle.locations.specs.Views.{Last, end, refusal, Shown, entry, last, shown, stepNumber}
+use Rattle.locations.specs.Views.{end, refusal, Shown, entry, last, shown, stepNumber}
 
 -- the same bytes
 unfoldable pub same : List ℕ → List ℕ → Bool
@@ -75,6 +74,9 @@ lookups =
     -- an index listed twice, the first and the last of an area
     finds (areaOf 2 (set3 7 88 ++ set4 7 89)) [] 7 1 12 (88 ∷ 88 ∷ 88 ∷ [])
     ∷ finds (areaOf 2 (set3 7 88 ++ set4 9 89)) [] 9 1 24 (89 ∷ 89 ∷ 89 ∷ 89 ∷ [])
+    -- the same with one code
+    ∷ finds (areaOf 2 (set3 7 88 ++ set3 7 88)) [] 7 1 12 (88 ∷ 88 ∷ 88 ∷ [])
+    ∷ finds (areaOf 2 (set3 7 88 ++ set3 9 88)) [] 9 1 24 (88 ∷ 88 ∷ 88 ∷ [])
     -- listed and in the fixed list
     ∷ finds (areaOf 1 (set3 0 88)) list 0 1 12 (88 ∷ 88 ∷ 88 ∷ [])
     -- listed before a fault, in the fixed list, and 0xFFFFFFFF over a refused area
@@ -87,7 +89,8 @@ lookups =
     -- 0xFFFFFFFF listed, and the number below it
     ∷ refuses (areaOf 1 (set3 4294967295 88)) list 4294967295 1 0
     ∷ finds (areaOf 1 (set3 4294967294 88)) list 4294967294 1 12 (88 ∷ 88 ∷ 88 ∷ [])
-    -- fixed entries: the first, an empty one, the last, one without its NUL, and behind the end
+    -- fixed entries: the second of two with one code, the first, an empty one, the last, one without its NUL, and behind the end
+    ∷ finds (areaOf 0 []) (65 ∷ 0 ∷ 65 ∷ 0 ∷ []) 1 2 2 (65 ∷ [])
     ∷ finds (areaOf 0 []) list 0 2 0 (65 ∷ [])
     ∷ refuses (areaOf 0 []) list 1 1 0
     ∷ finds (areaOf 0 []) list 2 2 3 (66 ∷ 67 ∷ [])
@@ -129,6 +132,7 @@ abbrev pub views : List Bool
 views =
     let two = areaOf 2 (set3 7 88 ++ set4 9 89) in
     let faulty = areaOf 2 (set3 7 88 ++ (0 ∷ 0 ∷ [])) in
+    let spoilt = areaOf 3 (set3 7 88 ++ (set4 9 89 ++ (beBytes 4 5 ++ (beBytes 4 4 ++ replicate 4 0)))) in
     isEntry (stepOf 0 two) 7 (88 ∷ 88 ∷ 88 ∷ [])
     ∷ isEntry (stepOf 1 two) 9 (89 ∷ 89 ∷ 89 ∷ 89 ∷ [])
     ∷ isEnd (stepOf 2 two)
@@ -137,6 +141,10 @@ views =
     ∷ isEntry (stepOf 0 faulty) 7 (88 ∷ 88 ∷ 88 ∷ [])
     ∷ isRefusal (stepOf 1 faulty) 31 16
     ∷ isRefusal (stepOf 2 faulty) 31 16
+    ∷ isEntry (stepOf 0 spoilt) 7 (88 ∷ 88 ∷ 88 ∷ [])
+    ∷ isEntry (stepOf 1 spoilt) 9 (89 ∷ 89 ∷ 89 ∷ 89 ∷ [])
+    ∷ isRefusal (stepOf 2 spoilt) 33 32
+    ∷ isRefusal (stepOf 3 spoilt) 33 32
     ∷ isRefusal (stepOf 0 (0 ∷ 0 ∷ 0 ∷ [])) 30 0
     ∷ isRefusal (stepOf 1 []) 30 0
     ∷ isEnd (stepOf 0 (areaOf 0 []))

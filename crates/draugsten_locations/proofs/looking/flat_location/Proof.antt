@@ -1,5 +1,5 @@
 -- `looking::flat_location` meets its contract.
-use mathlib.Core.Path.{ap, sym, _∙_}
+use mathlib.Core.Path.{ap, sym}
 use borrow.Author.Needs.{needs}
 use Rattle.draugsten_locations.specs.Flat.{flatLocation}
 use Rattle.draugsten_locations.proofs.looking.flat_location.Statement.{statement}

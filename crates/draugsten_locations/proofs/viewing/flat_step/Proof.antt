@@ -1,7 +1,5 @@
 -- `viewing::flat_step` meets its contract.
-use mathlib.Core.Path.{ap, sym, _∙_}
 use borrow.Author.Needs.{needs}
-use Rattle.draugsten_locations.specs.Flat.{flatStep}
 use Rattle.draugsten_locations.proofs.viewing.flat_step.Statement.{statement}
 use Rattle.draugsten_locations.proofs.viewing.flat_step.Tie as tie
 
