@@ -19,7 +19,7 @@
  * For firmware, of each archive as it is built (tests/link holds it to this, and ./draugsten power test those for Power):
  * - It needs two symbols and nothing else of a C library: libdraugsten_dump.a memcpy and memmove, libdraugsten.a and
  *   libdraugsten_replay.a memcpy and memset. libdraugsten_tallies.a and libdraugsten_locations.a need none; for Power the
- *   first needs memset.
+ *   first needs memcpy and memset.
  * - It is code and constants for any x86-64, position independent, with the System V calling convention. It uses the
  *   registers xmm0 to xmm15 as SSE2 has them, no AVX and no x87. It may write up to 128 bytes below the stack pointer (the
  *   red zone), so an interrupt that runs on the same stack has to leave these.
@@ -87,8 +87,8 @@ extern "C" {
 #define DRAUGSTEN_STACK_TALLIES_RECOUNT 512
 #define DRAUGSTEN_STACK_FORECAST 128
 #define DRAUGSTEN_STACK_INTAKE_START 128
-#define DRAUGSTEN_STACK_INTAKE_BURST 2560
-#define DRAUGSTEN_STACK_INTAKE_END 256
+#define DRAUGSTEN_STACK_INTAKE_BURST 2048
+#define DRAUGSTEN_STACK_INTAKE_END 512
 #define DRAUGSTEN_STACK_READ_NODES 256
 #define DRAUGSTEN_STACK_READ_INDICES 256
 #define DRAUGSTEN_STACK_READ_PROPERTIES 256

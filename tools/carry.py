@@ -112,8 +112,14 @@ def forms(take, structs):
     if struct.size % 8:
         raise Unknown(f'the parameter {take.name}: a struct of {struct.size} bytes, no multiple of 8')
     by_memory = [f'ptr noundef byval([{struct.size} x i8]) align {struct.align}']
-    in_registers = [['i64 noundef'] * (struct.size // 8)] if struct.size <= 16 else []
-    return [by_memory, *in_registers]
+    return [by_memory, *in_registers(struct)]
+
+
+def in_registers(struct):
+    """The forms of a struct of one or two numbers of eight bytes, which stand in a register each, here and on the targets."""
+    if struct.size > 16 or any(header.NUMBERS.get(field.kind) != 8 or field.counts for field in struct.fields):
+        return []
+    return [[word] * (struct.size // 8) for word in ('i64', 'i64 noundef')]
 
 
 def check_export(returned, name, parameters, declared):
