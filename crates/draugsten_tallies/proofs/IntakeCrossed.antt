@@ -4,9 +4,9 @@ use mathlib.Core.Bool.{true, false, false≢true}
 use mathlib.Core.List.{List}
 use Prim.Native.Nat.{ℕ, _≤_, _<_}
 use native.Mathlib.Omega.{arith}
-use lib.Dec.{ltb}
+use lib.Dec.{ltb, eqb}
 use lib.ListN.{length}
-use borrow.Author.Tests.{ltb-true, ltb-false, lt-ltb, le-ltb, ne-eqb}
+use borrow.Author.Tests.{ltb-true, ltb-false, lt-ltb, le-ltb, eqb-true, ne-eqb}
 use Rattle.words.proofs.Choice.{decide}
 use Rattle.tallies.specs.declared.keeping.Outcome.{Outcome}
 use Rattle.tallies.specs.declared.keeping.Outcome.the-variants.{Done, Malformed, NoRoom, Unfit}
@@ -14,8 +14,8 @@ use Rattle.intake.specs.declared.bursts.Intake.{Intake}
 use Rattle.intake.specs.States.{readyFor}
 use Rattle.intake.proofs.Claims.{intake-claims}
 use Rattle.intake.proofs.Taken.{ready-exactly}
-use Rattle.draugsten_tallies.specs.Flat.{outcomeNumber}
-use Rattle.draugsten_tallies.specs.Intakes.{faultFrom, intakeFrom, flatEnd, stateNumber, EachIntakeCrosses, IntakeReturns, FaultsTaken, EachState, StartTaken, LeftTaken, EachEndNumber, IntakeCrossing}
+use Rattle.draugsten_tallies.specs.Flat.{talliedFrom, outcomeNumber}
+use Rattle.draugsten_tallies.specs.Intakes.{faultFrom, intakeFrom, stateNumber, EachIntakeCrosses, EachIntakeComes, IntakeReturns, FaultsTaken, EachState, StartTaken, LeftTaken}
 use Rattle.draugsten_tallies.proofs.Crossed.{each-crosses}
 
 -- ---- the parts of an intake
@@ -26,7 +26,7 @@ fault-returns Malformed = refl
 fault-returns NoRoom = refl
 fault-returns Unfit = refl
 
-each-intake-crosses : EachIntakeCrosses
+pub each-intake-crosses : EachIntakeCrosses
 each-intake-crosses i =
     let back = sym (fault-returns (i .place .fault)) in
     record {
@@ -41,8 +41,26 @@ each-intake-crosses i =
 pub returns : IntakeReturns
 returns i = rw (fault-returns (i .place .fault))
 
-faults-taken : FaultsTaken
-faults-taken n a b c = rw (ne-eqb n 0 a, ne-eqb n 50 b, ne-eqb n 51 c)
+-- a number that comes in for a fault of a stream is that fault's own
+number-comes : (n : ℕ) → (faultFrom n ≡ Unfit → ⊥) → n ≡ outcomeNumber (faultFrom n)
+number-comes n real = decide (eqb n 0) (λ a. rw a (eqb-true n 0 a))
+    (λ a. decide (eqb n 50) (λ b. rw (a, b) (eqb-true n 50 b)) (λ b. decide (eqb n 51) (λ c. rw (a, b, c) (eqb-true n 51 c)) (λ c. absurd (real (rw (a, b, c))))))
+
+number-of : (n : ℕ) (o : Outcome) → (outcomeNumber o ≡ 52 → ⊥) → faultFrom n ≡ o → n ≡ outcomeNumber o
+number-of n o some e = number-comes n (λ u. some (ap outcomeNumber (sym e ∙ u))) ∙ ap outcomeNumber e
+
+pub each-intake-comes : EachIntakeComes
+each-intake-comes f = record {
+  journal = each-crosses (talliedFrom (f .journal));
+  number = refl;
+  held = refl;
+  none = (number-of (f .fault) Done (λ z. omega arith), λ e. ap faultFrom e);
+  malformed = (number-of (f .fault) Malformed (λ z. omega arith), λ e. ap faultFrom e);
+  no-room = (number-of (f .fault) NoRoom (λ z. omega arith), λ e. ap faultFrom e);
+}
+
+pub faults-taken : FaultsTaken
+faults-taken f a b c = rw (ne-eqb (f .fault) 0 a, ne-eqb (f .fault) 50 b, ne-eqb (f .fault) 51 c)
 
 -- ---- the number of a state
 
@@ -88,24 +106,8 @@ each-state buffer store i = decide (ltb (length store) 32808)
       unfit = (λ _. (l, λ r. false≢true (sym t ∙ e .1 r)), λ _. n);
     }))
 
-start-taken : StartTaken
+pub start-taken : StartTaken
 start-taken buffer store t room fit = each-state buffer store _ .taken .1 (intake-claims .start-ready buffer store t room fit .0)
 
-left-taken : LeftTaken
+pub left-taken : LeftTaken
 left-taken buffer store bufferThen storeThen bytes i r e b = each-state bufferThen storeThen (intakeFrom (r .intake)) .taken .1 (b .taken e .bursts .ready)
-
--- ---- an end
-
-each-end : EachEndNumber
-each-end e = record { nothing = λ f. ap flatEnd f; unfinished = λ n f. ap flatEnd f; malformed = λ n f. ap flatEnd f; no-room = λ n f. ap flatEnd f }
-
-pub intake-crossing : IntakeCrossing
-intake-crossing = record {
-  each-crosses = each-intake-crosses;
-  returns = returns;
-  faults-taken = faults-taken;
-  each-state = each-state;
-  start-taken = start-taken;
-  left-taken = left-taken;
-  each-end = each-end;
-}

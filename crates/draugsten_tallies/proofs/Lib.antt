@@ -2,3 +2,4 @@ pub mod Crossed
 pub mod IntakeCrossed
 pub mod CutReadings
 pub mod Answers
+pub mod IntakeTells

@@ -1,21 +1,26 @@
 -- Intakes as they cross the C boundary (document 02, M-109).
 use Prim.Native.Nat.{ℕ, _≤_, _<_}
 use mathlib.Core.Path.{_≡_}
-use mathlib.Core.Bool.{true, cond}
-use mathlib.Core.List.{List}
+use mathlib.Core.Bool.{true, false, cond}
+use mathlib.Core.List.{List, []}
 use lib.Dec.{ltb, eqb}
-use lib.ListN.{length}
+use lib.ListN.{length, take}
+use Rattle.records.specs.Records.{lengthOf, kindOf, sizeOf}
+use Rattle.records.specs.Cutting.{Standing, fed}
 use Rattle.tallies.specs.declared.keeping.Tallied.{Tallied}
 use Rattle.tallies.specs.declared.keeping.Outcome.{Outcome}
 use Rattle.tallies.specs.declared.keeping.Outcome.the-variants.{Done, Malformed, NoRoom, Unfit}
-use Rattle.tallies.specs.Keeping.{fits}
+use Rattle.tallies.specs.Keeping.{fits, appendOf}
+use Rattle.tallies.specs.Sessions as sessions
 use Rattle.tallies.specs.Claims.{Exactly}
 use Rattle.intake.specs.declared.taking.Place.{Place}
 use Rattle.intake.specs.declared.bursts.Intake.{Intake}
 use Rattle.intake.specs.declared.bursts.Ending.{Ending}
 use Rattle.intake.specs.declared.bursts.Ending.the-variants as ending
-use Rattle.intake.specs.Bursts.{Ready, Bursts, startOf, endOf}
+use Rattle.intake.specs.Taking.{goodFront, Taking, reader}
+use Rattle.intake.specs.Bursts.{standingOf, Ready, Bursts, startOf, endOf}
 use Rattle.intake.specs.States.{readyFor}
+use Rattle.draugsten_tallies.specs.declared.flat.FlatTallied.{FlatTallied}
 use Rattle.draugsten_tallies.specs.declared.intakes.FlatIntake.{FlatIntake}
 use Rattle.draugsten_tallies.specs.declared.intakes.FlatBurst.{FlatBurst}
 use Rattle.draugsten_tallies.specs.declared.intakes.FlatEnd.{FlatEnd}
@@ -78,7 +83,7 @@ flatEnd ending.Nothing = answering 0 0
 flatEnd (ending.Unfinished n) = answering 53 n
 flatEnd (ending.Malformed n) = answering 50 n
 flatEnd (ending.NoRoom n) = answering 51 n
-flatEnd (ending.Unfit n) = answering 54 n
+flatEnd (ending.Unfit n) = answering 54 0
 
 unfoldable pub endAnswer : ℕ → List ℕ → FlatIntake → FlatEnd
 endAnswer size store f =
@@ -103,9 +108,23 @@ EachIntakeCrosses = (i : Intake) → IntakeCrosses i (flatIntake i)
 abbrev pub IntakeReturns : Type 0
 IntakeReturns = (i : Intake) → intakeFrom (flatIntake i) ≡ i
 
+-- and each part comes in under its own name
+abbrev pub EachIntakeComes : Type 0
+EachIntakeComes = (f : FlatIntake) → IntakeCrosses (intakeFrom f) f
+
 -- "a fault that is none": any other number
 abbrev pub FaultsTaken : Type 0
-FaultsTaken = (n : ℕ) → (n ≡ 0 → ⊥) → (n ≡ 50 → ⊥) → (n ≡ 51 → ⊥) → faultFrom n ≡ Unfit
+FaultsTaken = (f : FlatIntake) → (f .fault ≡ 0 → ⊥) → (f .fault ≡ 50 → ⊥) → (f .fault ≡ 51 → ⊥) → intakeFrom f .place .fault ≡ Unfit
+
+-- "over a tallied journal as it is (its use and tallies): nothing held, number 1, no fault", also one that the first burst refuses
+pub record Starts (t : FlatTallied) (f : FlatIntake) : Type 0 where
+  pub journal : f .journal ≡ t
+  pub number : f .number ≡ 1
+  pub held : f .held ≡ 0
+  pub fault : f .fault ≡ 0
+
+abbrev pub EachStart : Type 0
+EachStart = (t : FlatTallied) → Starts t (flatIntake (startOf (talliedFrom t)))
 
 -- which states and stores are refused, and with which number
 pub record StateExactly (buffer store : List ℕ) (i : Intake) : Type 0 where
@@ -124,21 +143,79 @@ abbrev pub LeftTaken : Type 0
 LeftTaken = (buffer store bufferThen storeThen bytes : List ℕ) (i : FlatIntake) (r : FlatBurst) → stateNumber store (length buffer) (intakeFrom i) ≡ 0
     → FlatBursts buffer store i bytes bufferThen storeThen r → stateNumber storeThen (length bufferThen) (intakeFrom (r .intake)) ≡ 0
 
--- what an end answers where the state is taken
-pub record EndNumbers (e : Ending) : Type 0 where
-  pub nothing : e ≡ ending.Nothing → flatEnd e ≡ answering 0 0
-  pub unfinished : (n : ℕ) → e ≡ ending.Unfinished n → flatEnd e ≡ answering 53 n
-  pub malformed : (n : ℕ) → e ≡ ending.Malformed n → flatEnd e ≡ answering 50 n
-  pub no-room : (n : ℕ) → e ≡ ending.NoRoom n → flatEnd e ≡ answering 51 n
+-- "what M-106 refuses first of use and tallies": exactly what an append calls unfit
+abbrev pub FitsAsAppend : Type 0
+FitsAsAppend = (buffer r : List ℕ) (t : Tallied) → Exactly (fits (length buffer) t ≡ false) (appendOf buffer t r .outcome ≡ Unfit)
 
-abbrev pub EachEndNumber : Type 0
-EachEndNumber = (e : Ending) → EndNumbers e
+-- A start over tallies that are kept is taken.
+abbrev pub KeptTaken : Type 0
+KeptTaken = (store : List ℕ) (s : sessions.Standing) → 32808 ≤ length store → sessions.Counted s → stateNumber store (length (s .buffer)) (startOf (s .journal)) ≡ 0
+
+-- "An append, join or clear between bursts works on use, tallies and journal alone": with any other journal that fits, the state is taken as before
+abbrev pub JournalChanged : Type 0
+JournalChanged = (buffer bufferThen store : List ℕ) (f : FlatIntake) (t : FlatTallied) → stateNumber store (length buffer) (intakeFrom f) ≡ 0 → fits (length bufferThen) (talliedFrom t) ≡ true
+    → stateNumber store (length bufferThen) (intakeFrom (record { journal = t; number = f .number; held = f .held; fault = f .fault })) ≡ 0
+
+-- "A state whose parts do not fit": each of them alone
+pub record Misfits (buffer store : List ℕ) (f : FlatIntake) (number : ℕ) : Type 0 where
+  pub no-number : f .number ≡ 0 → number ≡ 54
+  pub no-fault : (f .fault ≡ 0 → ⊥) → (f .fault ≡ 50 → ⊥) → (f .fault ≡ 51 → ⊥) → number ≡ 54
+  pub fault-held : (f .fault ≡ 0 → ⊥) → (f .held ≡ 0 → ⊥) → number ≡ 54
+  pub too-many : length store < f .held → number ≡ 54
+  pub whole : goodFront (lengthOf (take (f .held) store)) (kindOf (take (f .held) store)) ≡ true → sizeOf (take (f .held) store) ≤ f .held → number ≡ 54
+  pub front : 4 ≤ f .held → goodFront (lengthOf (take (f .held) store)) (kindOf (take (f .held) store)) ≡ false → number ≡ 54
+  pub unfit : appendOf buffer (talliedFrom (f .journal)) [] .outcome ≡ Unfit → number ≡ 54
+
+abbrev pub EachMisfit : Type 0
+EachMisfit = (buffer store : List ℕ) (f : FlatIntake) → 32808 ≤ length store → Misfits buffer store f (stateNumber store (length buffer) (intakeFrom f))
+
+-- what a burst tells, of the standing that the reader of records says
+pub record BurstTells (bufferThen storeThen : List ℕ) (r : FlatBurst) (w : Standing Taking) : Type 0 where
+  pub none : Exactly (w .state .fault ≡ Done) (r .number ≡ 0)
+  pub malformed : Exactly (w .state .fault ≡ Malformed) (r .number ≡ 50)
+  pub no-room : Exactly (w .state .fault ≡ NoRoom) (r .number ≡ 51)
+  pub in-none : r .number ≡ 0 → r .«in_record» ≡ 0
+  pub in-fault : (r .number ≡ 0 → ⊥) → r .«in_record» ≡ w .state .number
+  pub again : r .intake .fault ≡ r .number
+  pub next : r .intake .number ≡ w .state .number
+  pub held : take (r .intake .held) storeThen ≡ w .held
+  pub buffer-is : bufferThen ≡ w .state .buffer
+  pub journal : TalliedCross (w .state .journal) (r .intake .journal)
+
+abbrev pub EachBurst : Type 0
+EachBurst = (buffer store bytes bufferThen storeThen : List ℕ) (i : FlatIntake) (r : FlatBurst) → FlatBursts buffer store i bytes bufferThen storeThen r → stateNumber store (length buffer) (intakeFrom i) ≡ 0
+    → BurstTells bufferThen storeThen r (fed reader (standingOf buffer store (intakeFrom i)) bytes)
+
+-- "and changes nothing"
+abbrev pub EachBurstRefused : Type 0
+EachBurstRefused = (buffer store bytes bufferThen storeThen : List ℕ) (i : FlatIntake) (r : FlatBurst) → FlatBursts buffer store i bytes bufferThen storeThen r → (stateNumber store (length buffer) (intakeFrom i) ≡ 0 → ⊥)
+    → (r .number ≡ stateNumber store (length buffer) (intakeFrom i)) × ((r .«in_record» ≡ 0) × ((r .intake ≡ i) × ((bufferThen ≡ buffer) × (storeThen ≡ store))))
+
+-- what an end answers, refused states and stores first
+pub record EndAnswers (buffer store : List ℕ) (f : FlatIntake) (r : FlatEnd) : Type 0 where
+  pub small : length store < 32808 → (r .number ≡ 55) × (r .«in_record» ≡ 0)
+  pub unfit : 32808 ≤ length store → (Ready buffer store (intakeFrom f) → ⊥) → (r .number ≡ 54) × (r .«in_record» ≡ 0)
+  pub nothing : Ready buffer store (intakeFrom f) → f .fault ≡ 0 → f .held ≡ 0 → (r .number ≡ 0) × (r .«in_record» ≡ 0)
+  pub unfinished : Ready buffer store (intakeFrom f) → f .fault ≡ 0 → (f .held ≡ 0 → ⊥) → (r .number ≡ 53) × (r .«in_record» ≡ f .number)
+  pub malformed : Ready buffer store (intakeFrom f) → f .fault ≡ 50 → (r .number ≡ 50) × (r .«in_record» ≡ f .number)
+  pub no-room : Ready buffer store (intakeFrom f) → f .fault ≡ 51 → (r .number ≡ 51) × (r .«in_record» ≡ f .number)
+
+abbrev pub EachEndAnswer : Type 0
+EachEndAnswer = (buffer store : List ℕ) (f : FlatIntake) → EndAnswers buffer store f (endAnswer (length buffer) store f)
 
 pub record IntakeCrossing : Type 0 where
   pub each-crosses : EachIntakeCrosses
+  pub each-comes : EachIntakeComes
   pub returns : IntakeReturns
   pub faults-taken : FaultsTaken
+  pub each-start : EachStart
   pub each-state : EachState
+  pub each-misfit : EachMisfit
+  pub fits-as-append : FitsAsAppend
   pub start-taken : StartTaken
+  pub kept-taken : KeptTaken
   pub left-taken : LeftTaken
-  pub each-end : EachEndNumber
+  pub journal-changed : JournalChanged
+  pub each-burst : EachBurst
+  pub each-burst-refused : EachBurstRefused
+  pub each-end : EachEndAnswer

@@ -134,9 +134,9 @@ fn flat_end(ending: Ending) -> FlatEnd
             number: 51,
             in_record: n,
         },
-        Ending::Unfit(n) => FlatEnd {
+        Ending::Unfit(_) => FlatEnd {
             number: 54,
-            in_record: n,
+            in_record: 0,
         },
     }
 }

@@ -40,8 +40,8 @@ bursting held number fault bytes s =
     let x = fed reader (standsAt (record { buffer = s .buffer; journal = s .journal; number = number; fault = fault }) held) bytes .state in
     sessions.standingAs (x .buffer) (x .journal)
 
--- A burst leaves what the reader of records says, every byte of the journal's buffer with it, and is ready for the next. Behind the held bytes the store is left free, up to
--- the 32,808 that a record can have; after a fault it is not touched.
+-- A burst leaves what the reader of records says, every byte of the journal's buffer with it, and is ready for the next. Behind the held bytes the store is left free;
+-- after a fault it is not touched.
 pub record Bursts (buffer store : List ℕ) (i : Intake) (bytes bufferThen storeThen : List ℕ) (r : Intake) : Type 0 where
   pub same : standingOf bufferThen storeThen r ≡ fed reader (standingOf buffer store i) bytes
   pub journal : sessions.standingAs bufferThen (r .place .journal) ≡ bursting (take (i .held) store) (i .place .number) (i .place .fault) bytes (sessions.standingAs buffer (i .place .journal))

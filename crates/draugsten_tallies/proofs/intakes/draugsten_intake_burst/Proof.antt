@@ -4,7 +4,8 @@ use borrow.Author.Needs.{needs}
 use Rattle.tallies.proofs.Claims.{tally-claims}
 use Rattle.intake.proofs.Claims.{intake-claims}
 use Rattle.intake.proofs.Taken.{ready-exactly}
-use Rattle.draugsten_tallies.proofs.IntakeCrossed.{each-state, intake-crossing}
+use Rattle.draugsten_tallies.proofs.IntakeCrossed.{each-state}
+use Rattle.draugsten_tallies.proofs.IntakeTells.{intake-crossing}
 use Rattle.draugsten_tallies.proofs.CutReadings.{each-cut}
 use Rattle.draugsten_tallies.proofs.Answers.{burst-refused, burst-taken}
 use Rattle.draugsten_tallies.proofs.intakes.draugsten_intake_burst.Statement.{statement}

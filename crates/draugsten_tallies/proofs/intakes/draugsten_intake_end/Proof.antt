@@ -4,7 +4,7 @@ use borrow.Author.Needs.{needs}
 use Rattle.tallies.proofs.Claims.{tally-claims}
 use Rattle.intake.proofs.Claims.{intake-claims}
 use Rattle.intake.proofs.Taken.{ready-exactly}
-use Rattle.draugsten_tallies.proofs.IntakeCrossed.{intake-crossing}
+use Rattle.draugsten_tallies.proofs.IntakeTells.{intake-crossing}
 use Rattle.draugsten_tallies.proofs.CutReadings.{each-cut}
 use Rattle.draugsten_tallies.proofs.Answers.{end-refused, end-taken}
 use Rattle.draugsten_tallies.proofs.intakes.draugsten_intake_end.Statement.{statement}

@@ -5,7 +5,7 @@ use Rattle.tallies.proofs.Claims.{tally-claims}
 use Rattle.intake.specs.Bursts.{startOf}
 use Rattle.intake.proofs.Claims.{intake-claims}
 use Rattle.draugsten_tallies.specs.Intakes.{flatIntake}
-use Rattle.draugsten_tallies.proofs.IntakeCrossed.{intake-crossing}
+use Rattle.draugsten_tallies.proofs.IntakeTells.{intake-crossing}
 use Rattle.draugsten_tallies.proofs.intakes.draugsten_intake_start.Statement.{statement}
 use Rattle.draugsten_tallies.proofs.intakes.draugsten_intake_start.Tie as tie
 

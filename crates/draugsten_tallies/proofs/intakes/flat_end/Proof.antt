@@ -16,7 +16,7 @@ returns-4 : tie.Need-returns-4
 returns-4 c = rw (c .before .ending3 .given .1)
 
 returns-5 : tie.Need-returns-5
-returns-5 c = rw (c .before .ending4 .given .1)
+returns-5 c = rw (c .enum-told2 .given .1)
 
 pub flat-end-spec : {M : Type 1} → statement M
 flat-end-spec = tie.close (tie.spec (λ c. search needs) (λ c. search needs) (λ c. search needs) (λ c. search needs) (λ c. search needs) returns returns-2 returns-3 returns-4 returns-5)
