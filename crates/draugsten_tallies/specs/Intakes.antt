@@ -43,7 +43,7 @@ stateNumber store size i = cond (ltb (length store) 32808) 55 (cond (readyFor st
 
 -- ---- a burst
 
--- the number of the record at fault
+-- the number of the record at fault: a term of a private function, which no promise cites
 abbrev pub recordBy : Outcome → ℕ → ℕ
 recordBy Done number = 0
 recordBy Malformed number = number
