@@ -1,4 +1,5 @@
 pub mod Claims
 pub mod StructureLaws
+pub mod StructureClaims
 pub mod Copies
 pub mod Verdicts

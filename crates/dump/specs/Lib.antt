@@ -1,3 +1,4 @@
 pub mod Structure
 pub mod Registration
+pub mod StructureClaims
 pub mod Claims

@@ -4,6 +4,7 @@ ghost use Prim.Native.Nat.{_+_, _*_, _≤_};
 ghost use lib.ListN.{length};
 ghost use Rattle.dump.specs.Structure.{headerSize, sectionSize, sections, firstSection, sectionsEnd, goodHeader, eachSection, goodType, goodSection, requested, withoutDisk, goodPath, goodStructure};
 ghost use Rattle.dump.specs.Claims.{StructureCases};
+ghost use Rattle.dump.specs.StructureClaims.{StructureExactly};
 
 // The bytes of a header and of a section, and the most sections.
 pub const HEADER_SIZE: usize = 40;
@@ -171,6 +172,7 @@ fn is_path(s: &[u8], first: usize, end: usize) -> bool
 pub fn is_structure(s: &[u8]) -> bool
     ensures { λ r. ⌜ r ≡ goodStructure (now (s .entry)) ⌝ }
     ensures cases { λ _. ⌜ StructureCases ⌝ }
+    ensures exactly { λ _. ⌜ StructureExactly ⌝ }
 {
     if s.len() < HEADER_SIZE {
         return false;

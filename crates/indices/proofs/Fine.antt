@@ -13,6 +13,7 @@ use Rattle.words.specs.Numbers.{be32, zeros}
 use Rattle.words.specs.Nul.{untilNul}
 use Rattle.words.specs.Reading.{Reading, read, refused}
 use Rattle.words.proofs.Choice.{choose, decide, and-left, and-right}
+use Rattle.words.proofs.Zeros.{zeros-byte}
 use Rattle.inventory.specs.Listing.{Entry}
 use Rattle.indices.specs.declared.reading.Refusal.{Refusal}
 use Rattle.indices.specs.declared.reading.Fault.{Fault}
@@ -31,25 +32,21 @@ code-byte [] i h e = omega arith
 code-byte (b ∷ bs) zero h e = let k = rw (eq-eqb b 0 e) at h in omega arith
 code-byte (b ∷ bs) (suc i) h e = choose (eqb b 0) (λ (l : List ℕ). suc i < length l → ⊥) (λ _ k. omega arith) (λ _ k. code-byte bs i (omega arith) e) h
 
-zeros-byte : (l : List ℕ) (i : ℕ) → zeros l ≡ true → getD l i 0 ≡ 0
-unfolding zeros
-zeros-byte [] i h = refl
-zeros-byte (b ∷ bs) zero h = eqb-true b 0 (and-left (eqb b 0) (zeros bs) h)
-zeros-byte (b ∷ bs) (suc i) h = zeros-byte bs i (and-right (eqb b 0) (zeros bs) h)
-
 -- what a good field is
-record Good (f : List ℕ) : Type 0 where
-  ended : length (untilNul f) + 1 ≤ length f
-  near : length f ≤ length (untilNul f) + 4
-  nuls : zeros (drop (length (untilNul f)) f) ≡ true
+pub record Good (f : List ℕ) : Type 0 where
+  pub some : 1 ≤ length (untilNul f)
+  pub ended : length (untilNul f) + 1 ≤ length f
+  pub near : length f ≤ length (untilNul f) + 4
+  pub nuls : zeros (drop (length (untilNul f)) f) ≡ true
 
-good : (f : List ℕ) → goodField f ≡ true → Good f
+pub good : (f : List ℕ) → goodField f ≡ true → Good f
 unfolding goodField
 good f e =
     let n = length (untilNul f) in
     let e₁ = and-right (leb 1 n) _ e in
     let e₂ = and-right (leb (n + 1) (length f)) _ e₁ in
     record {
+      some = leb-true 1 n (and-left _ _ e);
       ended = leb-true (n + 1) (length f) (and-left _ _ e₁);
       near = leb-true (length f) (n + 4) (and-left _ _ e₂);
       nuls = and-right (leb (length f) (n + 4)) _ e₂;

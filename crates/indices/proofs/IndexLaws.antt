@@ -34,7 +34,7 @@ unfolding untilNul
 code-short [] = omega arith
 code-short (b ∷ bs) = choose (eqb b 0) (λ (l : List ℕ). length l ≤ suc (length bs)) (λ _. omega arith) (λ _. omega (arith, code-short bs))
 
-code-front : (f : List ℕ) → untilNul f ≡ take (length (untilNul f)) f
+pub code-front : (f : List ℕ) → untilNul f ≡ take (length (untilNul f)) f
 unfolding untilNul
 code-front [] = refl
 code-front (b ∷ bs) = choose (eqb b 0) (λ (l : List ℕ). l ≡ take (length l) (b ∷ bs)) (λ _. refl) (λ _. ap (λ (l : List ℕ). b ∷ l) (code-front bs))

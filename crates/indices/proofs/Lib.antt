@@ -4,4 +4,6 @@ pub mod Written
 pub mod Longest
 pub mod Writes
 pub mod OtherCodes
+pub mod ReaderClaims
+pub mod Bounds
 pub mod Claims

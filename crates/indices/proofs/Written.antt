@@ -38,7 +38,7 @@ module _ (code : List ℕ) (good : goodCode code ≡ true) where
   unfolding goodCode
   some = leb-true 1 (length code) (and-left _ _ good)
 
-  few : length code ≤ codeLimit
+  pub few : length code ≤ codeLimit
   unfolding goodCode
   few = leb-true (length code) codeLimit (and-left _ _ (and-right (leb 1 (length code)) _ good))
 

@@ -7,7 +7,7 @@ use lib.Dec.{T, eqb}
 use lib.ListN.{length, replicate}
 use Rattle.words.specs.Numbers.{Bytes, beBytes}
 use Rattle.words.specs.Cases.{all}
-use Rattle.inventory.specs.Inventory.{goodCode, wellFormed}
+use Rattle.inventory.specs.Inventory.{wellFormed}
 use Rattle.inventory.specs.Listing.{Entry, listed}
 use Rattle.inventory.specs.Sound.{Sound}
 use Rattle.indices.specs.declared.reading.Check.{Check}
@@ -38,7 +38,7 @@ Fits = (size number : ℕ) (es : List Entry) → 4 ≤ size → length (answer (
 abbrev pub AreaClaims : Type 0
 AreaClaims = RoundTrip × ReadsBack × HoldsDue × Fits
 
--- ---- readings on both sides of each line
+-- ---- readings, for example; `IndexReaderExactly` is of every area
 
 -- what a check is to find: a number of entries, or the number of a refusal and its byte offset
 pub data Found : Type 0 where
@@ -49,11 +49,11 @@ pub record ReadingCase : Type 0 where
   pub area : List ℕ
   pub finds : Found
 
--- an area of a count and what stands behind it
+-- an area of a count and what stands after it
 abbrev pub case : ℕ → List ℕ → Found → ReadingCase
 case count setsBehind found = record { area = beBytes 4 count ++ setsBehind; finds = found }
 
--- a set of index 7: its length, and the bytes behind it
+-- a set of index 7: its length, and the bytes after it
 abbrev pub setOf : ℕ → List ℕ → List ℕ
 setOf n bytes = beBytes 4 7 ++ (beBytes 4 n ++ bytes)
 
@@ -63,40 +63,14 @@ lettersAndNuls letters nuls = replicate letters 65 ++ replicate nuls 0
 
 abbrev pub readingCases : List ReadingCase
 readingCases =
-    -- under 4 bytes, and a count of 0
-    record { area = []; finds = refusal 30 0 }
-    ∷ record { area = 0 ∷ 0 ∷ 0 ∷ []; finds = refusal 30 0 }
-    ∷ case 0 [] (entries 0)
-    -- codes of three and of four bytes, the shortest and the longest
-    ∷ case 1 (setOf 4 (lettersAndNuls 3 1)) (entries 1)
-    ∷ case 1 (setOf 8 (lettersAndNuls 4 4)) (entries 1)
-    ∷ case 1 (setOf 4 (lettersAndNuls 1 3)) (entries 1)
-    ∷ case 1 (setOf 84 (lettersAndNuls 80 4)) (entries 1)
+    -- the shortest and the longest code, and two sets
+    case 1 (setOf 4 (lettersAndNuls 1 3)) (entries 1)
     ∷ case 1 (setOf 1024 (lettersAndNuls 1023 1)) (entries 1)
-    -- under 8 bytes left
-    ∷ case 1 [] (refusal 31 4)
-    ∷ case 1 (beBytes 4 7 ++ (0 ∷ 0 ∷ 0 ∷ [])) (refusal 31 4)
-    -- lengths
-    ∷ case 1 (setOf 0 []) (refusal 32 4)
-    ∷ case 1 (setOf 5 (lettersAndNuls 4 1)) (refusal 32 4)
-    ∷ case 1 (setOf 6 (lettersAndNuls 5 1)) (refusal 32 4)
-    ∷ case 1 (setOf 1028 (lettersAndNuls 1024 4)) (refusal 32 4)
-    -- past the end, and a length that is refused before it
-    ∷ case 1 (setOf 1024 (lettersAndNuls 1022 1)) (refusal 31 4)
-    ∷ case 1 (setOf 1028 (lettersAndNuls 1022 1)) (refusal 32 4)
-    -- an empty code, no NUL, five NULs, a byte after a NUL
-    ∷ case 1 (setOf 4 (lettersAndNuls 0 4)) (refusal 33 4)
-    ∷ case 1 (setOf 4 (lettersAndNuls 4 0)) (refusal 33 4)
-    ∷ case 1 (setOf 8 (lettersAndNuls 3 5)) (refusal 33 4)
-    ∷ case 1 (setOf 8 (lettersAndNuls 4 3 ++ lettersAndNuls 1 0)) (refusal 33 4)
-    -- counts larger than what is there
-    ∷ case 2 (setOf 4 (lettersAndNuls 3 1)) (refusal 31 16)
-    ∷ case 4294967295 (setOf 4 (lettersAndNuls 3 1)) (refusal 31 16)
-    -- bytes after the last set
-    ∷ case 0 (setOf 0 []) (entries 0)
-    ∷ case 1 (setOf 4 (lettersAndNuls 3 1) ++ lettersAndNuls 5 0) (entries 1)
-    -- a second set
     ∷ case 2 (setOf 4 (lettersAndNuls 3 1) ++ setOf 8 (lettersAndNuls 4 4)) (entries 2)
+    -- each refusal: under 4 bytes, a set that isn't there, a code of 1,024 bytes, five NULs
+    ∷ record { area = 0 ∷ 0 ∷ 0 ∷ []; finds = refusal 30 0 }
+    ∷ case 2 (setOf 4 (lettersAndNuls 3 1)) (refusal 31 16)
+    ∷ case 1 (setOf 1028 (lettersAndNuls 1024 4)) (refusal 32 4)
     ∷ case 2 (setOf 4 (lettersAndNuls 3 1) ++ setOf 8 (lettersAndNuls 3 5)) (refusal 33 16)
     ∷ []
 

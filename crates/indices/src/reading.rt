@@ -7,6 +7,7 @@ ghost use Rattle.words.specs.Numbers.{zeros};
 ghost use Rattle.indices.specs.Reading.{lengthAt, goodLength, goodField, faultAt, reading, checkOf};
 ghost use Rattle.indices.specs.Cursor.{nextOf, StepsGive, startOf, EntriesInOrder};
 ghost use Rattle.indices.specs.Claims.{ReadingCases, AreaClaims};
+ghost use Rattle.indices.specs.ReaderClaims.{IndexReaderExactly};
 use inventory::CODE_LIMIT;
 
 // The most bytes of a code with its NULs.
@@ -114,6 +115,7 @@ pub fn fault_of(area: &[u8], at: usize, n: u32) -> Fault
 pub fn check_area(area: &[u8]) -> Check
     ensures { λ r. ⌜ r ≡ checkOf (reading (now (area .entry))) ⌝ }
     ensures claims { λ _. ⌜ ReadingCases × AreaClaims ⌝ }
+    ensures exactly { λ _. ⌜ IndexReaderExactly ⌝ }
 {
     if area.len() < 4 {
         return Check::Refused(Refusal::Short, 0);

@@ -8,6 +8,7 @@ ghost use Rattle.inventory.specs.Listing.{listed};
 ghost use Rattle.inventory.specs.Located.{entryIn};
 ghost use Rattle.inventory.specs.Scanning.{ahead, GoodFrom};
 ghost use Rattle.indices.specs.Area.{filled, entrySize, entryBytes, entriesBytes, fitting, run, areaAfter};
+ghost use Rattle.indices.specs.Bounds.{EntriesBounded};
 ghost use Rattle.indices.specs.Longest.{LongestRun};
 ghost use Rattle.indices.specs.OtherCodes.{WriterAgrees};
 ghost use Rattle.indices.specs.Writing.{DueEntries};
@@ -81,6 +82,7 @@ pub fn write_run(
     ensures { λ r. ⌜ r ≡ length (run (length (now (area .entry))) (number .0) (listed flag «item_type» (now (inventory .entry)))) ⌝ }
     ensures { λ _. ⌜ now (area .exit) ≡ areaAfter (now (area .entry)) (run (length (now (area .entry))) (number .0) (listed flag «item_type» (now (inventory .entry)))) ⌝ }
     ensures claims { λ _. ⌜ LongestRun × WriterAgrees ⌝ }
+    ensures bounds { λ _. ⌜ EntriesBounded ⌝ }
 {
     let handed = write_entries(area, inventory, flag, item_type, from, count);
     if 0 < handed {

@@ -6,4 +6,5 @@ pub mod Entries
 pub mod Listed
 pub mod Search
 pub mod OtherCodes
+pub mod RecordClaims
 pub mod Claims

@@ -6,4 +6,5 @@ pub mod Located
 pub mod Search
 pub mod Sound
 pub mod Scanning
+pub mod RecordClaims
 pub mod Claims

@@ -1,5 +1,5 @@
 // The scan: the inventory judged, its entries of a flag and type counted, and a place noted to search for the entry due, in one pass.
-ghost use Rattle.inventory.specs.Claims.{WellFormedCases, SizeLimit};
+ghost use Rattle.inventory.specs.Claims.{InventoryClaims};
 ghost use Rattle.inventory.specs.Scanning.{ScanFinds};
 use crate::judging::has_type;
 use crate::judging::one_if;
@@ -16,7 +16,7 @@ pub enum Judgement {
 // The inventory judged, and its entries of a flag and type counted. Entries are numbered from 1.
 pub fn scan(inventory: &[u8], flag: u32, item_type: u32, number: StartingNumber) -> Judgement
     ensures { λ r. ⌜ ScanFinds flag «item_type» (number .0) (now (inventory .entry)) r ⌝ }
-    ensures rules { λ _. ⌜ WellFormedCases × SizeLimit ⌝ }
+    ensures rules { λ _. ⌜ InventoryClaims ⌝ }
 {
     if records::SIZE_LIMIT < inventory.len() {
         return Judgement::Malformed;

@@ -6,7 +6,7 @@ pub mod Sizes
 pub mod GoodLaws
 pub mod MarkLaws
 pub mod Claims
-pub mod Limits
 pub mod Walks
 pub mod Operands
 pub mod Joins
+pub mod RecordClaims

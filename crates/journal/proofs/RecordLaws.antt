@@ -80,7 +80,7 @@ pub record Typed (kind node : ℕ) : Type 0 where
   pub unit : kind ≡ 4 → 15 ≤ node
   pub other : (kind ≡ 4 → ⊥) → node ≤ 14
 
-typed : (kind node : ℕ) → goodType kind node ≡ true → Typed kind node
+pub typed : (kind node : ℕ) → goodType kind node ≡ true → Typed kind node
 typed kind node = go (eqb kind 4) refl
   where
     go : (t : Bool) → eqb kind 4 ≡ t → cond t (within 15 largestType node) (within 1 14 node) ≡ true → Typed kind node

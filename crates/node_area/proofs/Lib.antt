@@ -1,4 +1,5 @@
 pub mod Verdicts
 pub mod Walks
 pub mod Steps
+pub mod ReaderClaims
 pub mod ReadingCases

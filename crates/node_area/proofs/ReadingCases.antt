@@ -1,4 +1,5 @@
--- The table of readings of node areas, by one computed test.
+-- The table of readings of node areas, by computing each.
+use mathlib.Core.Path.{refl}
 use Rattle.words.specs.Numbers.{be, beBytes, wordBytes, words, zeros}
 use Rattle.node_area.specs.Head.{isReserved}
 use Rattle.node_area.specs.Reading.{faultOf, lastAfter, verdict, operationsAt, reading}
@@ -6,4 +7,4 @@ use Rattle.node_area.specs.ReadingCases.{ReadingCases}
 
 pub reading-cases : ReadingCases
 unfolding be beBytes wordBytes words zeros isReserved faultOf lastAfter verdict operationsAt reading
-reading-cases = tt
+reading-cases = refl

@@ -7,6 +7,7 @@ ghost use lib.ListN.{length, drop};
 ghost use Rattle.words.specs.Numbers.{words};
 ghost use Rattle.node_area.specs.Head.{areaSize, headSize};
 ghost use Rattle.node_area.specs.Reading.{faultOf, lastAfter, operationsIn, verdict, operationsAt, single, readBy, reading, checkOf};
+ghost use Rattle.node_area.specs.ReaderClaims.{NodeReaderExactly};
 ghost use Rattle.node_area.specs.ReadingCases.{ReadingCases};
 ghost use Rattle.node_area.specs.Cursor.{stepAt, nextOf, StepsGive, startOf, EntriesInOrder};
 use crate::head::AREA_SIZE;
@@ -124,6 +125,7 @@ fn check_operators(area: &[u8]) -> Check
 // The whole area of a call of a scope judged: the number of its operations, or the first refusal.
 pub fn check_area(scope: u32, area: &[u8]) -> Check
     ensures { λ r. ⌜ r ≡ checkOf (reading scope (now (area .entry))) ⌝ }
+    ensures exactly { λ _. ⌜ NodeReaderExactly ⌝ }
     ensures cases { λ _. ⌜ ReadingCases ⌝ }
 {
     if area.len() != AREA_SIZE {

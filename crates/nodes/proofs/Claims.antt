@@ -6,7 +6,7 @@ use Prim.Native.Nat.{ℕ, zero, suc, _≤_, _<_}
 use native.Mathlib.Omega.{arith}
 use lib.Dec.{eqb}
 use lib.ListN.{length, take, drop, length-append, length-drop}
-use borrow.Author.Tests.{ltb-true}
+use borrow.Author.Tests.{eq-eqb, ne-eqb, ltb-true}
 use Rattle.journal.specs.Scope.{unitsOf, Selection}
 use Rattle.journal.specs.declared.scope.Units.{Units}
 use Rattle.words.specs.Numbers.{Small, beBytes, wordBytes, words, zeros}
@@ -26,7 +26,7 @@ use Rattle.nodes.specs.Longest.{AllOf}
 use Rattle.nodes.specs.Area.{operandsOf, part, body, answer, written}
 use Rattle.words.specs.Reading.{read}
 use Rattle.node_area.specs.Reading.{good, verdict, operationsAt, reading}
-use Rattle.nodes.specs.Claims.{Sorted, SmallOperands, Listed, operatorsAt, Filled, ReportableListed, NeverEmpty, WellFilled, RunCases, AreaClaims}
+use Rattle.nodes.specs.Claims.{CostExactly, partOf, OperatorsExactly, NextExactly, Sorted, SmallOperands, Listed, operatorsAt, Filled, ReportableListed, NeverEmpty, WellFilled, AreaClaims}
 use Rattle.nodes.proofs.Runs.{length-operandsOf, length-body, longest-run, run-facts, next-le}
 use Rattle.nodes.proofs.Listed.{chosen-code}
 use Rattle.nodes.proofs.Decoding.{sorted-lower, body-reads}
@@ -169,9 +169,34 @@ well-filled : WellFilled
 unfolding remains
 well-filled os state h r = run-facts os state h .many (ltb-true _ _ r)
 
-run-cases : RunCases
-unfolding nextState remains run longest cost present operandWords
-run-cases = tt
+-- ---- what a run costs, and the words of an answer
+
+cost-exactly : CostExactly
+unfolding cost present operandWords
+cost-exactly = record {
+  sum = λ os. refl;
+  absent = λ code. refl;
+  here = λ o os. rw (eq-eqb (opcode o) (opcode o) refl);
+  other = λ code o os n. rw (ne-eqb (opcode o) code n);
+  no-words = refl;
+  delete = λ p os. (refl, refl);
+  update = λ p os. (refl, refl);
+  add = λ p d os. (refl, refl);
+}
+
+same-part : (code : ℕ) (ws : List ℕ) → partOf code ws ≡ part code ws
+same-part code [] = refl
+same-part code (w ∷ ws) = refl
+
+operators-exactly : OperatorsExactly
+unfolding answer body
+operators-exactly units os state =
+    let handed = run os state in
+    rw (same-part 1 (operandsOf 1 handed), same-part 2 (operandsOf 2 handed), same-part 3 (operandsOf 3 handed))
+
+next-exactly : NextExactly
+unfolding nextState remains
+next-exactly os state = (refl, refl)
 
 pub area-claims : AreaClaims
-area-claims = record { reportable-listed = reportable-listed; round-trip = read-back; none-empty = none-empty; longest-run = longest-run; never-empty = never-empty; well-filled = well-filled; run-cases = run-cases }
+area-claims = record { cost-exactly = cost-exactly; operators = operators-exactly; reportable-listed = reportable-listed; round-trip = read-back; none-empty = none-empty; longest-run = longest-run; never-empty = never-empty; well-filled = well-filled; states = next-exactly }

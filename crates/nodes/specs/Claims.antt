@@ -1,21 +1,21 @@
 -- Claims about node areas, cited by the contract of `write_answer`.
-use Prim.Native.Nat.{ℕ, zero, suc, _≤_, _<_}
+use Prim.Native.Nat.{ℕ, zero, suc, _+_, _*_, _≤_, _<_}
 use mathlib.Core.Path.{_≡_}
 use mathlib.Core.Bool.{Bool, true, cond}
 use mathlib.Core.List.{List, [], _∷_, _++_}
-use lib.Dec.{T, eqb}
-use lib.ListN.{length, drop, replicate}
+use lib.Dec.{ltb, eqb}
+use lib.ListN.{length, drop}
 use Rattle.journal.specs.Scope.{unitsOf, Selection}
 use Rattle.words.specs.Numbers.{Bytes, Small, words}
-use Rattle.words.specs.Cases.{all}
 use Rattle.journal.specs.declared.operation.Operation.{Operation}
 use Rattle.journal.specs.declared.operation.Operation.the-variants.{Delete, Update, Add}
 use Rattle.journal.specs.Journal.{opcode, operands, wellFormed}
 use Rattle.journal.specs.Reportable.{reportable, operandWords}
-use Rattle.node_area.specs.Head.{areaSize}
-use Rattle.nodes.specs.Run.{filledWords, run, remains, nextState}
+use Rattle.journal.specs.declared.scope.Units.{Units}
+use Rattle.node_area.specs.Head.{areaSize, headWords}
+use Rattle.nodes.specs.Run.{present, cost, filledWords, run, remains, nextState}
 use Rattle.nodes.specs.Longest.{LongestRun}
-use Rattle.nodes.specs.Area.{written}
+use Rattle.nodes.specs.Area.{operandsOf, answer, written}
 use Rattle.words.specs.Reading.{read}
 use Rattle.node_area.specs.Reading.{countIn, reading}
 
@@ -33,6 +33,32 @@ pub record Listed (os : List Operation) : Type 0 where
   pub sorted : Sorted 0 os
   pub small : SmallOperands os
   pub few : length os < 4294967296
+
+-- 01: "A run costs one operator word for each opcode present, one word for each delete or update, two for each addition.": opcode by opcode
+pub record CostExactly : Type 0 where
+  pub sum : (os : List Operation) → cost os ≡ present 1 os + present 2 os + present 3 os + operandWords os
+  pub absent : (code : ℕ) → present code [] ≡ 0
+  pub here : (o : Operation) (os : List Operation) → present (opcode o) (o ∷ os) ≡ 1
+  pub other : (code : ℕ) (o : Operation) (os : List Operation) → (opcode o ≡ code → ⊥) → present code (o ∷ os) ≡ present code os
+  pub no-words : operandWords [] ≡ 0
+  pub delete : (p : ℕ) (os : List Operation) → (opcode (Delete p) ≡ 1) × (operandWords (Delete p ∷ os) ≡ 1 + operandWords os)
+  pub update : (p : ℕ) (os : List Operation) → (opcode (Update p) ≡ 2) × (operandWords (Update p ∷ os) ≡ 1 + operandWords os)
+  pub add : (p d : ℕ) (os : List Operation) → (opcode (Add p d) ≡ 3) × (operandWords (Add p d ∷ os) ≡ 2 + operandWords os)
+
+-- 01: "one operator and its operands for each opcode present, then 0x00000000": the words of deletes, then updates, then additions
+abbrev pub partOf : ℕ → List ℕ → List ℕ
+partOf code [] = []
+partOf code (w ∷ ws) = (code * 16777216 + length (w ∷ ws)) ∷ w ∷ ws
+
+abbrev pub OperatorsExactly : Type 0
+OperatorsExactly = (units : Units) (os : List Operation) (state : ℕ)
+    → let handed = run os state in
+    answer units os state ≡ headWords units (nextState os state) ++ ((partOf 1 (operandsOf 1 handed) ++ (partOf 2 (operandsOf 2 handed) ++ partOf 3 (operandsOf 3 handed))) ++ (0 ∷ []))
+
+-- 01: "new state (0 when nothing remains)", "Status 1 when operations remain, otherwise 0."
+abbrev pub NextExactly : Type 0
+NextExactly = (os : List Operation) (state : ℕ)
+    → (remains os state ≡ ltb (state + length (run os state)) (length os)) × (nextState os state ≡ cond (ltb (state + length (run os state)) (length os)) (state + length (run os state)) 0)
 
 -- Every reportable list is one.
 abbrev pub ReportableListed : Type 0
@@ -70,45 +96,14 @@ NeverEmpty = (os : List Operation) (state : ℕ) → state < length os → 0 < l
 abbrev pub WellFilled : Type 0
 WellFilled = (os : List Operation) (state : ℕ) → state ≤ length os → remains os state ≡ true → filledWords ≤ operandWords (run os state)
 
--- 01, "Readings on both sides of the lines", as runs: so many deletes, updates and additions, the state given and the state left.
-pub record RunCase : Type 0 where
-  pub deletes : ℕ
-  pub updates : ℕ
-  pub additions : ℕ
-  pub state : ℕ
-  pub left : ℕ
-
-abbrev pub case : ℕ → ℕ → ℕ → ℕ → ℕ → RunCase
-case d u a s l = record { deletes = d; updates = u; additions = a; state = s; left = l }
-
-abbrev pub runCases : List RunCase
-runCases =
-    case 1018 0 0 0 0
-    ∷ case 1019 0 0 0 1018
-    ∷ case 1019 0 0 1018 0
-    ∷ case 0 0 509 0 0
-    ∷ case 0 0 510 0 509
-    ∷ case 0 0 510 509 0
-    ∷ case 1 1013 1 0 0
-    ∷ case 1 1014 1 0 1015
-    ∷ case 1 1014 1 1015 0
-    ∷ case 0 0 0 0 0
-    ∷ []
-
-abbrev pub agrees : RunCase → Bool
-agrees c =
-    let os = replicate (c .deletes) (Delete 42) ++ (replicate (c .updates) (Update 42) ++ replicate (c .additions) (Add 42 5)) in
-    eqb (nextState os (c .state)) (c .left)
-
-abbrev pub RunCases : Type 0
-RunCases = T (all agrees runCases)
-
 -- all of them
 pub record AreaClaims : Type 0 where
+  pub cost-exactly : CostExactly
+  pub operators : OperatorsExactly
+  pub states : NextExactly
   pub reportable-listed : ReportableListed
   pub round-trip : RoundTrip
   pub none-empty : NoneEmpty
   pub longest-run : LongestRun
   pub never-empty : NeverEmpty
   pub well-filled : WellFilled
-  pub run-cases : RunCases

@@ -28,7 +28,7 @@ module _ (s t : ℕ) (c : Change) (h : c .start ≤ s) (k : s ≤ t) where
   from-from : from t (from s c) ≡ from t c
   from-from = rw (drop-drop (t - s) (s - c .start) (c .value), far)
 
-same-self : (l : List ℕ) → same l l ≡ true
+pub same-self : (l : List ℕ) → same l l ≡ true
 unfolding same
 same-self [] = refl
 same-self (a ∷ l) = rw (eq-eqb a a refl) (same-self l)

@@ -1,5 +1,6 @@
 pub mod Placing
 pub mod Fills
+pub mod ChangeClaims
 pub mod Pieces
 pub mod Offsets
 pub mod Joins

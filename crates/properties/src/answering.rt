@@ -6,6 +6,7 @@ ghost use Rattle.records.specs.Records.{sizeLimit};
 ghost use Rattle.node_area.specs.Head.{areaSize};
 ghost use Rattle.properties.specs.Changes.{changes, dueAt};
 ghost use Rattle.properties.specs.Filling.{areaRoom, fill};
+ghost use Rattle.properties.specs.ChangeClaims.{ChangesExactly, FillExactly, SessionExactly};
 ghost use Rattle.properties.specs.Following.{Resumes};
 ghost use Rattle.properties.specs.Writing.{outcomeFor, answered};
 ghost use Rattle.properties.specs.Answer.{outcomeOf, areaAfter};
@@ -41,6 +42,7 @@ pub fn answer(area: &mut [u8], j: &[u8]) -> Outcome
     requires { ⌜ length (now area) ≡ areaSize ⌝ }
     ensures { λ r. ⌜ r ≡ outcomeOf (now (area .entry)) (now (j .entry)) ⌝ }
     ensures { λ _. ⌜ now (area .exit) ≡ areaAfter (now (area .entry)) (now (j .entry)) ⌝ }
+    ensures claims { λ _. ⌜ ChangesExactly × FillExactly × SessionExactly ⌝ }
 {
     let phandle = property_area::read_phandle(&*area);
     let state = property_area::read_state(&*area);

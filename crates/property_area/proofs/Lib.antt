@@ -1,4 +1,5 @@
 pub mod Judging
 pub mod PropertyLaws
 pub mod Written
+pub mod ReaderClaims
 pub mod Claims

@@ -5,6 +5,7 @@ ghost use Rattle.property_area.specs.declared.reading.Judged.the-variant
 ghost use Rattle.property_area.specs.Reading.{locatedAt, judgedAt, reading, checkOf};
 ghost use Rattle.property_area.specs.ReadingCases.{ReadingCases};
 ghost use Rattle.property_area.specs.Claims.{RoundTrip};
+ghost use Rattle.property_area.specs.ReaderClaims.{PropertyReaderExactly};
 ghost use Rattle.property_area.specs.Cursor.{nextOf, StepsGive, startOf, PropertiesInOrder};
 use crate::head::COUNT_AT;
 use crate::head::FIRST_AT;
@@ -109,6 +110,7 @@ pub fn locate(area: &[u8], at: usize) -> Located
 pub fn check_area(area: &[u8]) -> Check
     ensures { λ r. ⌜ r ≡ checkOf (reading (now (area .entry))) ⌝ }
     ensures claims { λ _. ⌜ ReadingCases × RoundTrip ⌝ }
+    ensures exactly { λ _. ⌜ PropertyReaderExactly ⌝ }
 {
     if area.len() != AREA_SIZE {
         return Check::Refused(Refusal::Size, 0);

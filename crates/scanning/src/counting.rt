@@ -3,7 +3,7 @@ ghost use mathlib.Core.Path.{_≡_};
 ghost use Rattle.journal.specs.Scope.{asking};
 ghost use Rattle.journal.specs.Reportable.{judgementOf};
 ghost use Rattle.journal.specs.Marks.{Marked};
-ghost use Rattle.journal.specs.Claims.{WellFormedCases, SizeLimit, OperandsFree, PropertyLimits, UnitReported, PropertiesPassed};
+ghost use Rattle.journal.specs.Claims.{JournalClaims};
 ghost use Rattle.scanning.specs.Terms.{unpacked};
 use crate::noting::note;
 use crate::stride::Position;
@@ -35,7 +35,7 @@ pub fn counts_of(packed: u64) -> Counts
 // The journal judged, and the operations counted that the row reports of the units asked for. Which marks were noted is left free; each is true.
 pub fn scan(j: &[u8], row: &[u8; 17], units: Units) -> Scanned
     ensures { λ r. ⌜ (r .judgement ≡ judgementOf (asking (now (row .entry)) units) (now (j .entry))) × Marked (asking (now (row .entry)) units) (now (j .entry)) (r .marks) (r .noted) ⌝ }
-    ensures rules { λ _. ⌜ WellFormedCases × SizeLimit × OperandsFree × PropertyLimits × UnitReported × PropertiesPassed ⌝ }
+    ensures rules { λ _. ⌜ JournalClaims ⌝ }
 {
     let mut marks: [u64; 128] = [0; 128];
     let mut noted: usize = 0;

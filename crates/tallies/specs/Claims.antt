@@ -19,6 +19,7 @@ use Rattle.tallies.specs.Tallies.{noTallies, recountOf, recountFor, tall
 use Rattle.tallies.specs.Keeping.{Left, appendOf}
 use Rattle.tallies.specs.Sessions.{Standing, Counted, Keeps, Turn, standing, Session, fresh, appending, joining, clearing}
 use Rattle.tallies.specs.Readings.{TallyReadings}
+use Rattle.tallies.specs.RowClaims.{ThirdRow}
 
 -- a statement holds exactly when another does
 abbrev pub Exactly : Type 0 → Type 0 → Type 0
@@ -40,11 +41,11 @@ ClearKeeps = Keeps clearing
 
 -- ---- each outcome exactly when
 
--- "bytes that are not exactly one good record" are malformed
+-- DECISIONS: "bytes that are not exactly one good record" are malformed
 abbrev pub OneGood : List ℕ → Type 0
 OneGood r = (records r ≡ r ∷ []) × (wellFormed r ≡ true)
 
--- a part put behind the bytes in use, where it is good
+-- a part put after the bytes in use, if it is good
 pub record AttachedExactly (Good : Type 0) (b : List ℕ) (t : Tallied) (part : List ℕ) (x : Left) : Type 0 where
   pub unfit : Exactly (x .outcome ≡ Unfit) ((length b < t .used) ⊎ (talliesWithin (t .used) (t .tallies) ≡ false))
   pub malformed : (x .outcome ≡ Unfit → ⊥) → Exactly (x .outcome ≡ Malformed) (Good → ⊥)
@@ -57,7 +58,7 @@ pub record AttachedExactly (Good : Type 0) (b : List ℕ) (t : Tallied) (part : 
 abbrev pub EachAppend : Type 0
 EachAppend = (b : List ℕ) (t : Tallied) (r : List ℕ) → AttachedExactly (OneGood r) b t r (appendOf b t r)
 
--- a count above the use, row by row and opcode by opcode
+-- no count above a limit, opcode by opcode
 pub record CountsBelow (limit : ℕ) (c : Counts) : Type 0 where
   pub deletes : c .deletes ≤ limit
   pub updates : c .updates ≤ limit
@@ -107,6 +108,7 @@ pub record RowsOfScopes : Type 0 where
 pub record RecountClaims : Type 0 where
   pub each-recount : EachRecount
   pub rows-of-scopes : RowsOfScopes
+  pub third-row : ThirdRow
   pub readings : TallyReadings
 
 pub record TallyClaims : Type 0 where

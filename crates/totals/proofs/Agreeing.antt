@@ -9,8 +9,9 @@ use lib.Dec.{eqb, leb}
 use lib.ListN.{length, getD}
 use borrow.Author.Tests.{eqb-true, eqb-false, eq-eqb, ne-eqb, le-leb, leb-true}
 use Rattle.words.proofs.Choice.{decide, and-left, and-right}
+use Rattle.words.proofs.Exactly.{equal, at-most, both}
 use Rattle.totals.specs.Adding.{totalsOf, sums}
-use Rattle.totals.specs.Consistent.{sumFrom, callsAgree, wordsAgree, consistent, ConsistentNone, ConsistentKept, ConsistentReadings, ConsistentClaims}
+use Rattle.totals.specs.Consistent.{sumFrom, callsAgree, wordsAgree, consistent, ConsistentNone, ConsistentKept, ConsistentExactly, SumExactly, ConsistentClaims}
 use Rattle.totals.proofs.Sums.{getD-sums}
 use Rattle.totals.proofs.Taken.{taken}
 
@@ -129,9 +130,13 @@ kept t m h s a b e =
     rw (taken t m e .1)
     (agreed (sums (t .figures) (m .figures)) (both-agree (t .figures) (m .figures) (h ∙ sym s) (agreeing (t .figures) a) (agreeing (m .figures) b)))
 
-readings : ConsistentReadings
-unfolding consistent callsAgree wordsAgree sumFrom
-readings = tt
+exact : ConsistentExactly
+unfolding consistent callsAgree wordsAgree
+exact t = both (both (equal _ _) (both (equal _ _) (both (equal _ _) (equal _ _)))) (both (equal _ _) (both (at-most _ _) (at-most _ _)))
+
+sum-exactly : SumExactly
+unfolding sumFrom
+sum-exactly = record { none = λ fs at. refl; next = λ fs at n. refl }
 
 pub consistent-claims : ConsistentClaims
-consistent-claims = record { none = none; kept = kept; readings = readings }
+consistent-claims = record { exactly = exact; sums = sum-exactly; none = none; kept = kept }

@@ -1,4 +1,5 @@
 pub mod Choice
+pub mod Exactly
 pub mod Ends
 pub mod Numbers
 pub mod Places
@@ -6,3 +7,5 @@ pub mod Stores
 pub mod Zeros
 pub mod Words
 pub mod Readings
+pub mod Named
+pub mod Claims

@@ -7,16 +7,12 @@ use lib.ListN.{length}
 use borrow.Author.Needs.{needs}
 use borrow.Author.Tests.{eqb-true, eqb-false}
 use denote.Ref.{now}
-use Rattle.inventory.specs.Claims.{WellFormedCases, SizeLimit}
-use Rattle.inventory.proofs.Claims.{well-formed-cases, size-limit}
+use Rattle.inventory.proofs.Claims.{inventory-claims}
 use Rattle.records.proofs.Choosing.{one-if, one-if-le}
 use Rattle.inventory.proofs.Entries.{too-large, from-bad, Scanned, scanned-start, found-here, found-before, scanned-step, scanned-end}
 use Rattle.inventory.proofs.RecordLaws.{Stands, stands, none-stands, readable}
 use Rattle.inventory.proofs.scanning.scan.Statement.{statement}
 use Rattle.inventory.proofs.scanning.scan.Tie as tie
-
-rules : WellFormedCases × SizeLimit
-rules = (well-formed-cases, size-limit)
 
 abbrev Inv-loop : tie.InvT-loop
 Inv-loop inventory flag type number at₀ count₀ due₀ at count due = Scanned flag type (number .0) inventory at count due
@@ -25,13 +21,13 @@ abbrev μ-loop : tie.MeasureT-loop
 μ-loop inventory flag type number at₀ count₀ due₀ at count due = length inventory - at
 
 returns : tie.Need-returns Inv-loop μ-loop
-returns c = (too-large (now (c .before .before .args .inventory)) (c .if1 .taken), rules)
+returns c = (too-large (now (c .before .before .args .inventory)) (c .if1 .taken), inventory-claims)
 
 loop-holds : tie.Need-loop-holds Inv-loop μ-loop
 loop-holds c = scanned-start _ _ _ _
 
 returns-2 : tie.Need-returns-2 Inv-loop μ-loop
-returns-2 c = (from-bad (c .before .before .before .loop .inv .passed) (c .before .before .loop-test .taken) (none-stands (now (c .before .before .before .before .before .before .args .inventory)) (c .before .before .before .loop .at) _ (c .before .record-at .ensures) (c .if2 .taken)), rules)
+returns-2 c = (from-bad (c .before .before .before .loop .inv .passed) (c .before .before .loop-test .taken) (none-stands (now (c .before .before .before .before .before .before .args .inventory)) (c .before .before .before .loop .at) _ (c .before .record-at .ensures) (c .if2 .taken)), inventory-claims)
 
 -- the good record that a turn passes
 standing : (c : tie.Else2 Inv-loop μ-loop) → Stands (now (c .before .before .before .before .before .before .args .inventory)) (c .before .before .before .loop .at) (c .before .record-at .result)
@@ -57,7 +53,7 @@ loop-again c =
     (λ a b. ⊎-elim (λ w. rw (w .1) (found-here scanned (eqb-true _ _ (next ∙ w .0 .taken)))) (λ w. rw (w .1) (found-before scanned _ (one c) (eqb-false _ _ (next ∙ w .0 .left)) a b)) (c .before .before .if3 .came))
 
 returns-3 : tie.Need-returns-3 Inv-loop μ-loop
-returns-3 c = (scanned-end (c .before .loop .inv) (c .before .before .if1 .left) (c .loop-test .left), rules)
+returns-3 c = (scanned-end (c .before .loop .inv) (c .before .before .if1 .left) (c .loop-test .left), inventory-claims)
 
 pub scan-spec : {M : Type 1} → statement M
 scan-spec =

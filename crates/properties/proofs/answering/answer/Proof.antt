@@ -6,9 +6,15 @@ use denote.Ref.{now}
 use Rattle.journal.proofs.Walks.{within-limit}
 use Rattle.properties.specs.Following.{FollowFinds}
 use Rattle.properties.specs.declared.following.Followed.the-variants.{Resumed}
+use Rattle.properties.specs.ChangeClaims.{ChangesExactly, FillExactly, SessionExactly}
+use Rattle.properties.proofs.ChangeClaims.{changes-exactly, fill-exactly, session-exactly}
 use Rattle.properties.proofs.Answers.{answer-malformed, answer-unknown, answer-reserved, answer-given}
 use Rattle.properties.proofs.answering.answer.Statement.{statement}
 use Rattle.properties.proofs.answering.answer.Tie as tie
+
+-- what a call comes to and leaves, and the claims beside it
+claimed : {P Q : Type 0} → P × Q → P × (Q × (ChangesExactly × FillExactly × SessionExactly))
+claimed p = (p .0, (p .1, (changes-exactly, fill-exactly, session-exactly)))
 
 -- the journal is well formed, the session carries the state, and goes on from this place
 resumed : (c : tie.After-known-told) →
@@ -23,7 +29,7 @@ returns c =
     let told = c .before .before .before in
     let s = told .before .before .before .before .before .before .before .before .before .before in
     let free = sym (c .before .is-reserved .ensures) ∙ not-true _ (c .if1 .taken) in
-    answer-reserved (now (s .args .area)) (now (s .args .j)) (resumed told .0) free
+    claimed (answer-reserved (now (s .args .area)) (now (s .args .j)) (resumed told .0) free)
 
 write-answer-requires : tie.Need-write-answer-requires
 write-answer-requires c κs =
@@ -36,7 +42,7 @@ returns-2 : tie.Need-returns-2
 returns-2 c =
     let follow = c .before .before in
     let s = follow .before .before .before .before .before .before .before in
-    answer-malformed (now (s .args .area)) (now (s .args .j)) (rw (c .enum-told .given .1) at (follow .follow .ensures))
+    claimed (answer-malformed (now (s .args .area)) (now (s .args .j)) (rw (c .enum-told .given .1) at (follow .follow .ensures)))
 
 returns-3 : tie.Need-returns-3
 returns-3 c =
@@ -45,8 +51,8 @@ returns-3 c =
     let phandle = state .before .before in
     let s = phandle .before .before .before .before in
     let found = rw (c .enum-told2 .given .1) at (follow .follow .ensures) in
-    answer-unknown (now (s .args .area)) (now (s .args .j)) (found .0) (phandle .read-phandle .result) (state .read-state .result) (phandle .read-phandle .ensures) (state .read-state .ensures)
-    (found .1)
+    claimed (answer-unknown (now (s .args .area)) (now (s .args .j)) (found .0) (phandle .read-phandle .result) (state .read-state .result) (phandle .read-phandle .ensures) (state .read-state .ensures)
+    (found .1))
 
 returns-4 : tie.Need-returns-4
 returns-4 c =
@@ -58,8 +64,8 @@ returns-4 c =
     let r = resumed told in
     let free = sym (reserved .is-reserved .ensures) ∙ not-false _ (c .before .before .before .before .if1 .left) in
     let gave = c .before .before .write-answer in
-    answer-given (now (s .args .area)) (now (s .args .j)) (r .0) (phandle .read-phandle .result) (state .read-state .result) (phandle .read-phandle .ensures) (state .read-state .ensures) free (r .1)
-    (gave .result) (gave .last .0) (gave .ensures .0) (gave .ensures .1)
+    claimed (answer-given (now (s .args .area)) (now (s .args .j)) (r .0) (phandle .read-phandle .result) (state .read-state .result) (phandle .read-phandle .ensures) (state .read-state .ensures) free (r .1)
+    (gave .result) (gave .last .0) (gave .ensures .0) (gave .ensures .1))
 
 pub answer-spec : {M : Type 1} → statement M
 answer-spec =

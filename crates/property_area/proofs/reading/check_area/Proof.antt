@@ -6,6 +6,7 @@ use borrow.Author.Tests.{eq-eqb, ne-eqb, not-false}
 use denote.Ref.{now}
 use Rattle.property_area.specs.Reading.{reading}
 use Rattle.property_area.proofs.Claims.{area-claims}
+use Rattle.property_area.proofs.ReaderClaims.{property-reader-exactly}
 use Rattle.property_area.proofs.Judging.{fine-told}
 use Rattle.property_area.proofs.PropertyLaws.{Stands, stands-first, stands-end, stands-bad, stands-fine}
 use Rattle.property_area.proofs.reading.check_area.Statement.{statement}
@@ -19,11 +20,11 @@ abbrev μ-loop : tie.MeasureT-loop
 
 returns : tie.Need-returns Inv-loop μ-loop
 unfolding reading
-returns c = (rw (ne-eqb _ 4096 (c .if1 .taken)), area-claims)
+returns c = (rw (ne-eqb _ 4096 (c .if1 .taken)), (area-claims, property-reader-exactly))
 
 returns-2 : tie.Need-returns-2 Inv-loop μ-loop
 unfolding reading
-returns-2 c = (rw (eq-eqb _ 4096 (c .before .before .if1 .left), ← c .before .is-reserved .ensures, c .if2 .taken), area-claims)
+returns-2 c = (rw (eq-eqb _ 4096 (c .before .before .if1 .left), ← c .before .is-reserved .ensures, c .if2 .taken), (area-claims, property-reader-exactly))
 
 loop-holds : tie.Need-loop-holds Inv-loop μ-loop
 loop-holds c =
@@ -34,7 +35,7 @@ loop-holds c =
 returns-3 : tie.Need-returns-3 Inv-loop μ-loop
 returns-3 c =
     let l = c .before .before .before .before .before in
-    (stands-bad (l .loop .inv) (c .before .before .before .before .loop-test .taken) _ (sym (c .before .before .before .judge .ensures) ∙ c .before .found .given .1), area-claims)
+    (stands-bad (l .loop .inv) (c .before .before .before .before .loop-test .taken) _ (sym (c .before .before .before .judge .ensures) ∙ c .before .found .given .1), (area-claims, property-reader-exactly))
 
 add-at : tie.Need-add-at Inv-loop μ-loop
 add-at c =
@@ -48,7 +49,7 @@ loop-again c =
     stands-fine (c .before .before .before .before .before .before .loop .inv) (c .before .before .before .before .before .loop-test .taken) _ found
 
 returns-4 : tie.Need-returns-4 Inv-loop μ-loop
-returns-4 c = (stands-end (c .before .loop .inv) (c .loop-test .left), area-claims)
+returns-4 c = (stands-end (c .before .loop .inv) (c .loop-test .left), (area-claims, property-reader-exactly))
 
 pub check-area-spec : {M : Type 1} → statement M
 check-area-spec =
