@@ -3,7 +3,7 @@ use Prim.Native.Nat.{ℕ, _+_, _*_}
 use mathlib.Core.Bool.{Bool, _&&_}
 use mathlib.Core.List.{List, [], _∷_, _++_}
 use lib.Dec.{T, eqb}
-use lib.ListN.{length, take, replicate}
+use lib.ListN.{take, replicate}
 use Rattle.words.specs.Numbers.{be16, be64, beBytes}
 use Rattle.words.specs.Cases.{all}
 use Rattle.dump.specs.declared.registration.Phase.{Phase}
@@ -11,7 +11,7 @@ use Rattle.dump.specs.declared.registration.Phase.the-variants.{Unregistered, R
 use Rattle.dump.specs.declared.registration.Registration.{Registration}
 use Rattle.dump.specs.declared.registration.Verdict.{Verdict}
 use Rattle.dump.specs.declared.registration.Verdict.the-variants.{Done, Parameter, AlreadyRegistered, DumpActive}
-use Rattle.dump.specs.Claims.{bare, disk, from, times}
+use Rattle.dump.specs.Claims.{bare, from}
 use Rattle.dumping.specs.Running.{Run, runOf}
 
 -- ---- structures
@@ -84,88 +84,29 @@ goodOne = structure 1 (section 1 1 0 3 2)
 
 abbrev pub copying : List Bool
 copying =
-    -- types 1 and 2 read platform memory, 0x11, 0x12 and 0x100 partition memory
+    -- from platform memory; in partition memory, overlapping by all but one byte; the second section reads what the first wrote
     leaves (ran 1 (section 1 1 0 3 2)) (0 ∷ 1 ∷ 101 ∷ 102 ∷ 103 ∷ 5 ∷ 6 ∷ 7 ∷ 8 ∷ 9 ∷ []) 32768
-    ∷ leaves (ran 1 (section 1 2 1 2 2)) (0 ∷ 1 ∷ 102 ∷ 103 ∷ 4 ∷ 5 ∷ 6 ∷ 7 ∷ 8 ∷ 9 ∷ []) 32768
-    ∷ leaves (ran 1 (section 1 17 7 3 2)) (0 ∷ 1 ∷ 7 ∷ 8 ∷ 9 ∷ 5 ∷ 6 ∷ 7 ∷ 8 ∷ 9 ∷ []) 32768
-    ∷ leaves (ran 1 (section 1 18 0 2 8)) (0 ∷ 1 ∷ 2 ∷ 3 ∷ 4 ∷ 5 ∷ 6 ∷ 7 ∷ 0 ∷ 1 ∷ []) 32768
-    ∷ leaves (ran 1 (section 1 256 0 1 9)) (0 ∷ 1 ∷ 2 ∷ 3 ∷ 4 ∷ 5 ∷ 6 ∷ 7 ∷ 8 ∷ 0 ∷ []) 32768
-    ∷ tells (ran 1 (section 1 17 7 3 2)) 0 0 3
-    -- overlapping by all but one byte, and by less, in both directions; onto itself
     ∷ leaves (ran 1 (section 1 17 0 4 1)) (0 ∷ 0 ∷ 1 ∷ 2 ∷ 3 ∷ 5 ∷ 6 ∷ 7 ∷ 8 ∷ 9 ∷ []) 32768
-    ∷ leaves (ran 1 (section 1 17 1 4 0)) (1 ∷ 2 ∷ 3 ∷ 4 ∷ 4 ∷ 5 ∷ 6 ∷ 7 ∷ 8 ∷ 9 ∷ []) 32768
-    ∷ leaves (ran 1 (section 1 17 0 6 3)) (0 ∷ 1 ∷ 2 ∷ 0 ∷ 1 ∷ 2 ∷ 3 ∷ 4 ∷ 5 ∷ 9 ∷ []) 32768
-    ∷ leaves (ran 1 (section 1 17 3 6 0)) (3 ∷ 4 ∷ 5 ∷ 6 ∷ 7 ∷ 8 ∷ 6 ∷ 7 ∷ 8 ∷ 9 ∷ []) 32768
-    ∷ leaves (ran 1 (section 1 17 2 5 2)) ten 32768
-    -- the second section reads what the first wrote, and writes over it
     ∷ leaves (ran 2 (section 1 1 0 3 0 ++ section 1 17 0 3 5)) (101 ∷ 102 ∷ 103 ∷ 3 ∷ 4 ∷ 101 ∷ 102 ∷ 103 ∷ 8 ∷ 9 ∷ []) 32768
-    ∷ leaves (ran 2 (section 1 17 0 2 4 ++ section 1 17 4 2 0)) (0 ∷ 1 ∷ 2 ∷ 3 ∷ 0 ∷ 1 ∷ 6 ∷ 7 ∷ 8 ∷ 9 ∷ []) 32768
-    ∷ leaves (ran 2 (section 1 1 0 2 0 ++ section 1 1 2 1 1)) (101 ∷ 103 ∷ 2 ∷ 3 ∷ 4 ∷ 5 ∷ 6 ∷ 7 ∷ 8 ∷ 9 ∷ []) 32768
-    -- ten sections
-    ∷ tells (ran 10 (times 10 (section 1 17 0 1 5))) 9 0 1
-    ∷ leaves (ran 10 (times 9 (section 1 17 0 1 5) ++ section 1 1 2 1 9)) (0 ∷ 1 ∷ 2 ∷ 3 ∷ 4 ∷ 0 ∷ 6 ∷ 7 ∷ 8 ∷ 103 ∷ []) 32768
     ∷ []
 
 abbrev pub errors : List Bool
 errors =
-    -- source start at its buffer's end, and one before it
-    tells (ran 1 (section 1 1 3 1 0)) 0 24576 0
-    ∷ leaves (ran 1 (section 1 1 3 1 0)) ten 40960
-    ∷ tells (ran 1 (section 1 1 2 1 0)) 0 0 1
-    ∷ tells (ran 1 (section 1 17 10 1 0)) 0 24576 0
-    ∷ tells (ran 1 (section 1 17 9 1 0)) 0 0 1
-    -- nothing requested, at the end and past it
-    ∷ tells (ran 1 (section 1 1 3 0 0)) 0 16384 0
-    ∷ tells (ran 1 (section 1 1 4 0 0)) 0 24576 0
-    -- start plus length past the end: what there is
+    -- source start at its buffer's end, with nothing requested; start plus length past the end: what there is; destination past the end, and one byte short
+    tells (ran 1 (section 1 1 3 0 0)) 0 16384 0
     ∷ tells (ran 1 (section 1 1 1 3 0)) 0 8192 2
     ∷ leaves (ran 1 (section 1 1 1 3 0)) (102 ∷ 103 ∷ 2 ∷ 3 ∷ 4 ∷ 5 ∷ 6 ∷ 7 ∷ 8 ∷ 9 ∷ []) 40960
-    -- destination room exactly enough, one short, none, and past the end
-    ∷ tells (ran 1 (section 1 1 0 3 7)) 0 0 3
-    ∷ tells (ran 1 (section 1 1 0 3 8)) 0 2048 2
-    ∷ leaves (ran 1 (section 1 1 0 3 8)) (0 ∷ 1 ∷ 2 ∷ 3 ∷ 4 ∷ 5 ∷ 6 ∷ 7 ∷ 101 ∷ 102 ∷ []) 40960
-    ∷ tells (ran 1 (section 1 1 0 3 10)) 0 6144 0
-    ∷ leaves (ran 1 (section 1 1 0 3 10)) ten 40960
     ∷ tells (ran 1 (section 1 1 0 0 11)) 0 4096 0
-    -- both starts outside
-    ∷ tells (ran 1 (section 1 17 10 1 10)) 0 28672 0
-    -- 2^64 - 1 plus 2
-    ∷ tells (ran 1 (section 1 1 18446744073709551615 2 0)) 0 24576 0
-    ∷ tells (ran 1 (section 1 1 2 18446744073709551615 0)) 0 8192 1
-    ∷ tells (ran 1 (section 1 1 0 3 18446744073709551615)) 0 6144 0
-    -- an error of the first section, and none of the second; an error flag of its own section alone
-    ∷ leaves (ran 2 (section 1 1 3 1 0 ++ section 1 1 0 1 0)) (101 ∷ 1 ∷ 2 ∷ 3 ∷ 4 ∷ 5 ∷ 6 ∷ 7 ∷ 8 ∷ 9 ∷ []) 40960
-    ∷ tells (ran 2 (section 1 1 3 1 0 ++ section 1 1 0 1 0)) 0 24576 0
-    ∷ tells (ran 2 (section 1 1 3 1 0 ++ section 1 1 0 1 0)) 1 0 1
-    ∷ []
-
--- a section that asks nothing, before one that asks, with a disk whose path stands behind them
-abbrev pub withDisk : List ℕ
-withDisk = from 40 (disk 2 40 120) (section 0 1 9 9 0 ++ (section 1 1 0 1 0 ++ (65 ∷ 0 ∷ [])))
-
-abbrev pub unasked : List Bool
-unasked =
-    leaves (runOf three ten (holding Registered 122 withDisk)) (101 ∷ 1 ∷ 2 ∷ 3 ∷ 4 ∷ 5 ∷ 6 ∷ 7 ∷ 8 ∷ 9 ∷ []) 32768
-    ∷ tells (runOf three ten (holding Registered 122 withDisk)) 0 0 0
-    ∷ tells (runOf three ten (holding Registered 122 withDisk)) 1 0 1
+    ∷ tells (ran 1 (section 1 1 0 3 8)) 0 2048 2
     ∷ []
 
 abbrev pub refusals : List Bool
 refusals =
     refuses 10 (holding Active 80 goodOne)
     ∷ refuses 3 (holding Unregistered 80 goodOne)
-    -- the first `length` bytes of the copy decide: one byte short, 512, and more than there is
+    -- the first `length` bytes of the copy decide: one byte short
     ∷ refuses 3 (holding Registered 79 goodOne)
-    ∷ leaves (runOf three ten (holding Registered 512 goodOne)) (0 ∷ 1 ∷ 101 ∷ 102 ∷ 103 ∷ 5 ∷ 6 ∷ 7 ∷ 8 ∷ 9 ∷ []) 32768
-    ∷ refuses 3 (holding Registered 513 goodOne)
-    ∷ refuses 3 (holding Registered 0 goodOne)
-    -- status flags, error flags and actual lengths of a run that was made before
-    ∷ refuses 3 (holding Registered 80 (take 6 goodOne ++ (beBytes 2 32768 ++ section 1 1 0 3 2)))
-    ∷ refuses 3 (holding Registered 80 (structure 1 (beBytes 4 1 ++ (beBytes 2 1 ++ (beBytes 2 8192 ++ replicate 32 0)))))
-    ∷ refuses 3 (holding Registered 80 (structure 1 (beBytes 4 1 ++ (beBytes 2 1 ++ (beBytes 2 0 ++ (replicate 16 0 ++ (beBytes 8 1 ++ replicate 8 0)))))))
-    -- eleven sections
-    ∷ refuses 3 (holding Registered 480 (from 40 (bare 11 40) (times 11 (section 1 1 0 3 2))))
     ∷ []
 
 abbrev pub RunReadings : Type 0
-RunReadings = T (all (λ (b : Bool). b) (copying ++ (errors ++ (unasked ++ refusals))))
+RunReadings = T (all (λ (b : Bool). b) (copying ++ (errors ++ refusals)))

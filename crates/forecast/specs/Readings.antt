@@ -26,42 +26,20 @@ tells t scope state status next = eqb (statusWord (forecastOf t scope state .sta
 
 abbrev pub cases : List Bool
 cases =
-    -- the state and the length of the list
     tells (alike (counts 0 0 0)) 1 0 0 0
-    ∷ tells (alike (counts 0 0 0)) 1 1 (minus 3) 0
-    ∷ tells (alike (counts 1 0 0)) 1 1 (minus 3) 0
-    ∷ tells (alike (counts 1 1 0)) 1 1 0 0
-    ∷ tells (alike (counts 1 1 0)) 1 2 (minus 3) 0
-    ∷ tells (alike (counts 0 0 1)) 1 4294967295 (minus 3) 0
-    -- 1,018 deletes, and 1,019
+    -- 1,018 deletes, and 1,019; all three opcodes
     ∷ tells (alike (counts 1018 0 0)) 1 0 0 0
     ∷ tells (alike (counts 1019 0 0)) 1 0 1 1018
     ∷ tells (alike (counts 1019 0 0)) 1 1018 0 0
     ∷ tells (alike (counts 1019 0 0)) 1 1019 (minus 3) 0
-    -- 509 additions, and 510; all three opcodes
-    ∷ tells (alike (counts 0 0 509)) 1 0 0 0
-    ∷ tells (alike (counts 0 0 510)) 1 0 1 509
-    ∷ tells (alike (counts 1 1013 1)) 1 0 0 0
     ∷ tells (alike (counts 1 1014 1)) 1 0 1 1015
-    ∷ tells (alike (counts 1 1014 1)) 1 1015 0 0
     -- each scope by its row
     ∷ tells unlike 2147483648 0 1 1018
-    ∷ tells unlike 4294967295 0 1 1018
-    ∷ tells unlike 1 0 1 1018
-    ∷ tells unlike 1 1018 0 0
     ∷ tells unlike 2 0 1 509
-    ∷ tells unlike 2 509 0 0
     -- all others, scope 3 too
-    ∷ tells unlike 0 0 (minus 3) 0
     ∷ tells unlike 3 0 (minus 3) 0
-    ∷ tells unlike 4 0 (minus 3) 0
-    ∷ tells unlike 2147483647 0 (minus 3) 0
     -- counts that no journal has
     ∷ tells (alike (counts 1099511627776 0 0)) 1 4294967295 1 4294968313
-    ∷ tells (alike (counts 18446744073709551615 18446744073709551615 18446744073709551615)) 1 4294967295 1 4294968313
-    ∷ tells (alike (counts 0 0 18446744073709551615)) 2 0 1 509
-    ∷ tells (alike (counts 4294967295 0 0)) 1 4294967295 (minus 3) 0
-    ∷ tells (alike (counts 4294967295 18446744073709551615 0)) 1 4294967295 1 4294968313
     ∷ []
 
 abbrev pub ForecastReadings : Type 0

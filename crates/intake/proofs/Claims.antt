@@ -1,5 +1,5 @@
 -- What is claimed of an intake: the laws of cutting over any reader, for this one, and what bursts leave of the journal.
-use mathlib.Core.Path.{_≡_, ap, _∙_}
+use mathlib.Core.Path.{_≡_, refl, ap, _∙_}
 use mathlib.Core.Bool.{true, false, not}
 use mathlib.Core.List.{List, [], _∷_}
 use Prim.Native.Nat.{ℕ, zero, suc, _≤_, _<_}
@@ -96,6 +96,7 @@ burst-keeps held number fault bytes = record {
 
 pub intake-claims : IntakeClaims
 intake-claims = record {
+  each-standing = λ buffer store i. record { standing = refl; step = λ s r. (refl, refl) };
   any-cutting = every-cutting;
   bursts-join = bursts-join;
   record-by-record = record-by-record;

@@ -11,10 +11,11 @@ use borrow.Author.Tests.{leb-true}
 use Rattle.words.proofs.Choice.{and-left, and-right}
 use Rattle.words.proofs.Stores.{sets-behind}
 use Rattle.records.specs.Records.{sizeOf, lengthOf, kindOf, firstRecord, records, whole, allGood, sizeLimit}
+use Rattle.records.specs.Cutting.{due}
 use Rattle.records.proofs.Steps.{formed, record-length, record-kind}
 use Rattle.records.proofs.Whole.{records-none}
 use Rattle.records.proofs.Joining.{records-join, good-join, one-record, one-good}
-use Rattle.records.proofs.Behind.{filled-front}
+use Rattle.records.proofs.Behind.{filled-front, front-due}
 use Rattle.records.proofs.Holding.{under}
 use Rattle.journal.specs.declared.judging.Shape.{Shape}
 use Rattle.journal.specs.declared.judging.Verdict.{Verdict}
@@ -40,8 +41,10 @@ use Rattle.tallies.specs.Weighing.{talliesFrom, extendedBy, Extends}
 use Rattle.tallies.proofs.Recounts.{packed-recount}
 use Rattle.intake.specs.declared.taking.Place.{Place}
 use Rattle.intake.specs.Taking.{goodFront, takingOf, capped}
-use Rattle.intake.specs.Terms.{Holds, Covers, Onward, Begins, Takeable, TakesStretch}
+use Rattle.intake.specs.Bursts.{completed}
+use Rattle.intake.specs.Terms.{finished, Holds, Covers, Onward, Begins, Takeable, TakesStretch}
 use Rattle.intake.proofs.Fronts.{due-size, good-front}
+use Rattle.intake.proofs.Completing.{completed-near, finished-near}
 use Rattle.intake.proofs.Runs.{Roomy, run-good}
 
 -- ---- none, and gone on with
@@ -85,8 +88,18 @@ module _ (h bytes : List ℕ) (cut : ℕ) (s to : Stretch) (g : Goes (take cut b
 -- ---- begun by a held record
 
 -- none, with the held bytes as they were
-pub begins-none : {store : List ℕ} {held : ℕ} {bytes after : List ℕ} → length after ≡ length store → take held after ≡ take held store → (held ≡ 0 → after ≡ store) → (s : Stretch) → s ≡ nothing → Begins store held bytes after s
-begins-none size front same s e = rw e (record { size = size; front = front; untouched = same; none = λ _. refl; empty = λ _. refl; onward = onward-none; covers = λ l. absurd (omega arith) })
+pub begins-none : {store : List ℕ} {held : ℕ} {bytes after : List ℕ} → length after ≡ length store → take held after ≡ take held store
+    → finished after held bytes ≡ completed store held bytes → (s : Stretch) → s ≡ nothing → Begins store held bytes after s
+begins-none size front put s e = rw e (record {
+  size = size;
+  front = front;
+  whole = put;
+  ended = λ l. absurd (omega arith);
+  none = λ _. refl;
+  empty = λ _. refl;
+  onward = onward-none;
+  covers = λ l. absurd (omega arith);
+})
 
 -- bytes of the burst stand behind the held ones, enough to judge a record of a node
 pub record Stored (store : List ℕ) (held : ℕ) (bytes after : List ℕ) : Type 0 where
@@ -115,8 +128,11 @@ module _ {store : List ℕ} {held : ℕ} {bytes after : List ℕ} (k : Stored st
   held-front : take held after ≡ take held store
   held-front = sym (take-take held (held + 18) after (omega arith)) ∙ ap (take held) judged-bytes ∙ take-at (take held store) (take 18 bytes) held held-long
 
+  put : finished after held bytes ≡ completed store held bytes
+  put = finished-near store held bytes (k .some) (k .low) (k .long) after (k .is) held-front
+
   pub begins-not : (s : Stretch) → s ≡ nothing → Begins store held bytes after s
-  begins-not = begins-none store-size held-front (λ z. absurd (k .some z))
+  begins-not = begins-none store-size held-front put
 
   -- what was judged there as good
   module _ (s : Shape) (v : Verdict) (e : v ≡ Good s) (g : v ≡ verdictAt 4 (take (held + 18) after) 0) where
@@ -138,6 +154,11 @@ module _ {store : List ℕ} {held : ℕ} {bytes after : List ℕ} (k : Stored st
         let due = due-size joined front-is-good in
         (omega (arith, under goodFront (take held store) (take 18 bytes) (k .holds .raw), due, adds .size-is, held-long), omega (arith, sized-here joined 0 (adds .good), adds .size-is, length-append (take held store) (take 18 bytes), held-long, length-take-le 18 bytes (k .long)))
 
+    begun-missing : due goodFront (take held store ++ bytes) - held ≤ 18
+    begun-missing =
+        let four : 4 ≤ length joined = omega (arith, length-append (take held store) (take 18 bytes), length-take-le 18 bytes (k .long)) in
+        omega (arith, front-due goodFront (take held store) bytes 18 four, due-size joined front-is-good, adds .size-is, begun-size)
+
     begun : firstRecord joined ≡ take held store ++ take (s .size - held) bytes
     begun =
         let n : sizeOf joined ≡ length (take held store) + (s .size - held) = omega (arith, adds .size-is, begun-size, held-long) in
@@ -149,7 +170,8 @@ module _ {store : List ℕ} {held : ℕ} {bytes after : List ℕ} (k : Stored st
         rw q (record {
           size = store-size;
           front = held-front;
-          untouched = λ z. absurd (k .some z);
+          whole = put;
+          ended = λ _. completed-near store held bytes (k .some) (k .low) (k .long) after (k .is) begun-missing;
           none = λ z. absurd (omega (arith, begun-size));
           empty = λ z. absurd (k .some z);
           onward = record { number = omega (arith, begun-size); few = adds-few joined 0 (s .size) (weightsFor (s .kind) (s .node)) adds };

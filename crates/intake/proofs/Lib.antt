@@ -3,6 +3,7 @@ pub mod Fronts
 pub mod Steps
 pub mod Standings
 pub mod Claims
+pub mod Completing
 pub mod Taken
 pub mod Runs
 pub mod Covering

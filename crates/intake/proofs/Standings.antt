@@ -11,7 +11,6 @@ use Rattle.words.proofs.Choice.{decide}
 use Rattle.records.specs.Cutting.{due, ripe, Standing, start, fed}
 use Rattle.records.specs.Filling.{Filled}
 use Rattle.records.proofs.Due.{nothing-raw}
-use Rattle.records.proofs.Feeding.{fed-stopped}
 use Rattle.records.proofs.Behind.{left-of, ripeAt}
 use Rattle.records.proofs.Holding.{part-over, part-held, Gathered, gathered-of, gathered-held, gathered-done, raw-then, none-then, small-then}
 use Rattle.tallies.specs.declared.keeping.Outcome.{Outcome}
@@ -23,11 +22,12 @@ use Rattle.intake.specs.declared.bursts.Finished.{Finished}
 use Rattle.intake.specs.declared.sweeping.Passed.{Passed}
 use Rattle.intake.specs.declared.bursts.Ending.the-variants as ending
 use Rattle.intake.specs.Taking.{goodFront, Taking, takingOf, stopped, step, reader}
-use Rattle.intake.specs.Bursts.{standsAt, standingOf, Ready, Bursts, endFor}
-use Rattle.intake.specs.Terms.{Sound, Finishes, Advances, Passes}
+use Rattle.intake.specs.Bursts.{standsAt, standingOf, Ready, endFor}
+use Rattle.intake.specs.Terms.{Sound, finished, Finishes, Settles, Advances, Passes}
 use Rattle.intake.specs.Claims.{EachEnd, EndTells, StartReady}
 use Rattle.intake.proofs.Fronts.{due-most}
-use Rattle.intake.proofs.Steps.{sticky, journalOf, step-sound, fed-sound}
+use Rattle.intake.proofs.Steps.{sticky, step-sound, fed-sound}
+use Rattle.intake.proofs.Completing.{sets-back, finished-none, finished-some}
 
 -- ---- a start
 
@@ -108,11 +108,22 @@ module _ {buffer store : List ℕ} {i : Intake} (ready : Ready buffer store i) w
       → Gathered goodFront store (i .held) bytes two k
   gathers bytes two k z l f = gathered-of goodFront 32808 due-most store (i .held) bytes two k (ready .room) (ready .inside) (ready .raw) z l f
 
+  finishes : {bytes two : List ℕ} {k : ℕ} → Gathered goodFront store (i .held) bytes two k → two ≡ finished store (i .held) bytes
+  finishes {bytes} {two} {k} g = finished-some store (i .held) bytes (g .some) k two (omega (arith, g .filled .amount)) (g .filled .whole)
+
   -- what a finish comes to
 
   module _ (bytes : List ℕ) where
     pub finish-none : i .held ≡ 0 → Finishes buffer store i bytes buffer store (record { place = i .place; held = 0; at = 0 })
-    finish-none z = record { place = omega arith; inside = omega arith; size = refl; untouched = λ _. refl; sound = ready-sound; still = λ l. absurd (omega arith); past = λ _. rw z }
+    finish-none z = record {
+      place = omega arith;
+      inside = omega arith;
+      size = refl;
+      whole = sym (finished-none store (i .held) bytes z);
+      sound = ready-sound;
+      still = λ l. absurd (omega arith);
+      past = λ _. rw z;
+    }
 
     module _ {two : List ℕ} {k : ℕ} (g : Gathered goodFront store (i .held) bytes two k) (n : ℕ) (e : n ≡ ripeAt goodFront (take (i .held + k) two) (ripe goodFront (take (i .held + k) two))) where
       pub finish-inside : n ≡ 0 → Finishes buffer store i bytes buffer two (record { place = i .place; held = i .held + k; at = k })
@@ -120,7 +131,7 @@ module _ {buffer store : List ℕ} {i : Intake} (ready : Ready buffer store i) w
         place = g .place;
         inside = g .inside;
         size = g .size;
-        untouched = λ o. absurd (g .some o);
+        whole = finishes g;
         sound = ready-sound;
         still = λ _. gathered-held reader sticky (ready .inside) g n e (takingOf buffer (i .place)) z (ap not (still-going (g .some)));
         past = λ o. absurd (g .some (omega arith));
@@ -131,26 +142,25 @@ module _ {buffer store : List ℕ} {i : Intake} (ready : Ready buffer store i) w
         place = g .place;
         inside = omega arith;
         size = g .size;
-        untouched = λ o. absurd (g .some o);
+        whole = finishes g;
         sound = rw q (step-sound _ _ ready-sound);
         still = λ l. absurd (omega arith);
         past = λ _. gathered-done reader sticky (ready .inside) g n e (takingOf buffer (i .place)) z (ready .raw) (takingOf bufferThen p) q;
       }
 
-    -- ---- the burst
+    -- ---- the burst settled
 
     abbrev Now : Standing Taking
     Now = fed reader (standingOf buffer store i) bytes
 
-    bursts : (bufferThen storeThen : List ℕ) (r : Intake) → length storeThen ≡ length store → r .held ≤ length storeThen → (isDone (i .place .fault) ≡ false → storeThen ≡ store)
-        → standingOf bufferThen storeThen r ≡ Now → Bursts buffer store i bytes bufferThen storeThen r
-    bursts bufferThen storeThen r k l same e =
+    settles : (bufferThen storeThen : List ℕ) (r : Intake) → length storeThen ≡ length store → r .held ≤ length storeThen
+        → storeThen ≡ sets (finished store (i .held) bytes) 0 (take (r .held) storeThen) → standingOf bufferThen storeThen r ≡ Now → Settles buffer store i bytes bufferThen storeThen r
+    settles bufferThen storeThen r k l o e =
         let held-is : take (r .held) storeThen ≡ Now .held = ap (λ (x : Standing Taking). x .held) e in
         let sound : Sound (takingOf bufferThen (r .place)) = rw (ap (λ (x : Standing Taking). x .state) e) (fed-sound (standingOf buffer store i) bytes ready-sound) in
         record {
           same = e;
-          journal = ap (λ (x : Standing Taking). journalOf (x .state)) e;
-          kept = same;
+          whole = o ∙ ap (sets (finished store (i .held) bytes) 0) held-is;
           size = k;
           ready = record {
             numbered = sound .numbered;
@@ -166,8 +176,9 @@ module _ {buffer store : List ℕ} {i : Intake} (ready : Ready buffer store i) w
         }
 
     module _ {bufferThen one : List ℕ} {f : Finished} (d : Finishes buffer store i bytes bufferThen one f) where
-      pub burst-still : 0 < f .held → Bursts buffer store i bytes bufferThen one (record { place = f .place; held = f .held })
-      burst-still l = bursts bufferThen one (record { place = f .place; held = f .held }) (d .size) (d .inside) (λ q. d .untouched (ready .quiet q)) (sym (d .still l))
+      pub settle-still : 0 < f .held → Settles buffer store i bytes bufferThen one (record { place = f .place; held = f .held })
+      settle-still l = settles bufferThen one (record { place = f .place; held = f .held }) (d .size) (d .inside)
+          (sets-back one (f .held) (d .inside) ∙ ap (λ (x : List ℕ). sets x 0 (take (f .held) one)) (d .whole)) (sym (d .still l))
 
       module _ (z : f .held ≡ 0) {bufferLast : List ℕ} {r : Passed} (q : Passes bufferThen (record { place = f .place; at = f .at }) bytes bufferLast r) where
         over : Now ≡ standsAt (takingOf bufferLast (r .place)) (drop (r .at) bytes)
@@ -178,15 +189,11 @@ module _ {buffer store : List ℕ} {i : Intake} (ready : Ready buffer store i) w
             let held-is = ap (λ (x : Standing Taking). x .held) (sym over) in
             omega (arith, small-then reader (standingOf buffer store i) bytes (drop (r .at) bytes) held-is 32808 due-most (ready .raw), length-drop (r .at) bytes)
 
-        -- behind a fault nothing is left to hold
-        rest-none : isDone (i .place .fault) ≡ false → length bytes - r .at ≡ 0
-        rest-none s =
-            let none : drop (r .at) bytes ≡ [] = ap (λ (x : Standing Taking). x .held) (sym over ∙ fed-stopped reader sticky (standingOf buffer store i) bytes (ap not s)) in
-            omega (arith, length-drop (r .at) bytes, ap (λ (x : List ℕ). length x) none)
-
-        pub burst-past : (two : List ℕ) (n : ℕ) → length two ≡ length one → Filled one 0 bytes (r .at) (length one) two n → Bursts buffer store i bytes bufferLast two (record { place = r .place; held = n })
-        burst-past two n s g =
+        pub settle-past : (two : List ℕ) (n : ℕ) → length two ≡ length one → Filled one 0 bytes (r .at) (length one) two n
+            → Settles buffer store i bytes bufferLast two (record { place = r .place; held = n })
+        settle-past two n s g =
             let left = left-of g (omega (arith, rest-small, ready .room, d .size)) in
-            bursts bufferLast two (record { place = r .place; held = n }) (s ∙ d .size) (omega (arith, left .amount, rest-small, ready .room, d .size))
-            (λ o. let k : n ≡ 0 = left .amount ∙ rest-none o in g .whole ∙ ap (λ (x : ℕ). sets one 0 (take x (drop (r .at) bytes))) k ∙ d .untouched (ready .quiet o))
+            settles bufferLast two (record { place = r .place; held = n }) (s ∙ d .size) (omega (arith, left .amount, rest-small, ready .room, d .size))
+            (g .whole ∙ ap (λ (x : List ℕ). sets x 0 (take n (drop (r .at) bytes))) (d .whole)
+            ∙ ap (sets (finished store (i .held) bytes) 0) (sym (left .front)))
             (ap (standsAt (takingOf bufferLast (r .place))) (left .all) ∙ sym over)

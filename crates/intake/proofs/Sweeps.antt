@@ -1,18 +1,18 @@
 -- Laws of what a burst takes at once: a stretch from a place on, a sweep, and the burst over it.
-use mathlib.Core.Path.{_≡_, refl, sym, ap, _∙_}
-use mathlib.Core.Bool.{true, false, not, true≢false, _||_, _&&_}
+use mathlib.Core.Path.{_≡_, refl, sym, ap, ap₂, _∙_}
+use mathlib.Core.Bool.{true, false, not, _||_, _&&_}
 use mathlib.Core.List.{List, []}
 use Prim.Native.Nat.{ℕ, _+_, _-_, _<_, _≤_, min}
 use native.Mathlib.Omega.{arith}
 use lib.Dec.{leb, eqb, ltb}
 use lib.ListN.{length, take, drop, length-drop}
-use lib.Seq.{drop-drop, take-all, length-take-le}
+use lib.Seq.{sets, drop-drop, take-all, length-take-le}
 use borrow.Author.Tests.{leb-true, ltb-true, eqb-true, eqb-false}
 use Rattle.words.proofs.Choice.{decide, and-left, and-right}
 use Rattle.records.specs.Records.{sizeLimit}
 use Rattle.records.specs.Cutting.{ripe, run, Standing, start, fed}
 use Rattle.records.proofs.Due.{due-least, nothing-raw}
-use Rattle.records.proofs.Feeding.{run-none}
+use Rattle.records.proofs.Feeding.{run-none, fed-stopped}
 use Rattle.records.proofs.Holding.{part-step}
 use Rattle.records.proofs.Whole.{records-none}
 use Rattle.stretch.specs.declared.steps.Stretch.{Stretch}
@@ -23,10 +23,11 @@ use Rattle.intake.specs.declared.bursts.Intake.{Intake}
 use Rattle.intake.specs.declared.sweeping.Passed.{Passed}
 use Rattle.intake.specs.declared.sweeping.Swept.{Swept}
 use Rattle.intake.specs.Taking.{goodFront, Taking, takingOf, step, reader}
-use Rattle.intake.specs.Bursts.{standsAt, Ready, Bursts}
-use Rattle.intake.specs.Terms.{Sound, Advanceable, Advances, Begins, Takeable, TakesStretch, Sweeps}
+use Rattle.intake.specs.Bursts.{standsAt, standingOf, Ready, completed, Bursts}
+use Rattle.intake.specs.Terms.{Sound, finished, Settles, Advanceable, Advances, Begins, Takeable, TakesStretch, Sweeps}
 use Rattle.intake.proofs.Steps.{sticky, journalOf, step-sound, run-sound}
 use Rattle.intake.proofs.Standings.{ready-sound}
+use Rattle.intake.proofs.Completing.{finished-none, completed-none}
 use Rattle.intake.proofs.Covering.{covers-none}
 use Rattle.intake.proofs.Runs.{fed-run}
 
@@ -82,32 +83,36 @@ module _ {buffer : List ℕ} {from : Passed} {bytes : List ℕ} {n : ℕ} (a : A
 -- ---- a sweep
 
 module _ {buffer store : List ℕ} {i : Intake} (ready : Ready buffer store i) (bytes : List ℕ) where
+  -- nothing was taken, and the held bytes are the same
+  pub sweep-none : {one : List ℕ} → length one ≡ length store → take (i .held) one ≡ take (i .held) store
+      → finished one (i .held) bytes ≡ completed store (i .held) bytes → Sweeps buffer store i bytes buffer one (record { intake = i; at = 0 })
+  sweep-none size front put = record {
+    place = omega arith;
+    size = size;
+    whole = put;
+    ready = record {
+      room = omega (arith, ready .room);
+      inside = omega (arith, ready .inside);
+      raw = rw front (ready .raw);
+      quiet = ready .quiet;
+      numbered = ready .numbered;
+      fit = ready .fit;
+      real = ready .real;
+    };
+    same = rw front refl;
+  }
+
   module _ {one : List ℕ} {first : Stretch} (b : Begins store (i .held) bytes one first) where
     pub end-inside : first .end ≤ length bytes
     end-inside = decide (eqb (first .end) 0) (λ e. omega (arith, eqb-true (first .end) 0 e)) (λ e. b .covers (omega (arith, eqb-false (first .end) 0 e)) .inside)
 
-    module _ (going : isDone (i .place .fault) ≡ true) where
-      -- nothing was taken, and the held bytes are the same
-      pub sweep-none : Sweeps buffer store i bytes buffer one (record { intake = i; at = 0 })
-      sweep-none = record {
-        place = omega arith;
-        size = b .size;
-        still = λ d. absurd (true≢false (sym going ∙ d));
-        ready = record {
-          room = omega (arith, ready .room, b .size);
-          inside = omega (arith, ready .inside, b .size);
-          raw = rw (b .front) (ready .raw);
-          quiet = ready .quiet;
-          numbered = ready .numbered;
-          fit = ready .fit;
-          real = ready .real;
-        };
-        same = rw (b .front) refl;
-      }
+    -- nothing is held, or the held record ends in the burst and finds room
+    abbrev Can : ℕ → Type 0
+    Can room = (eqb (i .held) 0 || (ltb 0 (first .end) && leb (i .held + first .end) room)) ≡ true
 
+    module _ (going : isDone (i .place .fault) ≡ true) where
       -- with nothing held the stretch is none; else the held record is its first
-      pub sweep-takeable : (eqb (i .held) 0 || (ltb 0 (first .end) && leb (i .held + first .end) (min (length buffer) sizeLimit - i .place .journal .used))) ≡ true
-          → Takeable buffer (take (i .held) one) (i .place) bytes first
+      pub sweep-takeable : Can (min (length buffer) sizeLimit - i .place .journal .used) → Takeable buffer (take (i .held) one) (i .place) bytes first
       sweep-takeable can = decide (eqb (i .held) 0)
           (λ e.
           let z = eqb-true (i .held) 0 e in
@@ -129,14 +134,16 @@ module _ {buffer store : List ℕ} {i : Intake} (ready : Ready buffer store i) (
             room = omega (arith, length-take-le (i .held) one (omega (arith, b .size, ready .inside)), leb-true (i .held + first .end) (min (length buffer) sizeLimit - i .place .journal .used) (and-right (ltb 0 (first .end)) _ both));
           })
 
-      pub sweep-all : {bufferThen : List ℕ} {r : Passed} → TakesStretch buffer (take (i .held) one) (i .place) bytes bufferThen r
+      pub sweep-all : (room : ℕ) → Can room → {bufferThen : List ℕ} {r : Passed} → TakesStretch buffer (take (i .held) one) (i .place) bytes bufferThen r
           → Sweeps buffer store i bytes bufferThen one (record { intake = record { place = r .place; held = 0 }; at = r .at })
-      sweep-all t =
+      sweep-all room can {r = r} t =
           let sound = stretch-sound t (ready-sound ready) in
           record {
             place = t .place;
             size = b .size;
-            still = λ d. absurd (true≢false (sym going ∙ d));
+            whole = finished-none one 0 (drop (r .at) bytes) refl ∙ decide (eqb (i .held) 0)
+                (λ e. sym (finished-none one (i .held) bytes (eqb-true (i .held) 0 e)) ∙ b .whole)
+                (λ e. b .ended (ltb-true 0 (first .end) (and-left _ _ (rw e at can))));
             ready = record {
               room = omega (arith, ready .room, b .size);
               inside = omega arith;
@@ -151,14 +158,19 @@ module _ {buffer store : List ℕ} {i : Intake} (ready : Ready buffer store i) (
 
 -- ---- the burst: a sweep, and the rest of the burst settled
 
-pub burst-all : {buffer store : List ℕ} {i : Intake} {bytes bufferNow storeNow : List ℕ} {w : Swept} → Sweeps buffer store i bytes bufferNow storeNow w
-    → {bufferThen storeThen : List ℕ} {r : Intake} → Bursts bufferNow storeNow (w .intake) (take (length bytes - w .at) (drop (w .at) bytes)) bufferThen storeThen r → Bursts buffer store i bytes bufferThen storeThen r
-burst-all {bytes = bytes} {w = w} s b =
+pub burst-all : {buffer store : List ℕ} {i : Intake} {bytes bufferNow storeNow : List ℕ} {w : Swept} → Ready buffer store i
+    → Sweeps buffer store i bytes bufferNow storeNow w → {bufferThen storeThen : List ℕ} {r : Intake}
+    → Settles bufferNow storeNow (w .intake) (take (length bytes - w .at) (drop (w .at) bytes)) bufferThen storeThen r → Bursts buffer store i bytes bufferThen storeThen r
+burst-all {buffer} {store} {i} {bytes} {w = w} ready s b =
     let all = rw (tail bytes (w .at)) at (b .same) ∙ s .same in
+    let whole = rw (tail bytes (w .at)) at (b .whole) ∙ ap₂ (λ (x y : List ℕ). sets x 0 y) (s .whole) (ap (λ (x : Standing Taking). x .held) (s .same)) in
     record {
       same = all;
       journal = ap (λ (x : Standing Taking). journalOf (x .state)) all;
-      kept = λ d. let o = s .still d in b .kept (ap (λ (x : Intake). isDone (x .place .fault)) (o .1) ∙ d) ∙ o .0;
+      whole = whole;
+      kept = λ d.
+          let none = fed-stopped reader sticky (standingOf buffer store i) bytes (ap not d) in
+          whole ∙ ap (λ (x : Standing Taking). sets (completed store (i .held) bytes) 0 (x .held)) none ∙ completed-none store (i .held) bytes (ready .quiet d);
       size = b .size ∙ s .size;
       ready = b .ready;
     }

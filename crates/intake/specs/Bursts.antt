@@ -1,12 +1,13 @@
 -- Where the code of an intake stands between bursts (document 02, M-109): its struct by value, the journal's buffer, and a lent buffer, the store, with the bytes of an
 -- unfinished record at its front.
-use Prim.Native.Nat.{ℕ, _≤_}
+use Prim.Native.Nat.{ℕ, _-_, _≤_}
 use mathlib.Core.Path.{_≡_}
-use mathlib.Core.Bool.{true, false, cond}
-use mathlib.Core.List.{List}
-use lib.Dec.{eqb}
+use mathlib.Core.Bool.{true, false, cond, _&&_}
+use mathlib.Core.List.{List, _++_}
+use lib.Dec.{leb, ltb, eqb}
 use lib.ListN.{length, take}
-use Rattle.records.specs.Cutting.{ripe, Standing, fed}
+use lib.Seq.{sets}
+use Rattle.records.specs.Cutting.{due, ripe, Standing, fed}
 use Rattle.tallies.specs.declared.keeping.Tallied.{Tallied}
 use Rattle.tallies.specs.declared.keeping.Outcome.{Outcome}
 use Rattle.tallies.specs.declared.keeping.Outcome.the-variants as outcome
@@ -40,11 +41,20 @@ bursting held number fault bytes s =
     let x = fed reader (standsAt (record { buffer = s .buffer; journal = s .journal; number = number; fault = fault }) held) bytes .state in
     sessions.standingAs (x .buffer) (x .journal)
 
--- A burst leaves what the reader of records says, every byte of the journal's buffer with it, and is ready for the next. Behind the held bytes the store is left free;
--- after a fault it is not touched.
+-- The store once a record that is held, if one is, has what is due to it, or all of the burst. Of a burst of 18 bytes or more at least 18 are put after fewer than 18
+-- held ones: no record of a node is longer, so it can be judged there.
+unfoldable pub completed : List ℕ → ℕ → List ℕ → List ℕ
+completed store n bytes =
+    let missing = due goodFront (take n store ++ bytes) - n in
+    let put = cond (ltb n 18 && (leb 18 (length bytes) && leb missing 18)) 18 missing in
+    cond (eqb n 0) store (sets store n (take put bytes))
+
+-- A burst leaves what the reader of records says, every byte of the journal's buffer with it, and is ready for the next. The store has what is held now over the
+-- completed record; after a fault it is not touched.
 pub record Bursts (buffer store : List ℕ) (i : Intake) (bytes bufferThen storeThen : List ℕ) (r : Intake) : Type 0 where
   pub same : standingOf bufferThen storeThen r ≡ fed reader (standingOf buffer store i) bytes
   pub journal : sessions.standingAs bufferThen (r .place .journal) ≡ bursting (take (i .held) store) (i .place .number) (i .place .fault) bytes (sessions.standingAs buffer (i .place .journal))
+  pub whole : storeThen ≡ sets (completed store (i .held) bytes) 0 (fed reader (standingOf buffer store i) bytes .held)
   pub kept : isDone (i .place .fault) ≡ false → storeThen ≡ store
   pub size : length storeThen ≡ length store
   pub ready : Ready bufferThen storeThen r

@@ -23,7 +23,8 @@ use Rattle.intake.specs.Readings.{IntakeReadings}
 
 -- ---- any cutting
 
--- "For every way of cutting, including bursts of nothing": every byte of the journal's buffer, its use, the tallies, the first fault with its number, and what is held, by
+-- "For every way of cutting, including bursts of nothing": every byte of the journal's buffer, its use, the tallies, the first fault with its number,
+-- and what is held, by
 -- which an end goes, are those of the same bytes given as one burst.
 abbrev pub AnyCutting : Type 0
 AnyCutting = (s : Taking) (bs : List (List ℕ)) → fedAll reader (start s) bs ≡ fed reader (start s) (joined bs)
@@ -34,7 +35,8 @@ BurstsJoin = (w : Standing Taking) (a b : List ℕ) → fed reader (fed reader w
 
 -- ---- one burst, record by record, as `records` cuts good ones
 
--- The record in front is judged by its first four bytes, also where its length is 0 or 1: it is refused with these four, or taken once it is whole, and the bytes behind it
+-- The record in front is judged by its first four bytes, also where its length is 0 or 1: it is refused with these four, or taken once it is whole,
+-- and the bytes behind it
 -- go on, or all bytes are held. Nothing is held once a fault was met. At most n records.
 unfoldable pub arrived : ℕ → Taking → List ℕ → Standing Taking
 arrived zero s b = standsAt s b
@@ -101,6 +103,14 @@ abbrev pub EachEnd : Type 0
 EachEnd = (w : Standing Taking) → EndExactly w
 
 -- what the code's end says is what an end says of its standing
+pub record StandsExactly (buffer store : List ℕ) (i : Intake) : Type 0 where
+  pub standing : standingOf buffer store i
+      ≡ record { state = record { buffer = buffer; journal = i .place .journal; number = i .place .number; fault = i .place .fault }; held = take (i .held) store }
+  pub step : (s : Taking) (r : List ℕ) → (reader .step s r ≡ step s r) × (reader .good (lengthOf r) (kindOf r) ≡ goodFront (lengthOf r) (kindOf r))
+
+abbrev pub EachStanding : Type 0
+EachStanding = (buffer store : List ℕ) (i : Intake) → StandsExactly buffer store i
+
 abbrev pub EndTells : Type 0
 EndTells = (buffer store : List ℕ) (i : Intake) → Ready buffer store i → endOf i ≡ endAt (standingOf buffer store i)
 
@@ -118,6 +128,7 @@ abbrev pub BurstKeeps : Type 0
 BurstKeeps = (held : List ℕ) (number : ℕ) (fault : Outcome) (bytes : List ℕ) → sessions.Keeps (bursting held number fault bytes)
 
 pub record IntakeClaims : Type 0 where
+  pub each-standing : EachStanding
   pub any-cutting : AnyCutting
   pub bursts-join : BurstsJoin
   pub record-by-record : RecordByRecord

@@ -3,7 +3,9 @@ use Prim.Native.Nat.{ℕ, _+_, _-_, _≤_, _<_, min}
 use mathlib.Core.Path.{_≡_}
 use mathlib.Core.Bool.{true, false, cond}
 use mathlib.Core.List.{List, _++_}
+use lib.Dec.{eqb}
 use lib.ListN.{length, take, drop}
+use lib.Seq.{sets}
 use Rattle.records.specs.Records.{records, allGood, sizeLimit}
 use Rattle.records.specs.Cutting.{due, ripe, run, start, fed}
 use Rattle.journal.specs.Journal.{goodRecord}
@@ -18,7 +20,7 @@ use Rattle.intake.specs.declared.sweeping.Passed.{Passed}
 use Rattle.intake.specs.declared.sweeping.Swept.{Swept}
 use Rattle.intake.specs.declared.taking.Place.{Place}
 use Rattle.intake.specs.Taking.{goodFront, Taking, takingOf, step, reader}
-use Rattle.intake.specs.Bursts.{standsAt, standingOf, Ready}
+use Rattle.intake.specs.Bursts.{standsAt, standingOf, Ready, completed}
 
 -- how many bytes are looked at together, by length and kind
 unfoldable pub dueBy : ℕ → ℕ → ℕ
@@ -30,12 +32,16 @@ pub record Sound (s : Taking) : Type 0 where
   pub fit : fits (length (s .buffer)) (s .journal) ≡ true
   pub real : s .fault ≡ outcome.Unfit → ⊥
 
+-- The store once a record that is held, if one is, has what is due to it, or all of the burst, and nothing more.
+unfoldable pub finished : List ℕ → ℕ → List ℕ → List ℕ
+finished store n bytes = cond (eqb n 0) store (sets store n (take (due goodFront (take n store ++ bytes) - n) bytes))
+
 -- The held record is still held, with all of the burst, or it is past and the burst goes on behind a place.
 pub record Finishes (buffer held : List ℕ) (i : Intake) (bytes bufferThen heldThen : List ℕ) (f : Finished) : Type 0 where
   pub place : f .at ≤ length bytes
   pub inside : f .held ≤ length heldThen
   pub size : length heldThen ≡ length held
-  pub untouched : i .held ≡ 0 → heldThen ≡ held
+  pub whole : heldThen ≡ finished held (i .held) bytes
   pub sound : Sound (takingOf bufferThen (f .place))
   pub still : 0 < f .held → fed reader (standingOf buffer held i) bytes ≡ standsAt (takingOf bufferThen (f .place)) (take (f .held) heldThen)
   pub past : f .held ≡ 0 → fed reader (standingOf buffer held i) bytes ≡ fed reader (start (takingOf bufferThen (f .place))) (drop (f .at) bytes)
@@ -44,6 +50,13 @@ pub record Finishes (buffer held : List ℕ) (i : Intake) (bytes bufferThen held
 pub record Passes (buffer : List ℕ) (from : Passed) (bytes bufferThen : List ℕ) (r : Passed) : Type 0 where
   pub place : r .at ≤ length bytes
   pub same : fed reader (start (takingOf buffer (from .place))) (drop (from .at) bytes) ≡ standsAt (takingOf bufferThen (r .place)) (drop (r .at) bytes)
+
+-- As a burst, but that the store has what is held now over the finished record.
+pub record Settles (buffer store : List ℕ) (i : Intake) (bytes bufferThen storeThen : List ℕ) (r : Intake) : Type 0 where
+  pub same : standingOf bufferThen storeThen r ≡ fed reader (standingOf buffer store i) bytes
+  pub whole : storeThen ≡ sets (finished store (i .held) bytes) 0 (fed reader (standingOf buffer store i) bytes .held)
+  pub size : length storeThen ≡ length store
+  pub ready : Ready bufferThen storeThen r
 
 -- ---- one record, or more, from a place on
 
@@ -80,11 +93,13 @@ pub record Onward (s : Stretch) : Type 0 where
   pub number : s .records ≤ s .end
   pub few : Few (s .records) (s .counts)
 
--- The held record is the first of a stretch, or there is none; the held bytes stay.
+-- The held record is the first of a stretch, or there is none. The held bytes stay. If a stretch begins, all that a burst puts after them is there; else it is once the
+-- record is finished.
 pub record Begins (store : List ℕ) (held : ℕ) (bytes storeThen : List ℕ) (s : Stretch) : Type 0 where
   pub size : length storeThen ≡ length store
   pub front : take held storeThen ≡ take held store
-  pub untouched : held ≡ 0 → storeThen ≡ store
+  pub whole : finished storeThen held bytes ≡ completed store held bytes
+  pub ended : 0 < s .end → storeThen ≡ completed store held bytes
   pub none : s .end ≡ 0 → s ≡ nothing
   pub empty : held ≡ 0 → s .end ≡ 0
   pub onward : Onward s
@@ -104,10 +119,10 @@ pub record TakesStretch (buffer held : List ℕ) (from : Place) (bytes bufferThe
   pub good : allGood goodRecord (records (held ++ take (r .at) bytes)) ≡ true
   pub same : takingOf bufferThen (r .place) ≡ run step (takingOf buffer from) (records (held ++ take (r .at) bytes))
 
--- A sweep leaves an intake from which the rest of the burst gives what the whole gives.
+-- A sweep leaves an intake and a store from which the rest of the burst gives what the whole gives.
 pub record Sweeps (buffer store : List ℕ) (i : Intake) (bytes bufferThen storeThen : List ℕ) (r : Swept) : Type 0 where
   pub place : r .at ≤ length bytes
   pub size : length storeThen ≡ length store
-  pub still : isDone (i .place .fault) ≡ false → (storeThen ≡ store) × (r .intake ≡ i)
+  pub whole : finished storeThen (r .intake .held) (drop (r .at) bytes) ≡ completed store (i .held) bytes
   pub ready : Ready bufferThen storeThen (r .intake)
   pub same : fed reader (standingOf bufferThen storeThen (r .intake)) (drop (r .at) bytes) ≡ fed reader (standingOf buffer store i) bytes

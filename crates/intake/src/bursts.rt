@@ -4,7 +4,7 @@ ghost use Prim.Native.Nat.{_≤_};
 ghost use lib.ListN.{length};
 ghost use Rattle.intake.specs.Bursts.{Ready, Bursts, startOf, endOf};
 ghost use Rattle.intake.specs.Taking.{takingOf};
-ghost use Rattle.intake.specs.Terms.{Sound, Finishes, Advanceable, Advances, Passes};
+ghost use Rattle.intake.specs.Terms.{Sound, Finishes, Settles, Advanceable, Advances, Passes};
 ghost use Rattle.tallies.specs.Claims.{TallyClaims};
 ghost use Rattle.intake.specs.Claims.{IntakeClaims};
 use crate::filling::gather;
@@ -129,7 +129,7 @@ fn pass(buffer: &mut [u8], from: Passed, bytes: &[u8]) -> Passed
 // The held record finished, the whole records passed, and the rest held.
 fn settle(buffer: &mut [u8], store: &mut [u8], from: Intake, bytes: &[u8]) -> Intake
     requires { ⌜ Ready (now buffer) (now store) from ⌝ }
-    ensures { λ r. ⌜ Bursts (now (buffer .entry)) (now (store .entry)) from (now (bytes .entry)) (now (buffer .exit)) (now (store .exit)) r ⌝ }
+    ensures { λ r. ⌜ Settles (now (buffer .entry)) (now (store .entry)) from (now (bytes .entry)) (now (buffer .exit)) (now (store .exit)) r ⌝ }
 {
     let finished = finish(buffer, store, from, bytes);
     let place = finished.place;

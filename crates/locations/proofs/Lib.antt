@@ -3,5 +3,4 @@ pub mod Listings
 pub mod LookupReadings
 pub mod LookupClaims
 pub mod Stepping
-pub mod ViewReadings
 pub mod ViewClaims

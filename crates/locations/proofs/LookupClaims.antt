@@ -3,6 +3,7 @@ use mathlib.Core.Path.{_≡_, refl, sym, ap, _∙_}
 use mathlib.Core.Bool.{true, false, false≢true}
 use mathlib.Core.List.{List, []}
 use Prim.Native.Nat.{ℕ, _+_, _-_, _≤_}
+use native.Mathlib.Nat.{zero-add}
 use native.Mathlib.Omega.{arith}
 use lib.Dec.{ltb, eqb}
 use lib.ListN.{length, take, drop, length-take, length-drop}
@@ -22,7 +23,7 @@ use Rattle.locations.specs.declared.lookups.Location.{Location}
 use Rattle.locations.specs.declared.lookups.Location.the-variants as location
 use Rattle.locations.specs.declared.lookups.Answer.the-variants as answer
 use Rattle.locations.specs.declared.lookups.Bounds.{Bounds}
-use Rattle.locations.specs.Locations.{behindNuls, fixedPart, fixedLocation, partAt, firstListed, locationBy, locationOf, answerOf, codeOf}
+use Rattle.locations.specs.Locations.{behindNuls, fixedPart, fixedLocation, partAt, firstListed, locationBy, locationOf, answerOf, codeOf, placeOf}
 use Rattle.locations.specs.Terms.{Sets, firstFrom, noBounds, boundsOf}
 use Rattle.locations.specs.Claims.{Exactly, EmptyExactly, RefusedFirst, Reserved, ListedWins, OtherwiseFixed, LocationClaims}
 use Rattle.locations.proofs.NulLaws.{behind-short, each-fixed}
@@ -100,6 +101,14 @@ bound area fixed index = go (reading area) refl
     go (refused r at) e = none-bound area fixed
     go (read es) e = placed-bound area fixed (locationBy (read es) area fixed index) (placed area fixed index es e)
 
+-- a part begins where its bounds do, in its buffer
+pub part-place : (area fixed : ℕ × ℕ) (l : Location)
+    → (boundsOf l .fixed ≡ true → (fixed .0, boundsOf l .start + fixed .1) ≡ placeOf area fixed l) × (boundsOf l .fixed ≡ false → (area .0, boundsOf l .start + area .1) ≡ placeOf area fixed l)
+part-place area fixed (location.Refused r at) = (λ h. absurd (false≢true h), λ _. rw (zero-add (area .1)))
+part-place area fixed location.NotFound = (λ h. absurd (false≢true h), λ _. rw (zero-add (area .1)))
+part-place area fixed (location.InArea p) = (λ h. absurd (false≢true h), λ _. refl)
+part-place area fixed (location.InFixed p) = (λ _. refl, λ h. absurd (false≢true (sym h)))
+
 -- ---- the claims
 
 -- a part with a byte is not empty
@@ -155,6 +164,7 @@ otherwise-fixed area fixed index es h other u = by-sets area index es h other fi
 pub location-claims : LocationClaims
 location-claims =
     record {
+      place-told = record { in-area = λ area fixed p. refl; in-fixed = λ area fixed p. refl; nothing = λ area fixed r at. (refl, refl) };
       empty-exactly = empty-exactly;
       refused-first = refused-first;
       reserved = reserved;

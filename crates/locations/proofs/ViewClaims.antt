@@ -5,17 +5,17 @@ use mathlib.Core.List.{List, [], _∷_}
 use Prim.Native.Nat.{ℕ, _+_}
 use lib.ListN.{length, drop-of-length-le}
 use lib.Seq.{drop-append-seam}
+use borrow.Author.Tests.{lt-ltb, le-ltb}
 use Rattle.words.specs.Reading.{read, refused}
 use Rattle.inventory.specs.Listing.{Entry}
 use Rattle.indices.specs.declared.reading.Refusal.{Refusal}
 use Rattle.indices.specs.declared.reading.Fault.{Fault}
 use Rattle.indices.specs.declared.reading.Fault.the-variants.{Fine, Bad}
 use Rattle.indices.specs.Reading.{lengthAt, faultAt, entryAt, judgedBy, readFrom}
-use Rattle.locations.specs.Views.{listing}
-use Rattle.locations.specs.Claims.{EachEntry, ThenTheLast, EachStep, ViewClaims}
+use Rattle.locations.specs.Views.{listing, cursorBehind}
+use Rattle.locations.specs.Claims.{EachEntry, ThenTheLast, EachStep, EachViewStart, ViewClaims}
 use Rattle.locations.proofs.Listings.{none-taken, set-taken}
 use Rattle.locations.proofs.Stepping.{advance-short, advance-end, advance-set, steps-show, as-the-reader}
-use Rattle.locations.proofs.ViewReadings.{view-readings}
 
 each-entry : EachEntry
 each-entry area before after e h = rw (steps-show (length before) area, h, drop-append-seam before (e ∷ after))
@@ -45,5 +45,9 @@ each-step area c =
       passed = λ l h e k. let b = one-read (faultAt area (c .at)) (c .at) (entryAt area (c .at)) e (one-judged area (c .at) ∙ k) in rw (b .1, ← set-taken area (c .at) [] (sym (b .0)), none-taken (c .at + (8 + lengthAt area (c .at)))) (sym (advance-set area c l Fine h (b .0)));
     }
 
+each-view-start : EachViewStart
+unfolding cursorBehind
+each-view-start area = record { short = λ h. rw (lt-ltb (length area) 4 h); start = λ h. rw (le-ltb (length area) 4 h); first = refl; next = λ n. (refl, refl) }
+
 pub view-claims : ViewClaims
-view-claims = record { as-the-reader = as-the-reader; each-entry = each-entry; then-the-last = then-the-last; each-step = each-step; readings = view-readings }
+view-claims = record { each-start = each-view-start; as-the-reader = as-the-reader; each-entry = each-entry; then-the-last = then-the-last; each-step = each-step }

@@ -1,8 +1,10 @@
--- What is claimed of a lookup, cited by the contracts of `locate`, `check` and `lookup`, and of a view, cited by those of `view_of` and its steps (document 02, M-112).
-use Prim.Native.Nat.{ℕ, _+_, _-_, _≤_, _<_}
+-- What is claimed of a lookup, cited by the contracts of `locate`, `check` and `lookup`, and of a view, cited by those of `view_of` and its steps
+-- (document 02, M-112).
+use Prim.Native.Nat.{ℕ, suc, _+_, _-_, _≤_, _<_}
 use mathlib.Core.Path.{_≡_}
 use mathlib.Core.List.{List, [], _∷_, _++_}
 use lib.ListN.{length, getD, take}
+use Rattle.words.specs.Numbers.{be}
 use Rattle.words.specs.Nul.{untilNul}
 use Rattle.words.specs.Reading.{read, refused}
 use Rattle.inventory.specs.Listing.{Entry}
@@ -10,15 +12,16 @@ use Rattle.indices.specs.declared.reading.Refusal.{Refusal}
 use Rattle.indices.specs.declared.reading.Refusal.the-variants.{Short}
 use Rattle.indices.specs.declared.reading.Cursor.{Cursor}
 use Rattle.indices.specs.Reading.{readFrom, reading}
+use Rattle.indices.specs.Cursor.{startOf}
 use Rattle.indices.specs.Longest.{taken}
 use Rattle.locations.specs.declared.listed.Part.{Part}
 use Rattle.locations.specs.declared.lookups.Location.the-variants as location
 use Rattle.locations.specs.declared.lookups.Answer.{Answer}
 use Rattle.locations.specs.declared.lookups.Answer.the-variants as answer
 use Rattle.locations.specs.declared.views.Given.the-variants as given
-use Rattle.locations.specs.Locations.{fixedLocation, locationOf, answerOf, codeOf}
-use Rattle.locations.specs.Views.{advanceOf, stepNumber, listing, readingBy, shown, entry, last}
-use Rattle.locations.specs.Readings.{LookupReadings, ViewReadings}
+use Rattle.locations.specs.Locations.{fixedLocation, locationOf, answerOf, codeOf, placeOf}
+use Rattle.locations.specs.Views.{advanceOf, cursorBehind, stepNumber, listing, readingBy, shown, entry, last}
+use Rattle.locations.specs.Readings.{LookupReadings}
 
 -- a statement holds exactly when another does
 abbrev pub Exactly : Type 0 → Type 0 → Type 0
@@ -97,7 +100,14 @@ pub record FixedExactly (codes : List (List ℕ)) (rest area : List ℕ) (index 
 abbrev pub EachFixed : Type 0
 EachFixed = (codes : List (List ℕ)) (rest area : List ℕ) (index : ℕ) → AllPlain codes → FixedExactly codes rest area index
 
+-- "as it stands in whichever buffer had it": where a part begins, by the pointers of the area and of the fixed list
+pub record PlaceTold : Type 0 where
+  pub in-area : (area fixed : ℕ × ℕ) (p : Part) → placeOf area fixed (location.InArea p) ≡ (area .0, p .start + area .1)
+  pub in-fixed : (area fixed : ℕ × ℕ) (p : Part) → placeOf area fixed (location.InFixed p) ≡ (fixed .0, p .start + fixed .1)
+  pub nothing : (area fixed : ℕ × ℕ) (r : Refusal) (at : ℕ) → (placeOf area fixed location.NotFound ≡ area) × (placeOf area fixed (location.Refused r at) ≡ area)
+
 pub record LocationClaims : Type 0 where
+  pub place-told : PlaceTold
   pub empty-exactly : EmptyExactly
   pub refused-first : RefusedFirst
   pub reserved : Reserved
@@ -132,9 +142,19 @@ pub record StepRead (area : List ℕ) (c : Cursor) : Type 0 where
 abbrev pub EachStep : Type 0
 EachStep = (area : List ℕ) (c : Cursor) → StepRead area c
 
+-- A view starts before the first set, with as many to come as the area's first word says; an area of under 4 bytes has none.
+pub record StartExactly (area : List ℕ) : Type 0 where
+  pub short : length area < 4 → startOf area ≡ record { at = 4; left = 0 }
+  pub start : 4 ≤ length area → startOf area ≡ record { at = 4; left = be 4 area 0 }
+  pub first : cursorBehind 0 area ≡ startOf area
+  pub next : (n : ℕ) → (cursorBehind (suc n) area ≡ advanceOf area (cursorBehind n area) .cursor) × (stepNumber n area ≡ advanceOf area (cursorBehind n area) .given)
+
+abbrev pub EachViewStart : Type 0
+EachViewStart = (area : List ℕ) → StartExactly area
+
 pub record ViewClaims : Type 0 where
+  pub each-start : EachViewStart
   pub as-the-reader : AsTheReader
   pub each-entry : EachEntry
   pub then-the-last : ThenTheLast
   pub each-step : EachStep
-  pub readings : ViewReadings

@@ -70,3 +70,10 @@ codeOf area fixed (location.Refused r at) = []
 codeOf area fixed location.NotFound = []
 codeOf area fixed (location.InArea p) = take (p .length) (drop (p .start) area)
 codeOf area fixed (location.InFixed p) = take (p .length) (drop (p .start) fixed)
+
+-- where a part that is handed back begins, by the pointers of both buffers, each a block and an offset; the area's start if nothing is found
+abbrev pub placeOf : ℕ × ℕ → ℕ × ℕ → Location → ℕ × ℕ
+placeOf area fixed (location.Refused r at) = area
+placeOf area fixed location.NotFound = area
+placeOf area fixed (location.InArea p) = (area .0, p .start + area .1)
+placeOf area fixed (location.InFixed p) = (fixed .0, p .start + fixed .1)

@@ -12,7 +12,6 @@ use Rattle.locations.specs.declared.lookups.Location.the-variants as loc
 use Rattle.locations.specs.declared.lookups.Answer.{Answer}
 use Rattle.locations.specs.declared.lookups.Answer.the-variants as answer
 use Rattle.locations.specs.Locations.{locationOf, answerOf, codeOf}
-use Rattle.locations.specs.Views.{end, refusal, Shown, entry, last, shown, stepNumber}
 
 -- the same bytes
 unfoldable pub same : List ℕ → List ℕ → Bool
@@ -71,84 +70,20 @@ refuses area fixed index n at =
 
 abbrev pub lookups : List Bool
 lookups =
-    -- an index listed twice, the first and the last of an area
+    -- an index listed twice, and one that is in the fixed list too
     finds (areaOf 2 (set3 7 88 ++ set4 7 89)) [] 7 1 12 (88 ∷ 88 ∷ 88 ∷ [])
-    ∷ finds (areaOf 2 (set3 7 88 ++ set4 9 89)) [] 9 1 24 (89 ∷ 89 ∷ 89 ∷ 89 ∷ [])
-    -- the same with one code
-    ∷ finds (areaOf 2 (set3 7 88 ++ set3 7 88)) [] 7 1 12 (88 ∷ 88 ∷ 88 ∷ [])
-    ∷ finds (areaOf 2 (set3 7 88 ++ set3 9 88)) [] 9 1 24 (88 ∷ 88 ∷ 88 ∷ [])
-    -- listed and in the fixed list
     ∷ finds (areaOf 1 (set3 0 88)) list 0 1 12 (88 ∷ 88 ∷ 88 ∷ [])
-    -- listed before a fault, in the fixed list, and 0xFFFFFFFF over a refused area
+    -- an area that is refused, here after the index or before the fixed list
     ∷ refuses (areaOf 2 (set3 7 88)) list 7 31 16
-    ∷ refuses (areaOf 2 (set3 7 88)) list 0 31 16
-    ∷ refuses (areaOf 2 (set3 7 88)) list 4294967295 31 16
     ∷ refuses (0 ∷ 0 ∷ 0 ∷ []) list 0 30 0
     ∷ refuses (areaOf 1 (beBytes 4 7 ++ beBytes 4 0)) list 0 32 4
     ∷ refuses (areaOf 1 (beBytes 4 7 ++ (beBytes 4 4 ++ replicate 4 0))) list 0 33 4
-    -- 0xFFFFFFFF listed, and the number below it
+    -- 0xFFFFFFFF listed; fixed entries: an empty one, one with its code, and one without its NUL
     ∷ refuses (areaOf 1 (set3 4294967295 88)) list 4294967295 1 0
-    ∷ finds (areaOf 1 (set3 4294967294 88)) list 4294967294 1 12 (88 ∷ 88 ∷ 88 ∷ [])
-    -- fixed entries: the second of two with one code, the first, an empty one, the last, one without its NUL, and behind the end
-    ∷ finds (areaOf 0 []) (65 ∷ 0 ∷ 65 ∷ 0 ∷ []) 1 2 2 (65 ∷ [])
-    ∷ finds (areaOf 0 []) list 0 2 0 (65 ∷ [])
     ∷ refuses (areaOf 0 []) list 1 1 0
     ∷ finds (areaOf 0 []) list 2 2 3 (66 ∷ 67 ∷ [])
     ∷ refuses (areaOf 0 []) list 3 1 0
-    ∷ refuses (areaOf 0 []) list 4 1 0
-    ∷ refuses (areaOf 0 []) [] 0 1 0
-    ∷ refuses (areaOf 0 []) (0 ∷ []) 0 1 0
-    -- bytes behind the last set are not looked at
-    ∷ refuses (areaOf 1 (set3 7 88 ++ set3 9 89)) [] 9 1 0
-    -- the longest code of an area, and a longer one of the fixed list
-    ∷ finds (areaOf 1 (beBytes 4 7 ++ (beBytes 4 1024 ++ (replicate 1023 88 ++ (0 ∷ []))))) [] 7 1 12 (replicate 1023 88)
-    ∷ finds (areaOf 0 []) (replicate 1100 88 ++ (0 ∷ [])) 0 2 0 (replicate 1100 88)
     ∷ []
 
 abbrev pub LookupReadings : Type 0
 LookupReadings = T (all (λ (b : Bool). b) lookups)
-
--- ---- views
-
--- what a step gives: an entry, the end, or a refusal with its byte offset
-abbrev pub isEntry : Shown → ℕ → List ℕ → Bool
-isEntry (entry e) index code = eqb (e .index) index && same (e .code) code
-isEntry (last l) index code = false
-
-abbrev pub isEnd : Shown → Bool
-isEnd (entry e) = false
-isEnd (last end) = eqb 0 0
-isEnd (last (refusal r at)) = false
-
-abbrev pub isRefusal : Shown → ℕ → ℕ → Bool
-isRefusal (entry e) n at = false
-isRefusal (last end) n at = false
-isRefusal (last (refusal r k)) n at = eqb (refusalNumber r) n && eqb k at
-
-abbrev pub stepOf : ℕ → List ℕ → Shown
-stepOf n area = shown area (stepNumber n area)
-
-abbrev pub views : List Bool
-views =
-    let two = areaOf 2 (set3 7 88 ++ set4 9 89) in
-    let faulty = areaOf 2 (set3 7 88 ++ (0 ∷ 0 ∷ [])) in
-    let spoilt = areaOf 3 (set3 7 88 ++ (set4 9 89 ++ (beBytes 4 5 ++ (beBytes 4 4 ++ replicate 4 0)))) in
-    isEntry (stepOf 0 two) 7 (88 ∷ 88 ∷ 88 ∷ [])
-    ∷ isEntry (stepOf 1 two) 9 (89 ∷ 89 ∷ 89 ∷ 89 ∷ [])
-    ∷ isEnd (stepOf 2 two)
-    ∷ isEnd (stepOf 3 two)
-    -- the entries before a fault, then the refusal, again and again
-    ∷ isEntry (stepOf 0 faulty) 7 (88 ∷ 88 ∷ 88 ∷ [])
-    ∷ isRefusal (stepOf 1 faulty) 31 16
-    ∷ isRefusal (stepOf 2 faulty) 31 16
-    ∷ isEntry (stepOf 0 spoilt) 7 (88 ∷ 88 ∷ 88 ∷ [])
-    ∷ isEntry (stepOf 1 spoilt) 9 (89 ∷ 89 ∷ 89 ∷ 89 ∷ [])
-    ∷ isRefusal (stepOf 2 spoilt) 33 32
-    ∷ isRefusal (stepOf 3 spoilt) 33 32
-    ∷ isRefusal (stepOf 0 (0 ∷ 0 ∷ 0 ∷ [])) 30 0
-    ∷ isRefusal (stepOf 1 []) 30 0
-    ∷ isEnd (stepOf 0 (areaOf 0 []))
-    ∷ []
-
-abbrev pub ViewReadings : Type 0
-ViewReadings = T (all (λ (b : Bool). b) views)

@@ -1,6 +1,7 @@
 // The lookup over both, by value and as a part of a lent buffer.
 ghost use mathlib.Core.Path.{_≡_};
-ghost use Rattle.locations.specs.Locations.{fixedLocation, locationOf, answerOf, codeOf};
+ghost use denote.Ref.{ptr};
+ghost use Rattle.locations.specs.Locations.{fixedLocation, locationOf, answerOf, codeOf, placeOf};
 ghost use Rattle.locations.specs.Claims.{LocationClaims};
 ghost use Rattle.locations.specs.Terms.{Narrow, noBounds, boundsOf};
 use crate::fixed::find_fixed;
@@ -114,6 +115,7 @@ fn bounds_of(location: Location) -> Bounds
 // The code itself, as it stands in whichever buffer had it, without its NULs; empty where the check refuses.
 pub fn lookup<'a>(area: &'a [u8], fixed: &'a [u8], index: u32) -> &'a [u8]
     ensures { λ r. ⌜ now r ≡ codeOf (now (area .entry)) (now (fixed .entry)) (locationOf (now (area .entry)) (now (fixed .entry)) index) ⌝ }
+    ensures { λ r. ⌜ ptr r ≡ placeOf (ptr (area .entry)) (ptr (fixed .entry)) (locationOf (now (area .entry)) (now (fixed .entry)) index) ⌝ }
     ensures claims { λ _. ⌜ LocationClaims ⌝ }
 {
     let bounds = bounds_of(locate(area, fixed, index));

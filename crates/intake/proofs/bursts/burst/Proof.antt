@@ -28,7 +28,10 @@ same-length-2 : tie.Need-same-length-2
 same-length-2 c = search needs
 
 returns : tie.Need-returns
-returns c = (burst-all (c .before .before .before .before .before .before .before .before .before .before .before .before .before .sweep .ensures) (c .before .before .before .before .settle .ensures), (tally-claims, intake-claims))
+returns c =
+    let settled = c .before .before .before .before in
+    let swept = settled .before .before .before .before .before .before .before .before .before in
+    (burst-all (swept .before .before .before .before .before .before .pre) (swept .sweep .ensures) (settled .settle .ensures), (tally-claims, intake-claims))
 
 pub burst-spec : {M : Type 1} → statement M
 burst-spec =

@@ -1,7 +1,7 @@
 -- `bursts::settle` meets its contract.
 use borrow.Author.Needs.{needs}
 use native.Mathlib.Omega.{arith}
-use Rattle.intake.proofs.Standings.{burst-still, burst-past}
+use Rattle.intake.proofs.Standings.{settle-still, settle-past}
 use Rattle.intake.proofs.bursts.settle.Statement.{statement}
 use Rattle.intake.proofs.bursts.settle.Tie as tie
 
@@ -15,7 +15,7 @@ same-length-2 : tie.Need-same-length-2
 same-length-2 c = search needs
 
 returns : tie.Need-returns
-returns c = let finished = c .before .before .before .before .before .before .finish in burst-still (c .before .before .before .before .before .before .before .before .before .before .before .before .pre) _ {f = finished .result} (finished .ensures) (c .if1 .taken)
+returns c = let finished = c .before .before .before .before .before .before .finish in settle-still (c .before .before .before .before .before .before .before .before .before .before .before .before .pre) _ {f = finished .result} (finished .ensures) (c .if1 .taken)
 
 pass-requires : tie.Need-pass-requires
 pass-requires c κs = search needs
@@ -33,7 +33,7 @@ returns-2 : tie.Need-returns-2
 returns-2 c =
     let finished = c .before .before .before .before .before .before .before .before .before .before .before .before .before .before .before .finish in
     let filled = c .before .before .fill in
-    burst-past (c .before .before .before .before .before .before .before .before .before .before .before .before .before .before .before .before .before .before .before .before .before .pre) _ {f = finished .result} (finished .ensures) (omega arith) (c .before .before .before .before .before .before .before .pass .ensures) _ _ (filled .kept .0) (filled .ensures)
+    settle-past (c .before .before .before .before .before .before .before .before .before .before .before .before .before .before .before .before .before .before .before .before .before .pre) _ {f = finished .result} (finished .ensures) (omega arith) (c .before .before .before .before .before .before .before .pass .ensures) _ _ (filled .kept .0) (filled .ensures)
 
 pub settle-spec : {M : Type 1} → statement M
 settle-spec =

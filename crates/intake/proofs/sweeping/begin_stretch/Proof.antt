@@ -4,19 +4,20 @@ use native.Mathlib.Omega.{arith}
 use borrow.Author.Needs.{needs}
 use denote.Ref.{now}
 use lib.Seq.{length-take-le}
+use Rattle.intake.proofs.Completing.{completed-far}
 use Rattle.intake.proofs.Covering.{Stored, begins-none, judged-inside, begins-not, begun-known, begun-size, begins}
 use Rattle.intake.proofs.sweeping.begin_stretch.Statement.{statement}
 use Rattle.intake.proofs.sweeping.begin_stretch.Tie as tie
 
 -- without bytes behind the held ones
 returns : tie.Need-returns
-returns c = begins-none refl refl (λ _. refl) _ (c .no-stretch .ensures)
+returns c = begins-none refl refl (completed-far _ _ _ (λ some _ _. some (c .before .if1 .taken))) _ (c .no-stretch .ensures)
 
 returns-2 : tie.Need-returns-2
-returns-2 c = begins-none refl refl (λ _. refl) _ (c .no-stretch2 .ensures)
+returns-2 c = begins-none refl refl (completed-far _ _ _ (λ _ low _. omega (arith, low, c .before .if2 .taken))) _ (c .no-stretch2 .ensures)
 
 returns-3 : tie.Need-returns-3
-returns-3 c = begins-none refl refl (λ _. refl) _ (c .no-stretch3 .ensures)
+returns-3 c = begins-none refl refl (completed-far _ _ _ (λ _ _ long. omega (arith, long, c .before .if3 .taken))) _ (c .no-stretch3 .ensures)
 
 -- with them
 stored : (c : tie.After-store-bytes) →

@@ -1,12 +1,14 @@
 -- `lookups::lookup` meets its contract.
-use mathlib.Core.Path.{_∙_, ap}
+use mathlib.Core.Path.{_≡_, _∙_, ap}
+use mathlib.Core.Bool.{true, false}
+use Prim.Native.Nat.{_+_}
 use native.Mathlib.Omega.{arith}
 use borrow.Author.Needs.{needs}
-use denote.Ref.{now}
+use denote.Ref.{ptr, now}
 use Rattle.words.proofs.Choice.{decide}
-use Rattle.locations.specs.Locations.{locationOf, codeOf}
+use Rattle.locations.specs.Locations.{locationOf, codeOf, placeOf}
 use Rattle.locations.specs.Terms.{boundsOf}
-use Rattle.locations.proofs.LookupClaims.{Bound, bound, location-claims}
+use Rattle.locations.proofs.LookupClaims.{Bound, bound, part-place, location-claims}
 use Rattle.locations.proofs.lookups.lookup.Statement.{statement}
 use Rattle.locations.proofs.lookups.lookup.Tie as tie
 
@@ -44,11 +46,22 @@ part-result-start-2 c = omega (arith, inside (c .before) .forwards, inside (c .b
 part-result-end-2 : tie.Need-part-result-end-2
 part-result-end-2 c = let forwards = inside (c .before) .forwards in let fits = inside (c .before) .in-area (c .if1 .left) .0 in search needs
 
+-- the part begins at the place of the location
+place : (c : tie.After-bounds-of)
+    → let a = c .before .before .before .before .args in
+    let l = locationOf (now (a .area)) (now (a .fixed)) (a .index) in
+    let b = c .bounds-of .result in
+    (b .fixed ≡ true → (a .fixed .ptr .0, b .start + a .fixed .ptr .1) ≡ placeOf (ptr (a .area)) (ptr (a .fixed)) l)
+    × (b .fixed ≡ false → (a .area .ptr .0, b .start + a .area .ptr .1) ≡ placeOf (ptr (a .area)) (ptr (a .fixed)) l)
+place c =
+    let a = c .before .before .before .before .args in
+    rw (c .bounds-of .ensures ∙ ap boundsOf (c .before .locate .ensures .0)) (part-place (ptr (a .area)) (ptr (a .fixed)) (locationOf (now (a .area)) (now (a .fixed)) (a .index)))
+
 returns : tie.Need-returns
-returns c = (inside (c .before .before) .in-fixed (c .before .if1 .taken) .1, location-claims)
+returns c = (inside (c .before .before) .in-fixed (c .before .if1 .taken) .1, (place (c .before .before) .0 (c .before .if1 .taken), location-claims))
 
 returns-2 : tie.Need-returns-2
-returns-2 c = (inside (c .before .before) .in-area (c .before .if1 .left) .1, location-claims)
+returns-2 c = (inside (c .before .before) .in-area (c .before .if1 .left) .1, (place (c .before .before) .1 (c .before .if1 .left), location-claims))
 
 pub lookup-spec : {M : Type 1} → statement M
 lookup-spec =
