@@ -1,5 +1,24 @@
 -- The claims that the contract of `call` cites hold.
-use Rattle.calls.specs.CallClaims.{CallClaims}
+use mathlib.Core.Path.{refl}
+use native.Mathlib.Omega.{arith}
+use Rattle.words.proofs.Claims.{zeros-exactly}
+use Rattle.journal.proofs.Claims.{journal-claims}
+use Rattle.inventory.proofs.Claims.{inventory-claims}
+use Rattle.dump.proofs.StructureClaims.{structure-exactly}
+use Rattle.dump.proofs.Claims.{structure-cases}
+use Rattle.node_area.proofs.ReaderClaims.{node-reader-exactly}
+use Rattle.nodes.proofs.Claims as nodes
+use Rattle.indices.proofs.ReaderClaims.{index-reader-exactly}
+use Rattle.indices.proofs.Claims as indices
+use Rattle.indices.proofs.Bounds.{entries-bounded}
+use Rattle.indices.proofs.Longest.{longest-run}
+use Rattle.property_area.proofs.ReaderClaims.{property-reader-exactly}
+use Rattle.property_area.proofs.Written.{round-trip}
+use Rattle.properties.proofs.ChangeClaims.{changes-exactly, fill-exactly, session-exactly}
+use Rattle.calls.specs.Lent.{partAt, withPart, PartExactly}
+use Rattle.calls.specs.NodeSession.{reported as reportedNodes}
+use Rattle.calls.specs.PropertySession.{reported}
+use Rattle.calls.specs.CallClaims.{ReportedExactly, Foundations, CallClaims}
 use Rattle.calls.proofs.Confined.{demand1}
 use Rattle.calls.proofs.Exact.{demand2}
 use Rattle.calls.proofs.NodeSessions.{demand3, fewest}
@@ -12,9 +31,42 @@ use Rattle.calls.proofs.Readings.{readings}
 use Rattle.calls.proofs.PropertyReadings.{property-readings}
 use Rattle.calls.proofs.RecordReadings.{record-readings}
 
+part-exactly : PartExactly
+unfolding partAt withPart
+part-exactly = record { taken = λ m address size. refl; put = λ m part address size. refl }
+
+reported-exactly : ReportedExactly
+unfolding reportedNodes reported
+reported-exactly = record { nodes-done = λ os st. (λ e. rw e, λ e. rw e); node-done = λ cs st. (λ e. rw e, λ e. rw e) }
+
+pub foundations : Foundations
+foundations =
+    record {
+      journal = journal-claims;
+      inventory = inventory-claims;
+      structure = structure-exactly;
+      structures = structure-cases;
+      changes = changes-exactly;
+      filled = fill-exactly;
+      property-sessions = session-exactly;
+      nodes-written = nodes.area-claims;
+      nodes-read = node-reader-exactly;
+      indices-written = indices.area-claims .1;
+      longest-list = longest-run;
+      entries = entries-bounded;
+      indices-read = index-reader-exactly;
+      properties-written = round-trip;
+      properties-read = property-reader-exactly;
+      zeros = zeros-exactly;
+      parts = part-exactly;
+      minus-words = λ n h. omega arith;
+    }
+
 pub call-claims : CallClaims
 call-claims =
     record {
+      reported-exactly = reported-exactly;
+      foundations = foundations;
       demand1 = demand1;
       demand2 = demand2;
       demand3 = demand3;

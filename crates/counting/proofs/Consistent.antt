@@ -3,9 +3,9 @@ use mathlib.Core.Path.{_≡_, refl, sym, ap, _∙_}
 use mathlib.Core.Bool.{true}
 use mathlib.Core.List.{List, [], _∷_, _++_}
 use Prim.Native.Nat.{ℕ, zero, suc, _+_, _*_, _≤_}
-use native.Mathlib.Nat.{zero-add, suc-add}
 use native.Mathlib.Omega.{arith}
 use lib.ListN.{length, getD, drop}
+use lib.Seq.{getD-append-add}
 use borrow.Author.Tests.{le-leb, eq-eqb}
 use Rattle.totals.specs.Consistent.{sumFrom, callsAgree, wordsAgree, consistent}
 use Rattle.counting.specs.declared.counts.Counts.{Counts}
@@ -25,10 +25,6 @@ from-rows [] rest at (suc n) h = absurd (omega arith)
 from-rows (r ∷ rows) rest zero (suc n) h = ap (λ (k : ℕ). r + k) (from-next r (rows ++ rest) zero n ∙ from-rows rows rest zero n (omega arith))
 from-rows (r ∷ rows) rest (suc at) (suc n) h = from-next r (rows ++ rest) at (suc n) ∙ from-rows rows rest at (suc n) (omega arith)
 
-getD-behind : (xs ys : List ℕ) (k : ℕ) → getD (xs ++ ys) (length xs + k) 0 ≡ getD ys k 0
-getD-behind [] ys k = rw (zero-add k)
-getD-behind (x ∷ xs) ys k = rw (suc-add (length xs) k) (getD-behind xs ys k)
-
 module _ (c : Counts) (size : length (c .rows) ≡ 28) where
   abbrev fs : List ℕ
   fs = figuresIn c
@@ -36,8 +32,8 @@ module _ (c : Counts) (size : length (c .rows) ≡ 28) where
   sums : (at n : ℕ) → at + n ≤ 28 → sumFrom fs at n ≡ sumOf n (drop at (c .rows))
   sums at n h = from-rows (c .rows) _ at n (omega arith)
 
-  behind : (rest : List ℕ) (k : ℕ) → getD (c .rows ++ rest) (28 + k) 0 ≡ getD rest k 0
-  behind rest k = rw (sym size) (getD-behind (c .rows) rest k)
+  pub behind : (rest : List ℕ) (k : ℕ) → getD (c .rows ++ rest) (28 + k) 0 ≡ getD rest k 0
+  behind rest k = rw (sym size) (getD-append-add (c .rows) rest k 0)
 
   calls-agree : callsAgree fs ≡ true
   unfolding callsAgree

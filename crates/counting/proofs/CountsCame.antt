@@ -8,9 +8,9 @@ use lib.Dec.{leb}
 use lib.ListN.{length}
 use borrow.Author.Tests.{leb-true, le-leb}
 use Rattle.words.proofs.Choice.{choose, decide, and-left, and-right}
+use Rattle.words.proofs.Exactly.{at-most, both}
 use Rattle.records.specs.Records.{kindOf}
 use Rattle.records.specs.Cutting.{run, taken, standing, Standing, start, fed, fedAll}
-use Rattle.calls.specs.Buffer.{Left}
 use Rattle.trace.specs.declared.report.Report.{Report}
 use Rattle.trace.specs.declared.report.Report.the-variants.{Agreed, Differs, Malformed}
 use Rattle.trace.specs.Trace.{isBefore, isAfter, isSetting, bodyOf, isGood, isSettable}
@@ -22,12 +22,13 @@ use Rattle.counting.specs.declared.counts.Counts.{Counts}
 use Rattle.counting.specs.Counts.{noCounts, counted}
 use Rattle.counting.specs.Figures.{sumOf}
 use Rattle.counting.specs.OfTrace.{isTaken, madeBy, made, countedAll, Counting, countStep, counter}
-use Rattle.counting.specs.CountsCame.{madeCame, countsCame, countingCame, AllCountsCame, TraceCountClaims}
-use Rattle.counting.proofs.Growing.{rows-counted}
+use Rattle.counting.specs.CountsCame.{madeCame, countsCame, countingCame, AllCountsCame, EachCounts, TraceCountClaims}
+use Rattle.counting.proofs.Growing.{rows-all}
 use Rattle.counting.proofs.Sums.{rows-sum, handed-answered}
 use Rattle.counting.proofs.OfTrace.{counter-sticky, counts-of-calls}
 use Rattle.counting.proofs.EveryCall.{every-call-made}
 use Rattle.counting.proofs.TraceCounts.{trace-count-readings}
+use Rattle.counting.proofs.MonthClaims.{each-month, each-made}
 
 -- ---- the rules
 
@@ -127,11 +128,6 @@ module _ (p : Platform) where
       by (Malformed n) e = rw (counter-sticky p x r (ap isOver e)) has
 
   -- the rows stay 28
-  rows-all : (c : Counts) (xs : List Left) → length (countedAll c xs .rows) ≡ length (c .rows)
-  unfolding countedAll
-  rows-all c [] = refl
-  rows-all c (x ∷ xs) = rows-all _ xs ∙ rows-counted c (x .number) (x .args) (x .memory)
-
   rows-step : (x : Counting) (r : List ℕ) → length (countStep p x r .counts .rows) ≡ length (x .counts .rows)
   unfolding countStep
   rows-step x r = rows-all (x .counts) (made p (x .state) r)
@@ -184,5 +180,13 @@ none-came m = refl
 pub all-counts-came : AllCountsCame
 all-counts-came p m bs = all-fine p (start (record { state = begin m; counts = noCounts })) bs (record { size = refl; come = begin-came (p .edition) m; has = none-came m }) .has
 
+each-counts : EachCounts
+unfolding countsCame
+each-counts records waits c = record {
+  agreed = λ n. both (at-most _ _) (both (at-most _ _) (at-most _ _));
+  differs = λ n at. both (at-most _ _) (both (at-most _ _) (at-most _ _));
+  malformed = λ n. both (at-most _ _) (both (at-most _ _) (at-most _ _));
+}
+
 pub trace-count-claims : TraceCountClaims
-trace-count-claims = record { every-call-made = every-call-made; counts-of-calls = counts-of-calls; all-counts-came = all-counts-came; trace-count-readings = trace-count-readings }
+trace-count-claims = record { each-counts = each-counts; every-call-made = every-call-made; counts-of-calls = counts-of-calls; all-counts-came = all-counts-came; each-month = each-month; each-made = each-made; trace-count-readings = trace-count-readings }

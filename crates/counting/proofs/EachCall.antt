@@ -16,6 +16,7 @@ use Rattle.counting.specs.Counts.{placeOf, countedIn, handedOut, counted
 use Rattle.counting.specs.Claims.{placeIn, EachCallCounted}
 use Rattle.counting.proofs.Ways.{counted-not, counted-is}
 use Rattle.counting.proofs.OwnBuffer.{word-kept}
+use Rattle.counting.proofs.MonthClaims.{known}
 
 place-is : (s : Status) → placeOf (statusWord s) ≡ placeIn s
 unfolding placeOf
@@ -26,15 +27,6 @@ place-is Parameter = refl
 place-is Changed = refl
 place-is AlreadyRegistered = refl
 place-is DumpActive = refl
-
-place-below : (s : Status) → placeIn s < 7
-place-below Done = omega arith
-place-below Again = omega arith
-place-below Malformed = omega arith
-place-below Parameter = omega arith
-place-below Changed = omega arith
-place-below AlreadyRegistered = omega arith
-place-below DumpActive = omega arith
 
 module _ (f : Found) (c : Counts) where
   abbrev x : Left
@@ -58,7 +50,7 @@ module _ (f : Found) (c : Counts) where
       let s = outcome f .status in
       let word : be32 (x .args) (statusAt (f .args)) ≡ statusWord s = status-word f (ap isGiven (sym (number-is f)) ∙ g) in
       let place : placeOf (be32 (x .args) (statusAt (x .args))) ≡ placeIn s = rw (place-kept, word) (place-is s) in
-      let is = counted-is (x .args) (x .memory) c (x .number) g (omega (arith, token-kept)) (omega (arith, token-kept)) (omega (arith, place, place-below s)) in
+      let is = counted-is (x .args) (x .memory) c (x .number) g (omega (arith, token-kept)) (omega (arith, token-kept)) (omega (arith, place, place-is s, known s .0)) in
       (s, (word, is ∙ rw (place, token-kept, place-kept, word)))
 
   in-none : (isGiven (x .number) ≡ false) ⊎ ((t ≡ 0) ⊎ (4 < t)) → after ≡ c

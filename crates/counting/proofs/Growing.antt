@@ -9,10 +9,11 @@ use Rattle.words.specs.Numbers.{be32}
 use Rattle.words.proofs.Choice.{choose}
 use Rattle.calls.specs.declared.status.Number.{Number}
 use Rattle.calls.specs.Status.{isGiven}
-use Rattle.calls.specs.Buffer.{token, statusAt}
+use Rattle.calls.specs.Buffer.{token, statusAt, Left}
 use Rattle.counting.specs.declared.area.Tally.{Tally}
 use Rattle.counting.specs.declared.counts.Counts.{Counts}
 use Rattle.counting.specs.Counts.{noCounts, isCounted, oneMore, countedIn, counted}
+use Rattle.counting.specs.OfTrace.{countedAll}
 use Rattle.counting.specs.Terms.{Within, Small}
 use Rattle.counting.proofs.Tallies.{handed-small}
 
@@ -35,6 +36,11 @@ pub rows-counted : (c : Counts) (number : Number) (args memory : List ℕ) → l
 unfolding counted
 rows-counted c number args memory =
     choose (isGiven number && isCounted (token args) (be32 args (statusAt args))) (λ (a : Counts). length (a .rows) ≡ length (c .rows)) (λ _. length-set (c .rows) _ _) (λ _. refl)
+
+pub rows-all : (c : Counts) (xs : List Left) → length (countedAll c xs .rows) ≡ length (c .rows)
+unfolding countedAll
+rows-all c [] = refl
+rows-all c (x ∷ xs) = rows-all _ xs ∙ rows-counted c (x .number) (x .args) (x .memory)
 
 module _ (n : ℕ) (c : Counts) (w : Within n c) where
   pub within-later : (m : ℕ) → n ≤ m → Within m c

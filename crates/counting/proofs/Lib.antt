@@ -6,10 +6,11 @@ pub mod Summing
 pub mod OwnBuffer
 pub mod OfTrace
 pub mod Handed
-pub mod EachCall
 pub mod Sums
+pub mod Consistent
+pub mod MonthClaims
+pub mod EachCall
 pub mod EveryCall
 pub mod TraceCounts
 pub mod CountsCame
-pub mod Consistent
 pub mod Claims

@@ -34,7 +34,7 @@ sum-one (suc n) zero (r ∷ rows) h l = omega arith
 sum-one (suc n) (suc i) (r ∷ rows) h l = omega (arith, sum-one n i rows (omega arith) (omega arith))
 
 -- a status of 0 or 1 is its own place
-place-low : (status : ℕ) → status ≤ 1 → placeOf status ≡ status
+pub place-low : (status : ℕ) → status ≤ 1 → placeOf status ≡ status
 unfolding placeOf
 place-low status h = rw (le-leb status 1 h)
 

@@ -31,14 +31,19 @@ module _ (args memory : List ℕ) where
     abbrev status : ℕ
     status = be32 args (statusAt args)
 
-    pub counted-not : (isGiven number ≡ true → 1 ≤ token args → token args ≤ 4 → placeOf status < 7 → ⊥) → c ≡ counted c number args memory
+    pub counted-ways : (P : Counts → Type 0)
+        → (isGiven number ≡ true → 1 ≤ token args → token args ≤ 4 → placeOf status < 7 → P (countedIn c (rowOf (token args) status) (handedOut status args memory))) → P c
+        → P (counted c number args memory)
     unfolding counted isCounted
-    counted-not h = choose (isGiven number && (leb 1 (token args) && (leb (token args) 4 && ltb (placeOf status) 7))) (λ (d : Counts). c ≡ d)
+    counted-ways P h q = choose (isGiven number && (leb 1 (token args) && (leb (token args) 4 && ltb (placeOf status) 7))) P
         (λ e.
         let f = and-right (isGiven number) _ e in
         let g = and-right (leb 1 (token args)) _ f in
-        absurd (h (and-left _ _ e) (leb-true 1 (token args) (and-left _ _ f)) (leb-true (token args) 4 (and-left _ _ g)) (ltb-true (placeOf status) 7 (and-right (leb (token args) 4) _ g))))
-        (λ _. refl)
+        h (and-left _ _ e) (leb-true 1 (token args) (and-left _ _ f)) (leb-true (token args) 4 (and-left _ _ g)) (ltb-true (placeOf status) 7 (and-right (leb (token args) 4) _ g)))
+        (λ _. q)
+
+    pub counted-not : (isGiven number ≡ true → 1 ≤ token args → token args ≤ 4 → placeOf status < 7 → ⊥) → c ≡ counted c number args memory
+    counted-not h = counted-ways (λ (d : Counts). c ≡ d) (λ g l m p. absurd (h g l m p)) refl
 
     pub counted-is : isGiven number ≡ true → 1 ≤ token args → token args ≤ 4 → placeOf status < 7 → counted c number args memory ≡ countedIn c (rowOf (token args) status) (handedOut status args memory)
     unfolding counted isCounted

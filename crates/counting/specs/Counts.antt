@@ -46,7 +46,8 @@ countedIn c row more = record { rows = oneMore (c .rows) row; operations = c .op
 unfoldable pub handedOut : ℕ → List ℕ → List ℕ → Tally
 handedOut status args memory = cond (isNodes args && leb status 1) (tallyOf (input args 1) (partAt memory (input args 0) 4096)) noTally
 
--- "calls with argument answer 0": a call by its number, and by the argument buffer and memory that it left. "Other tokens and answers 10 to 12 appear nowhere."
+-- "calls with argument answer 0": a call by its number, and by the argument buffer and memory that it left.
+-- DECISIONS: "Other tokens and answers 10 to 12 appear nowhere."
 unfoldable pub counted : Counts → Number → List ℕ → List ℕ → Counts
 counted c number args memory =
     let t = token args in

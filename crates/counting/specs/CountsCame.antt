@@ -1,10 +1,12 @@
--- What holds of the counts of every replay that begins with none, by where it stands (document 02, M-111). At the C boundary counts that break one of these rules are
+-- What holds of the counts of every replay that begins with none, by where it stands (document 02, M-111). At the C boundary counts that break one of
+-- these rules are
 -- refused.
-use Prim.Native.Nat.{ℕ, _+_, _*_}
+use Prim.Native.Nat.{ℕ, _+_, _*_, _≤_}
 use mathlib.Core.Path.{_≡_}
 use mathlib.Core.Bool.{Bool, true, _&&_}
 use mathlib.Core.List.{List}
 use lib.Dec.{leb}
+use Rattle.words.specs.Exactly.{Exactly}
 use Rattle.records.specs.Cutting.{start, fedAll}
 use Rattle.trace.specs.declared.report.Report.{Report}
 use Rattle.trace.specs.declared.report.Report.the-variants.{Agreed, Differs, Malformed}
@@ -15,6 +17,7 @@ use Rattle.counting.specs.Counts.{noCounts}
 use Rattle.counting.specs.Figures.{sumOf}
 use Rattle.counting.specs.TraceCounts.{TraceCountReadings}
 use Rattle.counting.specs.OfTrace.{Counting, counter, EveryCallMade, CountsOfCalls}
+use Rattle.counting.specs.MonthClaims.{EachMonth, EachMade}
 
 -- so many calls can have been made: a call is two records, and a 32 that waits is one
 abbrev pub madeCame : Report → ℕ → ℕ → ℕ → Bool
@@ -35,8 +38,21 @@ countingCame x = countsCame (x .state .report) (x .state .records) (waitsIn (wai
 abbrev pub AllCountsCame : Type 0
 AllCountsCame = (p : Platform) (m : List ℕ) (bs : List (List ℕ)) → countingCame (fedAll (counter p) (start (record { state = begin m; counts = noCounts })) bs .state) ≡ true
 
+-- Counts that are taken beside a replay, exactly: no more calls than it can have made, and words and operations that fit the answered calls.
+pub record CountsExactly (records waits : ℕ) (c : Counts) : Type 0 where
+  pub agreed : (n : ℕ) → Exactly (countsCame (Agreed n) records waits c ≡ true) ((sumOf 28 (c .rows) ≤ n) × ((c .operations ≤ c .used) × (c .used ≤ 1019 * sumOf 2 (c .rows))))
+  pub differs : (n at : ℕ) → Exactly (countsCame (Differs n at) records waits c ≡ true) ((sumOf 28 (c .rows) ≤ n) × ((c .operations ≤ c .used) × (c .used ≤ 1019 * sumOf 2 (c .rows))))
+  pub malformed : (n : ℕ)
+      → Exactly (countsCame (Malformed n) records waits c ≡ true) ((sumOf 28 (c .rows) + sumOf 28 (c .rows) + waits ≤ records) × ((c .operations ≤ c .used) × (c .used ≤ 1019 * sumOf 2 (c .rows))))
+
+abbrev pub EachCounts : Type 0
+EachCounts = (records waits : ℕ) (c : Counts) → CountsExactly records waits c
+
 pub record TraceCountClaims : Type 0 where
+  pub each-counts : EachCounts
   pub every-call-made : EveryCallMade
   pub counts-of-calls : CountsOfCalls
   pub all-counts-came : AllCountsCame
+  pub each-month : EachMonth
+  pub each-made : EachMade
   pub trace-count-readings : TraceCountReadings

@@ -5,4 +5,5 @@ pub mod TraceCounts
 pub mod CountsCame
 pub mod Figures
 pub mod Terms
+pub mod MonthClaims
 pub mod Claims

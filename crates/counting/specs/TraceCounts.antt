@@ -9,7 +9,7 @@ use Rattle.journal.specs.Claims.{short}
 use Rattle.calls.specs.Terms.{minus}
 use Rattle.calls.specs.Readings.{inventoryOf, same, all}
 use Rattle.trace.specs.TraceReadings.{before}
-use Rattle.trace.specs.SessionReadings.{made, updates, places, whole}
+use Rattle.trace.specs.SessionReadings.{made, updates, whole}
 use Rattle.counting.specs.declared.counts.Counts.{Counts}
 use Rattle.counting.specs.OfTrace.{countsOf}
 
@@ -26,21 +26,13 @@ none = replicate 7 0
 
 abbrev pub cases : List Bool
 cases =
-    -- no call
-    reads none none none none 0 0 (countedIn [])
-    ∷ reads none none none none 0 0 (countedIn places)
     -- every call in its row: a delete is an operator and an operand; two answers of get-indices, with status 1 and 0; a registration, and one that is refused
-    ∷ reads (1 ∷ 0 ∷ 0 ∷ 0 ∷ 0 ∷ 0 ∷ 0 ∷ []) (1 ∷ 1 ∷ 0 ∷ 0 ∷ 0 ∷ 0 ∷ 0 ∷ []) (1 ∷ 0 ∷ 0 ∷ 0 ∷ 0 ∷ 1 ∷ 0 ∷ []) none 1 2 (countedIn whole)
-    -- one call after the other, each with what it handed out
-    ∷ reads (2 ∷ 0 ∷ 0 ∷ 0 ∷ 0 ∷ 0 ∷ 0 ∷ []) none none none 2 4 (countedIn (updates 0 ++ updates 0))
+    reads (1 ∷ 0 ∷ 0 ∷ 0 ∷ 0 ∷ 0 ∷ 0 ∷ []) (1 ∷ 1 ∷ 0 ∷ 0 ∷ 0 ∷ 0 ∷ 0 ∷ []) (1 ∷ 0 ∷ 0 ∷ 0 ∷ 0 ∷ 1 ∷ 0 ∷ []) none 1 2 (countedIn whole)
     -- a refused call hands out nothing, whatever stands in the area
     ∷ reads (1 ∷ 0 ∷ 0 ∷ 1 ∷ 0 ∷ 0 ∷ 0 ∷ []) none none none 1 2 (countedIn (updates 0 ++ made (1 ∷ 2 ∷ 1 ∷ 0 ∷ 4 ∷ 9 ∷ []) (1 ∷ 2 ∷ 1 ∷ 0 ∷ 4 ∷ minus 3 ∷ [])))
-    -- "counts unlike the call's own are among the -3"; update-properties; another token, and a buffer without outputs, nowhere
-    ∷ reads (0 ∷ 0 ∷ 0 ∷ 1 ∷ 0 ∷ 0 ∷ 0 ∷ []) none none none 0 0 (countedIn (made (1 ∷ 1 ∷ 1 ∷ 0 ∷ 9 ∷ []) (1 ∷ 1 ∷ 1 ∷ 0 ∷ minus 3 ∷ [])))
+    -- update-properties; another token nowhere; a 32 without its 33 makes no call
     ∷ reads none none none (0 ∷ 0 ∷ 0 ∷ 1 ∷ 0 ∷ 0 ∷ 0 ∷ []) 0 0 (countedIn (made (4 ∷ 2 ∷ 1 ∷ 1 ∷ 1 ∷ 9 ∷ []) (4 ∷ 2 ∷ 1 ∷ 1 ∷ 1 ∷ minus 3 ∷ [])))
     ∷ reads none none none none 0 0 (countedIn (made (5 ∷ 2 ∷ 1 ∷ 0 ∷ 1 ∷ 9 ∷ []) (5 ∷ 2 ∷ 1 ∷ 0 ∷ 1 ∷ minus 3 ∷ [])))
-    ∷ reads none none none none 0 0 (countedIn (made (1 ∷ 2 ∷ 0 ∷ 0 ∷ 1 ∷ []) (1 ∷ 2 ∷ 0 ∷ 0 ∷ 1 ∷ [])))
-    -- a 32 without its 33 makes no call
     ∷ reads none none none none 0 0 (countedIn (before (wordBytes (1 ∷ 2 ∷ 1 ∷ 0 ∷ 1 ∷ 9 ∷ []))))
     ∷ []
 

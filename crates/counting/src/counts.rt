@@ -5,6 +5,7 @@ ghost use Rattle.calls.specs.declared.status.Number.the-variants as Number;
 ghost use Rattle.calls.specs.Buffer.{numberFor};
 ghost use Rattle.counting.specs.Counts.{noCounts, placeOf, countedIn, handedOut, counted};
 ghost use Rattle.counting.specs.Claims.{CountClaims};
+ghost use Rattle.counting.specs.CountsCame.{TraceCountClaims};
 ghost use Rattle.counting.specs.Terms.{Within, Small};
 use crate::area::Tally;
 use crate::area::no_tally;
@@ -99,7 +100,7 @@ fn handed_out(status: u32, args: &[u8], memory: &[u8]) -> Tally
 pub fn count_call(counts: Counts, number: Number, args: &[u8], memory: &[u8]) -> Counts
     requires { ⌜ Within 4294967294 counts × (number ≡ numberFor (now args)) ⌝ }
     ensures { λ r. ⌜ r ≡ counted counts number (now (args .entry)) (now (memory .entry)) ⌝ }
-    ensures claims { λ _. ⌜ CountClaims ⌝ }
+    ensures claims { λ _. ⌜ CountClaims × TraceCountClaims ⌝ }
 {
     if !calls::is_given(number) {
         return counts;

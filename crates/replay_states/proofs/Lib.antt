@@ -1,3 +1,4 @@
 pub mod States
 pub mod Counted
+pub mod StateClaims
 pub mod Readings

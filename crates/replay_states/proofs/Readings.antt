@@ -10,6 +10,7 @@ use Rattle.trace.specs.Came.{registrationCame, readingCame, came}
 use Rattle.replay_states.specs.States.{reportOf, isReport, heldCame, isState, judgedBy}
 use Rattle.replay_states.specs.Readings.{StateReadings}
 use Rattle.replay_states.specs.Claims.{StateClaims}
+use Rattle.replay_states.proofs.StateClaims.{states-exactly}
 
 pub state-readings : StateReadings
 unfolding goodStructure goodHeader eachSection goodType goodSection requested withoutDisk goodPath untilNul be beBytes le lengthOf kindOf due ripe goodFrame zeros askable registrationCame readingCame came reportOf isReport
@@ -17,4 +18,4 @@ unfolding goodStructure goodHeader eachSection goodType goodSection requested wi
 state-readings = record { states = tt; numbers = tt }
 
 pub state-claims : StateClaims
-state-claims = record { state-readings = state-readings }
+state-claims = record { states-exactly = states-exactly; state-readings = state-readings }

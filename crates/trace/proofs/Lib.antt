@@ -5,4 +5,5 @@ pub mod TraceReadings
 pub mod SessionReadings
 pub mod Converse
 pub mod Came
+pub mod StepClaims
 pub mod Claims

@@ -6,9 +6,9 @@ use mathlib.Core.List.{List}
 use Prim.Native.Nat.{ℕ, _+_}
 use lib.ListN.{length}
 use Rattle.records.specs.Cutting.{run, start, fed, fedAll, ended, joined}
-use Rattle.trace.specs.declared.report.Report.the-variants.{Agreed, Differs, Malformed}
-use Rattle.trace.specs.Trace.{isGood}
-use Rattle.trace.specs.Playing.{Platform, call, State, begin, stopped, blamed, called, compared, step, concluded, replayOf, reader}
+use Rattle.trace.specs.declared.report.Report.the-variants.{Agreed}
+use Rattle.trace.specs.Playing.{Platform, State, begin, stopped, compared, step, concluded, replayOf, reader}
+use Rattle.trace.specs.StepClaims.{EachReplay}
 use Rattle.trace.specs.Recording.{OwnTraceAgrees, AgreedIsOurs, DifferenceTold}
 use Rattle.trace.specs.First.{FirstDifference}
 use Rattle.trace.specs.TraceReadings.{TraceReadings}
@@ -22,25 +22,6 @@ AnyCutting = (p : Platform) (m : List ℕ) (bs : List (List ℕ)) → fedAll (re
 -- With an end behind them they are the replay of the whole trace: report, memory, registration and reading record.
 abbrev pub OverRecords : Type 0
 OverRecords = (p : Platform) (m : List ℕ) (bs : List (List ℕ)) → concluded (ended (reader p) (fedAll (reader p) (start (begin m)) bs)) ≡ replayOf p m (joined bs)
-
--- A malformed record touches the report alone, and is told with the number of the 32 that waits, or else with its own.
-abbrev pub FaultTouchesReport : Type 0
-FaultTouchesReport =
-    (p : Platform) (s : State) (r : List ℕ) (number : ℕ) → stopped s ≡ false → step p s r .report ≡ Malformed number
-    → let t = step p s r in
-    (number ≡ blamed (s .records) (s .waiting)) × ((t .records ≡ s .records) × ((t .waiting ≡ s .waiting) × ((t .memory ≡ s .memory) × ((t .registration ≡ s .registration) × (t .reading ≡ s .reading)))))
-
--- A record that is cut off, or whose length or kind no good record has, is malformed.
-abbrev pub BadFaults : Type 0
-BadFaults = (p : Platform) (s : State) (r : List ℕ) → stopped s ≡ false → isGood r ≡ false → step p s r .report ≡ Malformed (blamed (s .records) (s .waiting))
-
--- "Memory keeps what was done before the stop", the call that differs included.
-abbrev pub DifferenceKeeps : Type 0
-DifferenceKeeps =
-    (p : Platform) (s : State) (r args : List ℕ) (number offset : ℕ) → stopped s ≡ false → s .waiting ≡ call args → step p s r .report ≡ Differs number offset
-    → let t = step p s r in
-    let x = called p s args in
-    (t .memory ≡ x .memory) × ((t .registration ≡ x .registration) × (t .reading ≡ x .reading))
 
 -- Only buffers that are the same agree.
 abbrev pub AgreedSame : Type 0
@@ -57,9 +38,7 @@ RecordsCounted = (p : Platform) (m : List ℕ) (rs : List (List ℕ)) → stoppe
 pub record TraceClaims : Type 0 where
   pub any-cutting : AnyCutting
   pub over-records : OverRecords
-  pub fault-touches-report : FaultTouchesReport
-  pub bad-faults : BadFaults
-  pub difference-keeps : DifferenceKeeps
+  pub each-replay : EachReplay
   pub agreed-same : AgreedSame
   pub stops-for-good : StopsForGood
   pub records-counted : RecordsCounted

@@ -5,4 +5,5 @@ pub mod Recording
 pub mod TraceReadings
 pub mod SessionReadings
 pub mod Came
+pub mod StepClaims
 pub mod Claims

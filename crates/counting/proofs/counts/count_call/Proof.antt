@@ -10,11 +10,17 @@ use Rattle.calls.specs.Status.{isGiven}
 use Rattle.calls.specs.Buffer.{statusAt}
 use Rattle.calls.proofs.Heads.{Whole, whole-buffer, given-number}
 use Rattle.counting.specs.Counts.{placeOf}
+use Rattle.counting.specs.Claims.{CountClaims}
+use Rattle.counting.specs.CountsCame.{TraceCountClaims}
 use Rattle.counting.proofs.Tallies.{handed-small}
 use Rattle.counting.proofs.Ways.{counted-not, counted-is}
 use Rattle.counting.proofs.Claims.{count-claims}
+use Rattle.counting.proofs.CountsCame.{trace-count-claims}
 use Rattle.counting.proofs.counts.count_call.Statement.{statement}
 use Rattle.counting.proofs.counts.count_call.Tie as tie
+
+claims : CountClaims × TraceCountClaims
+claims = (count-claims, trace-count-claims)
 
 given : (c : tie.Else1) → isGiven (c .before .before .before .before .args .number) ≡ true
 given c = sym (c .before .is-given .ensures) ∙ not-false _ (c .if1 .left)
@@ -23,7 +29,7 @@ whole : (c : tie.Else1) → Whole (now (c .before .before .before .before .args 
 whole c = whole-buffer (now (c .before .before .before .before .args .args)) (ap isGiven (sym (c .before .before .before .before .pre .1)) ∙ given c)
 
 returns : tie.Need-returns
-returns c = (counted-not _ _ _ _ (λ e _ _ _. true≢false (sym (c .before .is-given .ensures ∙ e) ∙ not-true _ (c .if1 .taken))), count-claims)
+returns c = (counted-not _ _ _ _ (λ e _ _ _. true≢false (sym (c .before .is-given .ensures ∙ e) ∙ not-true _ (c .if1 .taken))), claims)
 
 read-be32-requires : tie.Need-read-be32-requires
 read-be32-requires c κs = omega (arith, whole c)
@@ -42,14 +48,14 @@ place-is : (c : tie.After-place-of) → let args = now (c .before .before .befor
 place-is c = c .place-of .ensures ∙ ap placeOf (status-is (c .before))
 
 returns-2 : tie.Need-returns-2
-returns-2 c = (counted-not (now (c .before .before .before .before .before .before .before .before .before .args .args)) _ _ _ (λ _ l m p. omega arith), count-claims)
+returns-2 c = (counted-not (now (c .before .before .before .before .before .before .before .before .before .args .args)) _ _ _ (λ _ l m p. omega arith), claims)
 
 returns-3 : tie.Need-returns-3
-returns-3 c = (counted-not (now (c .before .before .before .before .before .before .before .before .before .before .args .args)) _ _ _ (λ _ l m p. omega arith), count-claims)
+returns-3 c = (counted-not (now (c .before .before .before .before .before .before .before .before .before .before .args .args)) _ _ _ (λ _ l m p. omega arith), claims)
 
 returns-4 : tie.Need-returns-4
 returns-4 c =
-    (counted-not (now (c .before .before .before .before .before .before .before .before .before .before .before .args .args)) _ _ _ (λ _ l m p. omega (arith, place-is (c .before .before .before))), count-claims)
+    (counted-not (now (c .before .before .before .before .before .before .before .before .before .before .before .args .args)) _ _ _ (λ _ l m p. omega (arith, place-is (c .before .before .before))), claims)
 
 handed-out-requires : tie.Need-handed-out-requires
 handed-out-requires c κs =
@@ -68,7 +74,7 @@ returns-5 c =
       c .count-as .ensures
           ∙ rw (c .before .handed-out .ensures, place-is p, status-is (p .before), p .before .before .before .read-be32 .ensures)
           (sym (counted-is (now (s .args .args)) _ _ _ (given (p .before .before .before .before)) (omega arith) (omega arith) (omega (arith, place-is p)))),
-      count-claims,
+      claims,
     )
 
 pub count-call-spec : {M : Type 1} → statement M

@@ -42,7 +42,7 @@ returns-3 c =
     let size = ap (λ (l : List ℕ). length l) (part-lent m (s .args .address) 4096 h) ∙ part-length m (s .args .address) 4096 h in
     let scoped = ap (λ (r : Row). r .valid) (sym (c .before .before .before .before .before .before .before .scope-row .ensures .0)) ∙ not-false _ (c .before .before .before .before .before .if2 .left) in
     let told = c .before .before .before .answer .ensures in
-    left-properties m (s .args .address) (s .args .scope) (now (s .args .j)) placed scoped _ _ (c .before .before .before .answer .kept .0 ∙ size) (c .status-for .ensures ∙ ap statusFor (told .0)) (told .1)
+    left-properties m (s .args .address) (s .args .scope) (now (s .args .j)) placed scoped _ _ (c .before .before .before .answer .kept .0 ∙ size) (c .status-for .ensures ∙ ap statusFor (told .0)) (told .1 .0)
 
 pub update-properties-spec : {M : Type 1} → statement M
 update-properties-spec =
