@@ -2,7 +2,7 @@
  * Draugsten: the RTAS calls ibm,update-nodes, ibm,get-indices, ibm,configure-kernel-dump and ibm,update-properties on the
  * platform's side, the run of a registered kernel dump, the replay of a recorded session of calls, totals over such
  * sessions, a journal that is kept with its tallies, forecasts from these, such a journal that arrives in bursts, readers
- * of the work areas that all but the dump fill, and one place to ask for a location code. Link libdraugsten.a,
+ * of the work areas that the other three calls fill, and one place to ask for a location code. Link libdraugsten.a,
  * libdraugsten_dump.a for draugsten_run_dump, libdraugsten_replay.a for the functions of the replay and of the month,
  * libdraugsten_tallies.a for those of the tallies and of intakes and draugsten_forecast, and libdraugsten_locations.a for
  * draugsten_lookup and the views of index areas; none needs another. rt staticlib builds them for x86-64, and ./draugsten
@@ -10,6 +10,10 @@
  *
  * For every function:
  * - It takes any contents and any lengths, and returns.
+ * - Its contract, in src/ of the archive's crate, says that what it gives and leaves equals a definition in specs/. What is
+ *   claimed of that definition is one record, its promise, named in the last line of its comment. It stands in
+ *   crates/draugsten/specs/Promises.antt for libdraugsten.a, crates/draugsten_replay/specs/Promises.antt for
+ *   libdraugsten_replay.a, and so on.
  * - A buffer is a pointer and the number of its elements, all of them initialised.
  * - No pointer may be NULL, also where the length is 0; nothing is read or written through it then.
  * - A buffer that is written must not overlap another buffer of the same call. Buffers that are only read may.
@@ -27,7 +31,7 @@
  *   general registers alone, no vector and no floating point register. It may write up to 288 bytes below the stack pointer.
  * - It has no section that is written: no .data, no .bss, no thread-local data. On powerpc64 it has .opd, the function
  *   descriptors of ELFv1, which are among the data that a linker fills in.
- * - It takes the stack that is told under "limits".
+ * - It takes at most the stack that is stated under "limits".
  */
 #ifndef DRAUGSTEN_H
 #define DRAUGSTEN_H
@@ -175,16 +179,20 @@ struct draugsten_edited {
     uint32_t edition;                           /* of the inventory afterwards */
 };
 
-/* The registration that a partition starts with: phase 0, length 0, 512 zero bytes. */
+/* The registration that a partition starts with: phase 0, length 0, 512 zero bytes. Promise: NoRegistrationPromise. */
 struct draugsten_registration draugsten_no_registration(void);
 
-/* The reading record that a partition starts with: no reading in progress, which is 0, 0, 1, 0. */
+/*
+ * The reading record that a partition starts with: no reading in progress, which is 0, 0, 1, 0.
+ * Promise: NoReadingPromise.
+ */
 struct draugsten_reading draugsten_no_reading(void);
 
 /*
  * What an edit makes of the inventory's edition: taken 1, and the edition + 1. At 0xffffffff no edit is taken: taken 0,
  * and the edition as it was. The platform asks before each edit, makes it only where it is taken, and gives the calls that
  * follow the new inventory with the new edition.
+ * Promise: EditPromise.
  */
 struct draugsten_edited draugsten_edit(uint32_t edition);
 
@@ -207,7 +215,7 @@ struct draugsten_edited draugsten_edit(uint32_t edition);
  *            Written by an answered update-nodes: of the 4,096 bytes from the address on, those up to the terminator's
  *            end. By an answered get-indices: of the size from the address on, those up to the last entry's end. By an
  *            answered update-properties: of the 4,096 bytes from the address on, those up to the last property's end.
- *            Never: any byte behind these, any byte outside the area, and any byte by a refused call or a dump command.
+ *            Never: any byte after these, any byte outside the area, and any byte by a refused call or a dump command.
  * journal    The changes that update-nodes and update-properties report; no other call looks at them. Records,
  *            little-endian: length (2 bytes, counts what follows) and kind (2).
  *              kinds 1 to 4, changes of nodes: node type (2), then for kind 1 (delete) and 2 (update) the phandle (4),
@@ -249,6 +257,7 @@ struct draugsten_edited draugsten_edit(uint32_t edition);
  * that it was handed and begins again with Starting Number 1. So a session that ends with status 0 has handed out the
  * whole list of one edition, in order, each entry once. A partition has one reading in progress at the most: an answered
  * call with Starting Number 1 ends the one before it.
+ * Promise: CallPromise.
  */
 struct draugsten_answer draugsten_call(uint8_t *args, size_t args_length, uint8_t *memory, size_t memory_length,
                                        const uint8_t *journal, size_t journal_length, const uint8_t *inventory,
@@ -299,6 +308,7 @@ struct draugsten_run {
  * memory         The partition's memory, from address 0 on. Written: the bytes at the destination of each section, as
  *                many as its actual length says. Never: any other byte; so the structure there is not updated.
  * platform       The platform's memory. Only read.
+ * Promise: RunPromise.
  */
 struct draugsten_run draugsten_run_dump(struct draugsten_registration registration, uint8_t *memory,
                                         size_t memory_length, const uint8_t *platform, size_t platform_length);
@@ -319,7 +329,7 @@ enum draugsten_trace_kind {
 
 /*
  * What a replay came to. Malformed are: any other kind, a length under 2, a body above 4,100 bytes, a record that the end
- * cuts off, a 32 with anything but a good 33 right behind it (the number is the 32's, and its call is not made), any other
+ * cuts off, a 32 with anything but a good 33 right after it (the number is the 32's, and its call is not made), any other
  * 33, a 34 without a byte to set or with bytes past the end of memory (it sets none), and a record past the last number.
  */
 enum draugsten_verdict {
@@ -367,7 +377,7 @@ struct draugsten_ended {
     struct draugsten_report report;             /* of a trace that ends here; with 14 verdict 2, offset 0, number 0 */
 };
 
-/* The replay that a trace starts with, over an inventory of this edition. */
+/* The replay that a trace starts with, over an inventory of this edition. Promise: ReplayPromise. */
 struct draugsten_replay draugsten_replay_start(uint32_t edition);
 
 /*
@@ -387,6 +397,7 @@ struct draugsten_replay draugsten_replay_start(uint32_t edition);
  * journal, inventory  As draugsten_call takes them, the same for each feed of a trace.
  * replay     As draugsten_replay_start gave it, or the last feed of this trace.
  * bytes      The next bytes of the trace.
+ * Promise: ReplayPromise.
  */
 struct draugsten_fed draugsten_replay_feed(uint8_t *held, size_t held_length, uint8_t *args, size_t args_length,
                                            uint8_t *memory, size_t memory_length, const uint8_t *journal,
@@ -396,6 +407,7 @@ struct draugsten_fed draugsten_replay_feed(uint8_t *held, size_t held_length, ui
 /*
  * What the replay of a trace that ends here comes to: a record that is not finished, and a 32 that waits for its 33, are
  * malformed by the end alone. It changes nothing, and a later feed goes on.
+ * Promise: ReplayPromise.
  */
 struct draugsten_ended draugsten_replay_end(struct draugsten_replay replay);
 
@@ -479,16 +491,25 @@ struct draugsten_share {
     uint64_t whole;                             /* 1 or more */
 };
 
-/* The replay that a trace starts with, over an inventory of this edition, with nothing counted. */
+/*
+ * The replay that a trace starts with, over an inventory of this edition, with nothing counted.
+ * Promise: MonthPromise.
+ */
 struct draugsten_counting draugsten_month_start(uint32_t edition);
 
-/* Feeds a replay the next bytes of its trace, as draugsten_replay_feed does, and counts its calls. */
+/*
+ * Feeds a replay the next bytes of its trace, as draugsten_replay_feed does, and counts its calls.
+ * Promise: MonthPromise.
+ */
 struct draugsten_counted draugsten_month_feed(uint8_t *held, size_t held_length, uint8_t *args, size_t args_length,
                                               uint8_t *memory, size_t memory_length, const uint8_t *journal,
                                               size_t journal_length, const uint8_t *inventory, size_t inventory_length,
                                               struct draugsten_counting counting, const uint8_t *bytes, size_t length);
 
-/* Adds the counts of a trace that ends here to totals. A trace that is added twice is counted twice. */
+/*
+ * Adds the counts of a trace that ends here to totals. A trace that is added twice is counted twice.
+ * Promise: MonthPromise.
+ */
 struct draugsten_added draugsten_month_add(struct draugsten_totals totals, struct draugsten_counting counting);
 
 /*
@@ -496,10 +517,14 @@ struct draugsten_added draugsten_month_add(struct draugsten_totals totals, struc
  * are those of its seven statuses together, the available words 1,019 times the answered calls of update-nodes, the
  * operations no more than the used words, and these no more than the available ones. The totals that it is added to are not
  * looked at.
+ * Promise: MonthPromise.
  */
 struct draugsten_merged draugsten_month_merge(struct draugsten_totals totals, struct draugsten_totals more);
 
-/* The share of the available words that were used: 0 over 1 where no call of update-nodes was answered. */
+/*
+ * The share of the available words that were used: 0 over 1 where no call of update-nodes was answered.
+ * Promise: MonthPromise.
+ */
 struct draugsten_share draugsten_month_share(struct draugsten_totals totals);
 
 /* ---- tallies */
@@ -509,7 +534,7 @@ struct draugsten_share draugsten_month_share(struct draugsten_totals totals);
  * operations each scope holds, by opcode. A journal starts with what draugsten_tallies_cleared gives; records are appended
  * and whole journals joined to it, and each operation is given the buffer, the use and the tallies that the one before it
  * left. Where nobody else writes any of them, the bytes in use are a well-formed journal after every operation, and its
- * tallies are those of draugsten_tallies_recount; bytes of the buffer behind the use may be any, and may change.
+ * tallies are those of draugsten_tallies_recount; bytes of the buffer after the use may be any, and may change.
  *
  * The checks come in this order: 52; 50; 51. With any number but 0 use and tallies are handed back as they came, and no
  * byte of the buffer changes.
@@ -568,18 +593,20 @@ struct draugsten_forecast_answer {
 /*
  * The use and the tallies of an empty journal: 0 bytes, and zero counts. A journal starts with them, and is cleared by going
  * on with them; no byte of its buffer changes by that.
+ * Promise: TalliesPromise.
  */
 struct draugsten_tallied draugsten_tallies_cleared(void);
 
 /*
  * Appends one record to a journal. What it takes does not depend on the bytes in use: none of them is looked at.
  *
- * buffer   Where the journal stands, from the front on. Written, with number 0: the bytes of the record, right behind those
+ * buffer   Where the journal stands, from the front on. Written, with number 0: the bytes of the record, right after those
  *          in use. Never: any other byte. Exactly full is room: of the buffer, and of the 1,048,576 bytes of a journal.
  * journal  As the operation before it gave it. A use above the buffer's length is refused with 52, and so is a count above
  *          the use. A use above 1,048,576 bytes in a longer buffer has no room for a record.
  * record   Exactly one record of kinds 1 to 6, as draugsten_call takes it in a journal; no bytes, two records, or a record
  *          and a byte more are malformed. Only read.
+ * Promise: TalliesPromise.
  */
 struct draugsten_kept draugsten_tallies_append(uint8_t *buffer, size_t buffer_length, struct draugsten_tallied journal,
                                                const uint8_t *record, size_t record_length);
@@ -587,15 +614,16 @@ struct draugsten_kept draugsten_tallies_append(uint8_t *buffer, size_t buffer_le
 /*
  * Joins a whole journal to a journal, end to end, and adds its tallies. What is in use already is not counted anew.
  *
- * buffer, journal  As draugsten_tallies_append takes them. Written, with number 0: the bytes of the part, right behind those
+ * buffer, journal  As draugsten_tallies_append takes them. Written, with number 0: the bytes of the part, right after those
  *                  in use. Never: any other byte.
  * part             A well-formed journal; one of more than 1,048,576 bytes is malformed. An empty one is joined, where the
  *                  use is at most 1,048,576 bytes, and changes nothing. Only read.
+ * Promise: JoinPromise.
  */
 struct draugsten_kept draugsten_tallies_join(uint8_t *buffer, size_t buffer_length, struct draugsten_tallied journal,
                                              const uint8_t *part, size_t part_length);
 
-/* The tallies of a journal, counted anew in one pass. It is only read. */
+/* The tallies of a journal, counted anew in one pass. It is only read. Promise: RecountPromise. */
 struct draugsten_recount draugsten_tallies_recount(const uint8_t *journal, size_t journal_length);
 
 /*
@@ -604,6 +632,7 @@ struct draugsten_recount draugsten_tallies_recount(const uint8_t *journal, size_
  * argument buffer: 0x80000000 and above are negative. All scopes but the negative ones, 1 and 2 get -3, scope 3 too, since
  * its tallies are over all units. Any tallies are taken, and no sum of them wraps: the answer is that of a list with so many
  * operations.
+ * Promise: ForecastPromise.
  */
 struct draugsten_forecast_answer draugsten_forecast(struct draugsten_tallies tallies, uint32_t scope, uint32_t state);
 
@@ -664,20 +693,26 @@ struct draugsten_intake_ended {
     uint64_t in_record;                         /* the record's number with 50, 51 and 53; otherwise 0 */
 };
 
-/* The intake that a stream starts with, over a journal as it is: number 1, nothing held, no fault. */
+/*
+ * The intake that a stream starts with, over a journal as it is: number 1, nothing held, no fault.
+ * Promise: IntakePromise.
+ */
 struct draugsten_intake draugsten_intake_start(struct draugsten_tallied journal);
 
 /*
  * Takes the next bytes of a stream. There may be none of them.
  *
  * buffer  Where the journal stands, as draugsten_tallies_append takes it. Written: the bytes of the records that are stored,
- *         right behind those in use. Never: any other byte.
- * store   32,808 bytes or more, for a record that is not finished. Written: its bytes, from the front on, as many as
- *         `held` of the intake says. Those behind them are scratch: a burst may leave anything there, and the next one
- *         looks at none of them. Never: any byte with 54 or 55, and any byte once the intake has stopped. Before the first
- *         burst the store may hold anything; between bursts nobody else writes the held bytes.
+ *         right after those in use. Never: any other byte.
+ * store   32,808 bytes or more, for a record that is not finished. Written, if bytes are held: right after them, the bytes
+ *         of the burst that their record still lacks (only up to its fourth byte, if its first four are refused); if fewer
+ *         than 18 are held and the burst has 18 or more, at least its first 18. Then, from the front on, the bytes
+ *         that are held now, as many as `held` of the intake says; the next burst looks at no others. Never: any other
+ *         byte, any byte with 54 or 55, and any byte once the intake has stopped. Before the first burst the store may
+ *         hold anything; between bursts nobody else writes the held bytes.
  * intake  As draugsten_intake_start gave it, or the last burst of this stream.
  * bytes   The next bytes of the stream. Only read.
+ * Promise: IntakePromise.
  */
 struct draugsten_burst draugsten_intake_burst(uint8_t *buffer, size_t buffer_length, uint8_t *store, size_t store_length,
                                               struct draugsten_intake intake, const uint8_t *bytes, size_t length);
@@ -685,6 +720,7 @@ struct draugsten_burst draugsten_intake_burst(uint8_t *buffer, size_t buffer_len
 /*
  * What there is to say where the stream ends here: nothing; 53, inside a record; or the fault that stopped the intake. It
  * changes nothing, and a later burst goes on where the record stopped. Both buffers are only read.
+ * Promise: IntakePromise.
  */
 struct draugsten_intake_ended draugsten_intake_end(const uint8_t *buffer, size_t buffer_length, const uint8_t *store,
                                                    size_t store_length, struct draugsten_intake intake);
@@ -694,7 +730,7 @@ struct draugsten_intake_ended draugsten_intake_end(const uint8_t *buffer, size_t
 /* Why a reader refuses an area. */
 enum draugsten_refusal {
     DRAUGSTEN_REFUSAL_NONE = 0,
-    /* node areas */
+    /* node areas: 20, 21, then at each operator 22, 25, 26, 24, in this order */
     DRAUGSTEN_REFUSAL_AREA_SIZE = 20,           /* not 4,096 bytes; at 0 */
     DRAUGSTEN_REFUSAL_RESERVED = 21,            /* bytes 4 to 15 not zero; at 4. In scope 3: 12 to 15; at 12 */
     DRAUGSTEN_REFUSAL_OPCODE = 22,              /* opcode not 1 to 3; 22 to 26 at the operator */
@@ -703,12 +739,12 @@ enum draugsten_refusal {
     DRAUGSTEN_REFUSAL_ODD_OPERANDS = 25,        /* odd count for opcode 3 */
     DRAUGSTEN_REFUSAL_ORDER = 26,               /* opcode lower than an earlier one */
     DRAUGSTEN_REFUSAL_NO_TERMINATOR = 27,       /* the area ends before a zero word; at 4096 */
-    /* index areas */
+    /* index areas: 30, then at each set 31 (under 8 bytes left), 32, 31 (the code past the end), 33 */
     DRAUGSTEN_REFUSAL_NO_COUNT = 30,            /* under 4 bytes; at 0 */
     DRAUGSTEN_REFUSAL_SET_PAST_END = 31,        /* 31 to 33 at the set: index, length, code */
     DRAUGSTEN_REFUSAL_CODE_LENGTH = 32,         /* zero, above 1,024 or no multiple of 4 */
     DRAUGSTEN_REFUSAL_CODE = 33,                /* not a code, then one to four NULs, then nothing else */
-    /* property areas */
+    /* property areas: 40, 41, then at each property 42, 43 */
     DRAUGSTEN_REFUSAL_PROPERTY_AREA_SIZE = 40,  /* not 4,096 bytes; at 0 */
     DRAUGSTEN_REFUSAL_PROPERTY_RESERVED = 41,   /* bytes 8 to 15 not zero; at 8 */
     DRAUGSTEN_REFUSAL_PROPERTY_NAME = 42,       /* not 1 to 31 bytes and a NUL; 42 and 43 at the property */
@@ -756,34 +792,37 @@ struct draugsten_property_reading {
  *
  * area  The whole area. Only read.
  * scope The scope of the call. In scope 3 bytes 4 to 11 hold the unit address and only bytes 12 to 15 have to be zero.
- *       With any other number, also one that is no scope, bytes 4 to 15 have to be zero. No scope is refused.
+ *       With any other number, also one that is no scope, bytes 4 to 15 have to be zero. The scope itself is never refused.
  * out   Written, where nothing is refused: for each operation three words, opcode, first operand, second operand or 0,
  *       as many whole operations as out_length words have room for; 3 x 1,018 words hold any area's. Never: the words
- *       behind these, and any word with a refusal.
+ *       after these, and any word with a refusal.
+ * Promise: ReadNodesPromise.
  */
 struct draugsten_node_reading draugsten_read_nodes(const uint8_t *area, size_t area_length, uint32_t scope,
                                                    uint32_t *out, size_t out_length);
 
 /*
- * Reads an index area, as get-indices leaves it. Bytes behind the last entry are not looked at.
+ * Reads an index area, as get-indices leaves it. Bytes after the last entry are not looked at.
  *
  * area  The area. Only read.
  * out   Written, where nothing is refused: for each entry three numbers, index, byte offset of its code in the area,
  *       length of the code without NULs, as many whole entries as out_length numbers have room for; area_length / 4
- *       numbers hold any area's. Never: the numbers behind these, and any number with a refusal.
+ *       numbers hold any area's. Never: the numbers after these, and any number with a refusal.
+ * Promise: ReadIndicesPromise.
  */
 struct draugsten_index_reading draugsten_read_indices(const uint8_t *area, size_t area_length, uint64_t *out,
                                                       size_t out_length);
 
 /*
- * Reads a property area, as update-properties leaves it. Phandle and state may be any, and bytes behind the last property
+ * Reads a property area, as update-properties leaves it. Phandle and state may be any, and bytes after the last property
  * are not looked at.
  *
  * area  The whole area. Only read.
  * out   Written, where nothing is refused: for each property five words, byte offset of its name in the area, length of
  *       the name without its NUL, the descriptor, byte offset of its value in the area, length of the value's bytes there;
  *       as many whole properties as out_length words have room for; 5 x 679 words hold any area's. Never: the words
- *       behind these, and any word with a refusal.
+ *       after these, and any word with a refusal.
+ * Promise: ReadPropertiesPromise.
  */
 struct draugsten_property_reading draugsten_read_properties(const uint8_t *area, size_t area_length, uint32_t *out,
                                                             size_t out_length);
@@ -793,7 +832,7 @@ struct draugsten_property_reading draugsten_read_properties(const uint8_t *area,
 /*
  * A location code is asked for by an index. It stands in an index area, as get-indices leaves it, or in the fixed list:
  * codes one after the other, each ended by a NUL, of which the first is that of index 0, the next that of index 1, and so
- * on. An entry of the fixed list may be empty, and counts as an entry; bytes behind the last NUL are an entry without its
+ * on. An entry of the fixed list may be empty, and counts as an entry; bytes after the last NUL are an entry without its
  * NUL; a code there may have any length.
  */
 
@@ -845,16 +884,20 @@ struct draugsten_step {
  * Where the code of an index stands.
  *
  * area   An index area. It is read whole first: a refused one refuses every index, also one that it lists before the fault.
- *        Bytes behind the last entry are not looked at. Only read.
+ *        Bytes after the last entry are not looked at. Only read.
  * fixed  The fixed list. Only read.
  * index  An index that the area lists wins, by its first entry; otherwise the entry of the fixed list with this number is
  *        taken. Not found are an index that neither has, one whose entry of the fixed list is empty or without its NUL, and
  *        0xffffffff always, also where the area lists it.
+ * Promise: LookupPromise.
  */
 struct draugsten_location draugsten_lookup(const uint8_t *area, size_t area_length, const uint8_t *fixed,
                                            size_t fixed_length, uint32_t index);
 
-/* A view of an index area, before its first entry. The caller keeps the area, which is only read, and the cursor. */
+/*
+ * A view of an index area, before its first entry. The caller keeps the area, which is only read, and the cursor.
+ * Promise: ViewPromise.
+ */
 struct draugsten_cursor draugsten_view_start(const uint8_t *area, size_t area_length);
 
 /*
@@ -862,6 +905,7 @@ struct draugsten_cursor draugsten_view_start(const uint8_t *area, size_t area_le
  * order, then the end, again and again. Over an area that is refused they are the entries before the fault, and then the
  * refusal with its offset, again and again. Any cursor is answered: with 31 at it where under 8 bytes are left, and with 35
  * where no entry is to come. An area of under 4 bytes has 30 at 0, from any cursor.
+ * Promise: ViewPromise.
  */
 struct draugsten_step draugsten_view_step(const uint8_t *area, size_t area_length, struct draugsten_cursor cursor);
 

@@ -1,3 +1,5 @@
+pub mod Terms
 pub mod Records
 pub mod Registrations
 pub mod Crossing
+pub mod Promises

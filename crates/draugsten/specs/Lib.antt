@@ -1,3 +1,5 @@
+pub mod Terms
 pub mod Record
 pub mod Registration
 pub mod Crossing
+pub mod Promises

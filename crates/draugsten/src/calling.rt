@@ -2,9 +2,9 @@
 ghost use mathlib.Core.Path.{_≡_};
 ghost use Rattle.dump.specs.Registration.{noRegistration};
 ghost use Rattle.calls.specs.Status.{numberOf};
-ghost use Rattle.crossing.specs.Registration.{flatOf, Faithful};
-ghost use Rattle.draugsten.specs.Registration.{HandedOn, StartTaken, flatFound, flatLeaves, flatCallOf};
-ghost use Rattle.draugsten.specs.Crossing.{RecordCrosses};
+ghost use Rattle.crossing.specs.Registration.{flatOf};
+ghost use Rattle.draugsten.specs.Registration.{flatFound, flatLeaves, flatCallOf};
+ghost use Rattle.draugsten.specs.Promises.{CallPromise, NoRegistrationPromise};
 use calls::Number;
 use crossing::FlatReading;
 use crossing::FlatRegistration;
@@ -33,7 +33,7 @@ fn number_of(number: Number) -> u32
 #[no_mangle]
 pub extern "C" fn draugsten_no_registration() -> FlatRegistration
     ensures { λ r. ⌜ r ≡ flatOf noRegistration ⌝ }
-    ensures taken { λ _. ⌜ StartTaken ⌝ }
+    ensures promise { λ _. ⌜ NoRegistrationPromise ⌝ }
 {
     crossing::flat_of(dump::no_registration())
 }
@@ -50,8 +50,7 @@ pub extern "C" fn draugsten_call(
     reading: FlatReading,
 ) -> FlatAnswer
     ensures { λ r. ⌜ flatLeaves (r .number) (now (args .exit)) (now (memory .exit)) (r .registration) (r .reading) ≡ flatCallOf (flatFound (now (args .entry)) (now (memory .entry)) (now (journal .entry)) (now (inventory .entry)) edition registration reading) ⌝ }
-    ensures faithful { λ _. ⌜ Faithful ⌝ }
-    ensures handed { λ _. ⌜ HandedOn × RecordCrosses ⌝ }
+    ensures promise { λ _. ⌜ CallPromise ⌝ }
 {
     if !crossing::is_registration(registration) {
         return FlatAnswer {

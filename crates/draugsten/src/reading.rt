@@ -3,7 +3,8 @@ ghost use mathlib.Core.Path.{_≡_};
 ghost use Rattle.node_area.specs.Reading as nodes_reading;
 ghost use Rattle.indices.specs.Reading as indices_reading;
 ghost use Rattle.property_area.specs.Reading as properties_reading;
-ghost use Rattle.readers.specs.Readings.{nodeReading, nodesOut, indexReading, indicesOut, WordsTell, propertyReading, propertiesOut, PropertyWordsTell};
+ghost use Rattle.readers.specs.Readings.{nodeReading, nodesOut, indexReading, indicesOut, propertyReading, propertiesOut};
+ghost use Rattle.draugsten.specs.Promises.{ReadNodesPromise, ReadIndicesPromise, ReadPropertiesPromise};
 use readers::IndexReading;
 use readers::NodeReading;
 use readers::PropertyReading;
@@ -13,6 +14,7 @@ use readers::PropertyReading;
 pub extern "C" fn draugsten_read_nodes(area: &[u8], scope: u32, out: &mut [u32]) -> NodeReading
     ensures { λ r. ⌜ r ≡ nodeReading (now (area .entry)) (nodes_reading.reading scope (now (area .entry))) ⌝ }
     ensures { λ _. ⌜ now (out .exit) ≡ nodesOut (now (out .entry)) (nodes_reading.reading scope (now (area .entry))) ⌝ }
+    ensures promise { λ _. ⌜ ReadNodesPromise ⌝ }
 {
     readers::read_nodes(area, scope, out)
 }
@@ -22,7 +24,7 @@ pub extern "C" fn draugsten_read_nodes(area: &[u8], scope: u32, out: &mut [u32])
 pub extern "C" fn draugsten_read_indices(area: &[u8], out: &mut [u64]) -> IndexReading
     ensures { λ r. ⌜ r ≡ indexReading (indices_reading.reading (now (area .entry))) ⌝ }
     ensures { λ _. ⌜ now (out .exit) ≡ indicesOut (now (out .entry)) (now (area .entry)) (indices_reading.reading (now (area .entry))) ⌝ }
-    ensures entries { λ _. ⌜ WordsTell ⌝ }
+    ensures promise { λ _. ⌜ ReadIndicesPromise ⌝ }
 {
     readers::read_indices(area, out)
 }
@@ -32,7 +34,7 @@ pub extern "C" fn draugsten_read_indices(area: &[u8], out: &mut [u64]) -> IndexR
 pub extern "C" fn draugsten_read_properties(area: &[u8], out: &mut [u32]) -> PropertyReading
     ensures { λ r. ⌜ r ≡ propertyReading (now (area .entry)) (properties_reading.reading (now (area .entry))) ⌝ }
     ensures { λ _. ⌜ now (out .exit) ≡ propertiesOut (now (out .entry)) (now (area .entry)) (properties_reading.reading (now (area .entry))) ⌝ }
-    ensures entries { λ _. ⌜ PropertyWordsTell ⌝ }
+    ensures promise { λ _. ⌜ ReadPropertiesPromise ⌝ }
 {
     readers::read_properties(area, out)
 }

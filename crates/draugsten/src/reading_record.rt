@@ -1,7 +1,8 @@
 // The reading record and the edition over the C boundary.
 ghost use mathlib.Core.Path.{_≡_};
-ghost use Rattle.crossing.specs.Record.{flatReading, ReadingFaithful};
-ghost use Rattle.draugsten.specs.Record.{flatEditOf, EditTold};
+ghost use Rattle.crossing.specs.Record.{flatReading};
+ghost use Rattle.draugsten.specs.Record.{flatEditOf};
+ghost use Rattle.draugsten.specs.Promises.{NoReadingPromise, EditPromise};
 use crossing::FlatReading;
 use inventory::Edit;
 use inventory::Edition;
@@ -17,7 +18,7 @@ pub struct FlatEdit {
 #[no_mangle]
 pub extern "C" fn draugsten_no_reading() -> FlatReading
     ensures { λ r. ⌜ r ≡ flatReading 0 0 1 0 ⌝ }
-    ensures faithful { λ _. ⌜ ReadingFaithful ⌝ }
+    ensures promise { λ _. ⌜ NoReadingPromise ⌝ }
 {
     crossing::flat_reading_of(index_calls::no_reading())
 }
@@ -26,7 +27,7 @@ pub extern "C" fn draugsten_no_reading() -> FlatReading
 #[no_mangle]
 pub extern "C" fn draugsten_edit(edition: u32) -> FlatEdit
     ensures { λ r. ⌜ r ≡ flatEditOf edition ⌝ }
-    ensures told { λ _. ⌜ EditTold ⌝ }
+    ensures promise { λ _. ⌜ EditPromise ⌝ }
 {
     let edit = Edition(edition).edit();
     match edit {

@@ -1,3 +1,4 @@
 pub mod Boundary
 pub mod Together
 pub mod Claims
+pub mod Promises

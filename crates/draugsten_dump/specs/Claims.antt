@@ -16,7 +16,7 @@ use Rattle.calls.specs.ExactDump.{Holds}
 use Rattle.crossing.specs.declared.registration.FlatRegistration.{FlatRegistration}
 use Rattle.dumping.specs.Running.{runOf}
 use Rattle.dumping.specs.RunClaims.{Ran}
-use Rattle.draugsten_dump.specs.Running.{FlatLeft, flatRunOf}
+use Rattle.draugsten_dump.specs.Running.{FlatLeft, flatLeaves, flatRunOf}
 
 -- ---- a run over the C boundary, in the header's numbers
 
@@ -71,7 +71,13 @@ RunOnce =
     (platform memory : List ℕ) (r : Registration) → runOf platform memory r .verdict ≡ Done
     → (p m : List ℕ) → runOf p m (runOf platform memory r .next) .verdict ≡ DumpActive
 
+-- what an answer's numbers stand for
+abbrev pub AnswerCrosses : Type 0
+AnswerCrosses = (number status : ℕ) (memory : List ℕ) (registration : FlatRegistration)
+    → flatLeaves number status memory registration ≡ record { number = number; status = status; memory = memory; registration = registration }
+
 pub record BoundaryClaims : Type 0 where
+  pub answer-crosses : AnswerCrosses
   pub each-flat-run : EachFlatRun
   pub run-handed-on : RunHandedOn
   pub run-then-call : RunThenCall

@@ -3,7 +3,7 @@ ghost use mathlib.Core.Path.{_≡_};
 ghost use Rattle.calls.specs.Status.{statusWord};
 ghost use Rattle.calls.specs.ConfigureDump.{verdictStatus};
 ghost use Rattle.draugsten_dump.specs.Running.{flatLeaves, flatRunOf};
-ghost use Rattle.draugsten_dump.specs.Claims.{BoundaryClaims};
+ghost use Rattle.draugsten_dump.specs.Promises.{RunPromise};
 use crossing::FlatRegistration;
 use dump::Verdict;
 
@@ -34,7 +34,7 @@ pub extern "C" fn draugsten_run_dump(
     platform: &[u8],
 ) -> FlatRun
     ensures { λ r. ⌜ flatLeaves (r .number) (r .status) (now (memory .exit)) (r .registration) ≡ flatRunOf (now (platform .entry)) (now (memory .entry)) registration ⌝ }
-    ensures claims { λ _. ⌜ BoundaryClaims ⌝ }
+    ensures promise { λ _. ⌜ RunPromise ⌝ }
 {
     if !crossing::is_registration(registration) {
         return FlatRun {

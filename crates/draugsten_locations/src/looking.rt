@@ -1,8 +1,8 @@
 // Lookups over the C boundary.
 ghost use mathlib.Core.Path.{_≡_};
 ghost use Rattle.locations.specs.Locations.{locationOf};
-ghost use Rattle.locations.specs.Claims.{LocationClaims};
-ghost use Rattle.draugsten_locations.specs.Flat.{flatLocation, RefusalNumbers, LookupCrossing, LookupNumbers};
+ghost use Rattle.draugsten_locations.specs.Flat.{flatLocation};
+ghost use Rattle.draugsten_locations.specs.Promises.{LookupPromise};
 use locations::Location;
 
 // What a lookup answers: 0 where the code was found, 34 where it was not, or the number of the area's refusal, 30 to 33; with 0 the buffer, 1 the
@@ -50,7 +50,7 @@ fn flat_location(location: Location) -> FlatLocation
 #[no_mangle]
 pub extern "C" fn draugsten_lookup(area: &[u8], fixed: &[u8], index: u32) -> FlatLocation
     ensures { λ r. ⌜ r ≡ flatLocation (locationOf (now (area .entry)) (now (fixed .entry)) index) ⌝ }
-    ensures claims { λ _. ⌜ LocationClaims × LookupCrossing × LookupNumbers × RefusalNumbers ⌝ }
+    ensures promise { λ _. ⌜ LookupPromise ⌝ }
 {
     flat_location(locations::locate(area, fixed, index))
 }

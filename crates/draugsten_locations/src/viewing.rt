@@ -2,8 +2,8 @@
 ghost use mathlib.Core.Path.{_≡_};
 ghost use Rattle.indices.specs.Cursor.{startOf};
 ghost use Rattle.locations.specs.Views.{advanceOf};
-ghost use Rattle.locations.specs.Claims.{ViewClaims};
-ghost use Rattle.draugsten_locations.specs.Flat.{flatCursor, cursorFrom, flatStep, RefusalNumbers, ViewCrossing, StepNumbers};
+ghost use Rattle.draugsten_locations.specs.Flat.{flatCursor, cursorFrom, flatStep};
+ghost use Rattle.draugsten_locations.specs.Promises.{ViewPromise};
 use indices::Cursor;
 use locations::Advance;
 use locations::Given;
@@ -78,7 +78,7 @@ fn flat_step(next: Advance) -> FlatStep
 #[no_mangle]
 pub extern "C" fn draugsten_view_start(area: &[u8]) -> FlatCursor
     ensures { λ r. ⌜ r ≡ flatCursor (startOf (now (area .entry))) ⌝ }
-    ensures claims { λ _. ⌜ ViewClaims × ViewCrossing × StepNumbers × RefusalNumbers ⌝ }
+    ensures promise { λ _. ⌜ ViewPromise ⌝ }
 {
     flat_cursor(Cursor::start(area))
 }
@@ -87,7 +87,7 @@ pub extern "C" fn draugsten_view_start(area: &[u8]) -> FlatCursor
 #[no_mangle]
 pub extern "C" fn draugsten_view_step(area: &[u8], cursor: FlatCursor) -> FlatStep
     ensures { λ r. ⌜ r ≡ flatStep (advanceOf (now (area .entry)) (cursorFrom cursor)) ⌝ }
-    ensures claims { λ _. ⌜ ViewClaims × ViewCrossing × StepNumbers × RefusalNumbers ⌝ }
+    ensures promise { λ _. ⌜ ViewPromise ⌝ }
 {
     flat_step(locations::advance_at(area, cursor_from(cursor)))
 }

@@ -1,7 +1,7 @@
 pub mod Bursts
 pub mod WholeTrace
 pub mod Witness
-pub mod Readings
+pub mod FeedClaims
 pub mod Claims
 pub mod Sessions
 pub mod Countings
@@ -9,4 +9,6 @@ pub mod Months
 pub mod Refusals
 pub mod MonthReadings
 pub mod SessionWitness
+pub mod SessionClaims
 pub mod MonthClaims
+pub mod Promises

@@ -5,6 +5,7 @@ use Rattle.totals.proofs.Claims.{totals-claims}
 use Rattle.totals.proofs.Agreeing.{consistent-claims}
 use Rattle.shares.proofs.Euclid.{share-claims}
 use Rattle.draugsten_replay.specs.MonthClaims.{MonthClaims}
+use Rattle.draugsten_replay.proofs.SessionClaims.{sessions-exactly}
 use Rattle.draugsten_replay.proofs.MonthReadings.{month-readings}
 use Rattle.draugsten_replay.proofs.Refusals.{refusals-in-order, added-consistent, merge-keeps, merge-taken, merged-months, share-from-sums}
 use Rattle.draugsten_replay.proofs.SessionWitness.{whole-session-witness}
@@ -14,6 +15,7 @@ use Rattle.draugsten_replay.proofs.Months.{month-sums, month-in-any-ord
 pub month-claims : MonthClaims
 month-claims =
     record {
+      sessions = sessions-exactly;
       counting-accepted = counting-accepted;
       whole-session = whole-session;
       whole-session-witness = whole-session-witness;

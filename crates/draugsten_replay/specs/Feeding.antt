@@ -1,18 +1,19 @@
 -- What start, feed and end promise at the C boundary (document 02, M-110).
 use Prim.Native.Nat.{ℕ, _≤_}
 use mathlib.Core.Path.{_≡_}
-use mathlib.Core.Bool.{true, cond}
+use mathlib.Core.Bool.{true, false, cond}
 use mathlib.Core.List.{List}
 use lib.ListN.{length, drop}
 use lib.Seq.{sets}
 use Rattle.records.specs.Cutting.{Standing, start, fed}
+use Rattle.trace.specs.declared.report.Report.the-variants.{Agreed, Differs, Malformed}
 use Rattle.trace.specs.Playing.{Platform, State, isOver, begin, reader}
-use Rattle.playing.specs.Lent.{lender}
+use Rattle.playing.specs.Lent.{Lent, lentStep, lender}
 use Rattle.replay.specs.Feeding.{standingOf, lentStandingOf, completed, startOf, endOf}
 use Rattle.replay_states.specs.declared.state.FlatReplay.{FlatReplay}
 use Rattle.draugsten_replay.specs.declared.feeding.FlatFed.{FlatFed}
 use Rattle.draugsten_replay.specs.declared.feeding.FlatEnded.{FlatEnded}
-use Rattle.replay_states.specs.States.{flatReport, flatReportOf, reportOf, waits, replayIn, flatReplayOf, isState, judged}
+use Rattle.replay_states.specs.States.{flatReport, flatReportOf, reportOf, waits, replayIn, flatReplayOf, isState, judgedBy, judged}
 
 abbrev pub platform : List ℕ → List ℕ → ℕ → Platform
 platform journal inventory edition = record { journal = journal; inventory = inventory; edition = record { 0 = edition } }
@@ -50,3 +51,17 @@ flatEndOf f =
     cond (isState f)
     (record { number = 0; report = flatReportOf (endOf (reportOf (f .report)) (f .records) (waits f) (f .held)) })
     (record { number = 14; report = flatReport 2 0 0 })
+
+-- What a feed keeps: all if it is refused, the bytes of `held` past 4,104, and the two buffers after a stop. And the platform that it is over.
+pub record FeedsExactly : Type 0 where
+  pub kept : (journal inventory held args memory bytes heldThen argsThen memoryThen : List ℕ) (f : FlatReplay) (r : FlatFed)
+      → FlatFeeds journal inventory held args memory f bytes heldThen argsThen memoryThen r
+      → ((judged held args f ≡ 0 → ⊥) → (r .number ≡ judged held args f) × ((r .replay ≡ f) × ((heldThen ≡ held) × ((argsThen ≡ args) × (memoryThen ≡ memory)))))
+      × ((drop 4104 heldThen ≡ drop 4104 held)
+      × (judged held args f ≡ 0 → isOver (reportOf (f .report)) ≡ true → (heldThen ≡ held) × (argsThen ≡ args)))
+  pub over : (journal inventory : List ℕ) (edition : ℕ) → platform journal inventory edition ≡ record { journal = journal; inventory = inventory; edition = record { 0 = edition } }
+  -- what is looked at of a state and its buffers; which reports stop a replay; what a record puts into the lent buffer; an end of a state that is not taken
+  pub looked-at : (held args : List ℕ) (f : FlatReplay) → judged held args f ≡ judgedBy held (length args) f
+  pub stops : (n k : ℕ) → (isOver (Agreed n) ≡ false) × ((isOver (Differs n k) ≡ true) × (isOver (Malformed n) ≡ true))
+  pub lends : (p : Platform) (x : Lent) (r : List ℕ) → lender p .step x r ≡ lentStep p x r
+  pub not-taken : (f : FlatReplay) → isState f ≡ false → flatEndOf f ≡ record { number = 14; report = record { verdict = 2; offset = 0; number = 0 } }

@@ -96,7 +96,7 @@ shareIn t = shareOf (getD (t .figures) 33 0) (getD (t .figures) 34 0)
 
 -- ---- the month, over sessions that were recorded
 
--- "each over its own journal, inventory, edition and memory"
+-- what a trace replays over, DECISIONS: "its own journal, inventory, edition and memory"; and the trace
 pub record Session : Type 0 where
   pub journal : List ℕ
   pub inventory : List ℕ

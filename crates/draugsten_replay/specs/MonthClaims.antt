@@ -1,9 +1,13 @@
 -- What is claimed of the month at the C boundary, cited by the contracts of the functions of `month`.
-use Prim.Native.Nat.{ℕ, _+_, _≤_, _<_}
+use Prim.Native.Nat.{ℕ, _+_, _*_, _≤_, _<_}
 use mathlib.Core.Path.{_≡_}
-use mathlib.Core.Bool.{true, false}
+use mathlib.Core.Bool.{true, false, cond, _&&_}
 use mathlib.Core.List.{List, [], _∷_, _++_}
+use lib.Dec.{eqb}
 use lib.ListN.{length, getD, replicate}
+use Rattle.words.specs.Numbers.{be32}
+use Rattle.calls.specs.Buffer.{input, statusAt, isNodes}
+use Rattle.counting.specs.declared.counts.Counts.{Counts}
 use Rattle.counting.specs.Counts.{noCounts}
 use Rattle.counting.specs.Claims.{CountClaims}
 use Rattle.counting.specs.CountsCame.{TraceCountClaims}
@@ -11,14 +15,18 @@ use Rattle.totals.specs.declared.adding.Totals.{Totals}
 use Rattle.totals.specs.Adding.{noTotals, addedTo}
 use Rattle.totals.specs.Claims.{reordered, EachFits, TotalsClaims}
 use Rattle.totals.specs.Consistent.{consistent, ConsistentClaims}
-use Rattle.shares.specs.Share.{Lowest, ShareClaims}
-use Rattle.trace.specs.Playing.{isOver}
-use Rattle.replay_states.specs.States.{flatReportOf}
+use Rattle.shares.specs.Share.{shareOf, Lowest, ShareClaims}
+use Rattle.trace.specs.declared.report.Report.the-variants.{Agreed}
+use Rattle.trace.specs.Playing.{isOver, replayOf}
+use Rattle.counting.specs.OfTrace.{countsOf}
+use Rattle.counting.specs.Figures.{figuresIn, figuresOf}
+use Rattle.replay_states.specs.States.{flatReportOf, areCounts, judged}
+use Rattle.draugsten_replay.specs.Feeding.{platform, FlatFeeds, flatStart}
 use Rattle.draugsten_replay.specs.declared.month.FlatCounting.{FlatCounting}
 use Rattle.draugsten_replay.specs.declared.month.FlatCounted.{FlatCounted}
 use Rattle.draugsten_replay.specs.WholeTrace.{begun}
 use Rattle.draugsten_replay.specs.MonthReadings.{MonthReadings}
-use Rattle.draugsten_replay.specs.Month.{judgedCounting, flatCountingStart, CountingFeeds, monthAdded, mergedTo, shareIn, Session, reportFor, figuresFor, sessionAdded, monthOf, NoneRefused}
+use Rattle.draugsten_replay.specs.Month.{isCounting, judgedCounting, flatCountingStart, CountingFeeds, monthAdded, mergedTo, shareIn, Session, reportFor, figuresFor, sessionAdded, monthOf, NoneRefused}
 
 -- What a start gives is taken, over any two buffers with room.
 abbrev pub CountingAccepted : Type 0
@@ -157,7 +165,30 @@ ShareFromSums =
     → (0 < figureSum 34 ss → Lowest (figureSum 33 ss) (figureSum 34 ss) (shareIn (monthOf noTotals ss)))
     × (figureSum 34 ss ≡ 0 → shareIn (monthOf noTotals ss) ≡ record { part = 0; whole = 1 })
 
+-- A session's report and figures are those of its own replay, and the month adds session after session.
+pub record SessionsExactly : Type 0 where
+  pub report : (s : Session) → reportFor s ≡ replayOf (platform (s .journal) (s .inventory) (s .edition)) (s .memory) (s .trace) .report
+  pub figures : (s : Session) → figuresFor s ≡ figuresOf (countsOf (platform (s .journal) (s .inventory) (s .edition)) (s .memory) (s .trace))
+  pub added : (t : Totals) (s : Session) (calls : ℕ) → reportFor s ≡ Agreed calls → sessionAdded t s .totals ≡ addedTo t (figuresFor s) .totals
+  pub not-taken : (t : Totals) (f : FlatCounting) → isCounting f ≡ false → monthAdded t f ≡ record { number = 14; report = record { verdict = 2; offset = 0; number = 0 }; totals = t }
+  pub none : (t : Totals) → monthOf t [] ≡ t
+  pub next : (t : Totals) (s : Session) (ss : List Session) → monthOf t (s ∷ ss) ≡ monthOf (sessionAdded t s .totals) ss
+  -- a counting feed does to buffers, memory and replay what draugsten_replay_feed does; refused, it changes nothing
+  pub feeds : (journal inventory held args memory bytes heldThen argsThen memoryThen : List ℕ) (f : FlatCounting) (r : FlatCounted)
+      → CountingFeeds journal inventory held args memory f bytes heldThen argsThen memoryThen r
+      → ((judgedCounting held args f ≡ 0 → ⊥) → (r .counting ≡ f) × ((heldThen ≡ held) × ((argsThen ≡ args) × (memoryThen ≡ memory))))
+      × (judgedCounting held args f ≡ 0 → FlatFeeds journal inventory held args memory (f .replay) bytes heldThen argsThen memoryThen (record { number = 0; replay = r .counting .replay }))
+  pub judged-first : (held args : List ℕ) (f : FlatCounting) → (judged held args (f .replay) ≡ 0 → ⊥) → judgedCounting held args f ≡ judged held args (f .replay)
+  pub judged-then : (held args : List ℕ) (f : FlatCounting) → judged held args (f .replay) ≡ 0 → judgedCounting held args f ≡ cond (areCounts (f .replay) (f .counts)) 0 14
+  pub begins : (edition : ℕ) → flatCountingStart edition .replay ≡ flatStart edition
+  pub figured : (c : Counts) → figuresOf c .figures ≡ figuresIn c
+  -- a call of update-nodes: token 1, two inputs and one output, with its inputs and its status where they stand
+  pub nodes : (b : List ℕ) → isNodes b ≡ (eqb (be32 b 0) 1 && (eqb (be32 b 4) 2 && eqb (be32 b 8) 1))
+  pub at : (b : List ℕ) (n : ℕ) → (input b n ≡ be32 b (12 + 4 * n)) × (statusAt b ≡ 12 + 4 * be32 b 4)
+  pub share : (t : Totals) → shareIn t ≡ shareOf (getD (t .figures) 33 0) (getD (t .figures) 34 0)
+
 pub record MonthClaims : Type 0 where
+  pub sessions : SessionsExactly
   pub counting-accepted : CountingAccepted
   pub whole-session : WholeSession
   pub whole-session-witness : WholeSessionWitness

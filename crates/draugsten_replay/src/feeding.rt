@@ -1,7 +1,7 @@
 // Start, feed and end over the flat state.
 ghost use mathlib.Core.Path.{_≡_};
 ghost use Rattle.draugsten_replay.specs.Feeding.{FlatFeeds, flatStart, flatEndOf};
-ghost use Rattle.draugsten_replay.specs.Claims.{BoundaryClaims};
+ghost use Rattle.draugsten_replay.specs.Promises.{ReplayPromise};
 use inventory::Edition;
 use replay_states::FlatReplay;
 use replay_states::FlatReport;
@@ -29,7 +29,7 @@ pub struct FlatEnded {
 #[no_mangle]
 pub extern "C" fn draugsten_replay_start(edition: u32) -> FlatReplay
     ensures { λ r. ⌜ r ≡ flatStart edition ⌝ }
-    ensures claims { λ _. ⌜ BoundaryClaims ⌝ }
+    ensures promise { λ _. ⌜ ReplayPromise ⌝ }
 {
     flat_replay_of(replay::start(Edition(edition)))
 }
@@ -46,7 +46,7 @@ pub extern "C" fn draugsten_replay_feed(
     bytes: &[u8],
 ) -> FlatFed
     ensures { λ r. ⌜ FlatFeeds (now (journal .entry)) (now (inventory .entry)) (now (held .entry)) (now (args .entry)) (now (memory .entry)) from (now (bytes .entry)) (now (held .exit)) (now (args .exit)) (now (memory .exit)) r ⌝ }
-    ensures claims { λ _. ⌜ BoundaryClaims ⌝ }
+    ensures promise { λ _. ⌜ ReplayPromise ⌝ }
 {
     let number = judge(held, args.len(), from);
     if number != 0 {
@@ -74,7 +74,7 @@ pub extern "C" fn draugsten_replay_feed(
 #[no_mangle]
 pub extern "C" fn draugsten_replay_end(from: FlatReplay) -> FlatEnded
     ensures { λ r. ⌜ r ≡ flatEndOf from ⌝ }
-    ensures claims { λ _. ⌜ BoundaryClaims ⌝ }
+    ensures promise { λ _. ⌜ ReplayPromise ⌝ }
 {
     if !is_state(from) {
         return FlatEnded {

@@ -4,7 +4,7 @@ ghost use Prim.Native.Nat.{_≤_};
 ghost use Rattle.counting.specs.Figures.{figuresOf};
 ghost use Rattle.counting.specs.Terms.{Within};
 ghost use Rattle.draugsten_replay.specs.Month.{isCountingBy, judgedCountingBy, flatCountingOf, flatCountingStart, CountingFeeds, countsAdded, monthAdded, mergedTo, shareIn};
-ghost use Rattle.draugsten_replay.specs.MonthClaims.{MonthClaims};
+ghost use Rattle.draugsten_replay.specs.Promises.{MonthPromise};
 use counting::Counts;
 use counting::figures_of;
 use inventory::Edition;
@@ -54,7 +54,7 @@ pub struct FlatMerged {
 #[no_mangle]
 pub extern "C" fn draugsten_month_start(edition: u32) -> FlatCounting
     ensures { λ r. ⌜ r ≡ flatCountingStart edition ⌝ }
-    ensures claims { λ _. ⌜ MonthClaims ⌝ }
+    ensures promise { λ _. ⌜ MonthPromise ⌝ }
 {
     FlatCounting {
         replay: flat_replay_of(replay::start(Edition(edition))),
@@ -99,7 +99,7 @@ pub extern "C" fn draugsten_month_feed(
     bytes: &[u8],
 ) -> FlatCounted
     ensures { λ r. ⌜ CountingFeeds (now (journal .entry)) (now (inventory .entry)) (now (held .entry)) (now (args .entry)) (now (memory .entry)) from (now (bytes .entry)) (now (held .exit)) (now (args .exit)) (now (memory .exit)) r ⌝ }
-    ensures claims { λ _. ⌜ MonthClaims ⌝ }
+    ensures promise { λ _. ⌜ MonthPromise ⌝ }
 {
     let replay = from.replay;
     let counts = from.counts;
@@ -157,7 +157,7 @@ fn add_counts(totals: Totals, counts: Counts, report: FlatReport) -> FlatAdded
 #[no_mangle]
 pub extern "C" fn draugsten_month_add(totals: Totals, from: FlatCounting) -> FlatAdded
     ensures { λ r. ⌜ r ≡ monthAdded totals from ⌝ }
-    ensures claims { λ _. ⌜ MonthClaims ⌝ }
+    ensures promise { λ _. ⌜ MonthPromise ⌝ }
 {
     let replay = from.replay;
     let counts = from.counts;
@@ -188,7 +188,7 @@ pub extern "C" fn draugsten_month_add(totals: Totals, from: FlatCounting) -> Fla
 #[no_mangle]
 pub extern "C" fn draugsten_month_merge(totals: Totals, more: Totals) -> FlatMerged
     ensures { λ r. ⌜ r ≡ mergedTo totals more ⌝ }
-    ensures claims { λ _. ⌜ MonthClaims ⌝ }
+    ensures promise { λ _. ⌜ MonthPromise ⌝ }
 {
     if !totals::is_consistent(more) {
         return FlatMerged { number: 18, totals };
@@ -211,7 +211,7 @@ pub extern "C" fn draugsten_month_merge(totals: Totals, more: Totals) -> FlatMer
 #[no_mangle]
 pub extern "C" fn draugsten_month_share(totals: Totals) -> Share
     ensures { λ r. ⌜ r ≡ shareIn totals ⌝ }
-    ensures claims { λ _. ⌜ MonthClaims ⌝ }
+    ensures promise { λ _. ⌜ MonthPromise ⌝ }
 {
     let figures = totals.figures;
     shares::share_of(figures[33], figures[34])

@@ -25,4 +25,4 @@ each-left-crosses x = record {
 }
 
 pub crossing-claims : CrossingClaims
-crossing-claims = record { crosses = crosses; each-crosses = each-crosses; each-left-crosses = each-left-crosses; recount-numbers = (refl, refl) }
+crossing-claims = record { parts-cross = record { out = λ t. refl; back = λ f. refl; answer = λ n b j. refl }; crosses = crosses; each-crosses = each-crosses; each-left-crosses = each-left-crosses; recount-numbers = (refl, refl) }

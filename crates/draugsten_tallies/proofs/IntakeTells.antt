@@ -32,6 +32,7 @@ use Rattle.draugsten_tallies.specs.Intakes.{
   JournalChanged,
   EachMisfit,
   EachBurst,
+  StartsExactly,
   EachBurstRefused,
   EachEndAnswer,
   IntakeCrossing,
@@ -97,9 +98,14 @@ each-burst buffer store bytes bufferThen storeThen i r b e =
       again = sym (t .number);
       next = next;
       held = ap (λ (x : Standing Taking). x .held) s;
+      store-is = t .bursts .whole;
+      kept = λ n. t .bursts .kept (fault-not-done (i .fault) n);
       buffer-is = ap (λ (x : Standing Taking). x .state .buffer) s;
       journal = rw (sym journal) (c .journal);
     }
+
+starts-exactly : StartsExactly
+starts-exactly = record { starts = λ s. refl; stands = λ s held. refl; size = λ b. refl }
 
 each-burst-refused : EachBurstRefused
 each-burst-refused buffer store bytes bufferThen storeThen i r b n = let t = b .refused n in (t .number, (t .record-is, (t .intake, (t .buffer-same, t .store-same))))
@@ -146,6 +152,7 @@ intake-crossing = record {
   left-taken = left-taken;
   journal-changed = journal-changed;
   each-burst = each-burst;
+  starts-exactly = starts-exactly;
   each-burst-refused = each-burst-refused;
   each-end = each-end;
 }

@@ -3,3 +3,4 @@ pub mod IntakeCrossed
 pub mod CutReadings
 pub mod Answers
 pub mod IntakeTells
+pub mod Promises

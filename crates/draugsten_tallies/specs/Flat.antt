@@ -89,7 +89,14 @@ RecountNumbers = (goodNumber true ≡ 0) × (goodNumber false ≡ 50)
 abbrev pub Crosses : Type 0
 Crosses = (f : FlatTallied) → flatTallied (talliedFrom f) ≡ f
 
+-- by themselves as beside a use; and what an answer's numbers stand for
+pub record PartsCross : Type 0 where
+  pub out : (t : Tallied) → flatTallies (t .tallies) ≡ flatTallied t .tallies
+  pub back : (f : FlatTallied) → talliesFrom (f .tallies) ≡ talliedFrom f .tallies
+  pub answer : (number : ℕ) (buffer : List ℕ) (journal : FlatTallied) → flatLeaves number buffer journal ≡ record { number = number; buffer = buffer; journal = journal }
+
 pub record CrossingClaims : Type 0 where
+  pub parts-cross : PartsCross
   pub crosses : Crosses
   pub each-crosses : EachCrosses
   pub each-left-crosses : EachLeftCrosses

@@ -1,12 +1,13 @@
 -- Intakes as they cross the C boundary (document 02, M-109).
-use Prim.Native.Nat.{ℕ, _≤_, _<_}
+use Prim.Native.Nat.{ℕ, _+_, _≤_, _<_}
 use mathlib.Core.Path.{_≡_}
 use mathlib.Core.Bool.{true, false, cond}
 use mathlib.Core.List.{List, []}
 use lib.Dec.{ltb, eqb}
 use lib.ListN.{length, take}
+use lib.Seq.{sets}
 use Rattle.records.specs.Records.{lengthOf, kindOf, sizeOf}
-use Rattle.records.specs.Cutting.{Standing, fed}
+use Rattle.records.specs.Cutting.{Standing, start, fed}
 use Rattle.tallies.specs.declared.keeping.Tallied.{Tallied}
 use Rattle.tallies.specs.declared.keeping.Outcome.{Outcome}
 use Rattle.tallies.specs.declared.keeping.Outcome.the-variants.{Done, Malformed, NoRoom, Unfit}
@@ -18,7 +19,7 @@ use Rattle.intake.specs.declared.bursts.Intake.{Intake}
 use Rattle.intake.specs.declared.bursts.Ending.{Ending}
 use Rattle.intake.specs.declared.bursts.Ending.the-variants as ending
 use Rattle.intake.specs.Taking.{goodFront, Taking, reader}
-use Rattle.intake.specs.Bursts.{standingOf, Ready, Bursts, startOf, endOf}
+use Rattle.intake.specs.Bursts.{standsAt, standingOf, Ready, completed, Bursts, startOf, endOf}
 use Rattle.intake.specs.States.{readyFor}
 use Rattle.draugsten_tallies.specs.declared.flat.FlatTallied.{FlatTallied}
 use Rattle.draugsten_tallies.specs.declared.intakes.FlatIntake.{FlatIntake}
@@ -37,7 +38,7 @@ flatIntake i = record { journal = flatTallied (i .place .journal); number = i .p
 abbrev pub intakeFrom : FlatIntake → Intake
 intakeFrom f = record { place = record { journal = talliedFrom (f .journal); number = f .number; fault = faultFrom (f .fault) }; held = f .held }
 
--- "refused with a number of its own, before all else": 55 a store under 32,808 bytes, 54 a state whose parts do not fit, else 0
+-- DECISIONS: "55 is told before 54, and both before all else": 55 a store under 32,808 bytes, 54 a state whose parts do not fit, else 0
 unfoldable pub stateNumber : List ℕ → ℕ → Intake → ℕ
 stateNumber store size i = cond (ltb (length store) 32808) 55 (cond (readyFor store size i) 0 54)
 
@@ -112,11 +113,11 @@ IntakeReturns = (i : Intake) → intakeFrom (flatIntake i) ≡ i
 abbrev pub EachIntakeComes : Type 0
 EachIntakeComes = (f : FlatIntake) → IntakeCrosses (intakeFrom f) f
 
--- "a fault that is none": any other number
+-- any other number becomes Unfit, which no stream reports
 abbrev pub FaultsTaken : Type 0
 FaultsTaken = (f : FlatIntake) → (f .fault ≡ 0 → ⊥) → (f .fault ≡ 50 → ⊥) → (f .fault ≡ 51 → ⊥) → intakeFrom f .place .fault ≡ Unfit
 
--- "over a tallied journal as it is (its use and tallies): nothing held, number 1, no fault", also one that the first burst refuses
+-- nothing held, number 1, no fault. DECISIONS: "A start is not refused: over a use and tallies that do not fit, its first burst is (54)."
 pub record Starts (t : FlatTallied) (f : FlatIntake) : Type 0 where
   pub journal : f .journal ≡ t
   pub number : f .number ≡ 1
@@ -143,7 +144,7 @@ abbrev pub LeftTaken : Type 0
 LeftTaken = (buffer store bufferThen storeThen bytes : List ℕ) (i : FlatIntake) (r : FlatBurst) → stateNumber store (length buffer) (intakeFrom i) ≡ 0
     → FlatBursts buffer store i bytes bufferThen storeThen r → stateNumber storeThen (length bufferThen) (intakeFrom (r .intake)) ≡ 0
 
--- "what M-106 refuses first of use and tallies": exactly what an append calls unfit
+-- DECISIONS: "a use beyond the buffer, or a count above the use, is refused before both": exactly what an append calls unfit
 abbrev pub FitsAsAppend : Type 0
 FitsAsAppend = (buffer r : List ℕ) (t : Tallied) → Exactly (fits (length buffer) t ≡ false) (appendOf buffer t r .outcome ≡ Unfit)
 
@@ -151,12 +152,12 @@ FitsAsAppend = (buffer r : List ℕ) (t : Tallied) → Exactly (fits (length buf
 abbrev pub KeptTaken : Type 0
 KeptTaken = (store : List ℕ) (s : sessions.Standing) → 32808 ≤ length store → sessions.Counted s → stateNumber store (length (s .buffer)) (startOf (s .journal)) ≡ 0
 
--- "An append, join or clear between bursts works on use, tallies and journal alone": with any other journal that fits, the state is taken as before
+-- DECISIONS: "An append, join or clear between bursts works on use, tallies and journal alone": with any other journal that fits, the state is taken as before
 abbrev pub JournalChanged : Type 0
 JournalChanged = (buffer bufferThen store : List ℕ) (f : FlatIntake) (t : FlatTallied) → stateNumber store (length buffer) (intakeFrom f) ≡ 0 → fits (length bufferThen) (talliedFrom t) ≡ true
     → stateNumber store (length bufferThen) (intakeFrom (record { journal = t; number = f .number; held = f .held; fault = f .fault })) ≡ 0
 
--- "A state whose parts do not fit": each of them alone
+-- DECISIONS: "54 a state that no start or burst leaves": each part that does not fit, alone
 pub record Misfits (buffer store : List ℕ) (f : FlatIntake) (number : ℕ) : Type 0 where
   pub no-number : f .number ≡ 0 → number ≡ 54
   pub no-fault : (f .fault ≡ 0 → ⊥) → (f .fault ≡ 50 → ⊥) → (f .fault ≡ 51 → ⊥) → number ≡ 54
@@ -169,8 +170,8 @@ pub record Misfits (buffer store : List ℕ) (f : FlatIntake) (number : ℕ) : T
 abbrev pub EachMisfit : Type 0
 EachMisfit = (buffer store : List ℕ) (f : FlatIntake) → 32808 ≤ length store → Misfits buffer store f (stateNumber store (length buffer) (intakeFrom f))
 
--- what a burst tells, of the standing that the reader of records says
-pub record BurstTells (bufferThen storeThen : List ℕ) (r : FlatBurst) (w : Standing Taking) : Type 0 where
+-- what a burst tells, of the standing that the reader of records says, with every byte of both buffers
+pub record BurstTells (store : List ℕ) (i : FlatIntake) (bytes bufferThen storeThen : List ℕ) (r : FlatBurst) (w : Standing Taking) : Type 0 where
   pub none : Exactly (w .state .fault ≡ Done) (r .number ≡ 0)
   pub malformed : Exactly (w .state .fault ≡ Malformed) (r .number ≡ 50)
   pub no-room : Exactly (w .state .fault ≡ NoRoom) (r .number ≡ 51)
@@ -179,12 +180,20 @@ pub record BurstTells (bufferThen storeThen : List ℕ) (r : FlatBurst) (w : Sta
   pub again : r .intake .fault ≡ r .number
   pub next : r .intake .number ≡ w .state .number
   pub held : take (r .intake .held) storeThen ≡ w .held
+  pub store-is : storeThen ≡ sets (completed store (i .held) bytes) 0 (w .held)
+  pub kept : (i .fault ≡ 0 → ⊥) → storeThen ≡ store
   pub buffer-is : bufferThen ≡ w .state .buffer
   pub journal : TalliedCross (w .state .journal) (r .intake .journal)
 
 abbrev pub EachBurst : Type 0
 EachBurst = (buffer store bytes bufferThen storeThen : List ℕ) (i : FlatIntake) (r : FlatBurst) → FlatBursts buffer store i bytes bufferThen storeThen r → stateNumber store (length buffer) (intakeFrom i) ≡ 0
-    → BurstTells bufferThen storeThen r (fed reader (standingOf buffer store (intakeFrom i)) bytes)
+    → BurstTells store i bytes bufferThen storeThen r (fed reader (standingOf buffer store (intakeFrom i)) bytes)
+
+-- a reader starts with nothing held, and stands where its state and the held bytes say; a record's size is its length and two
+pub record StartsExactly : Type 0 where
+  pub starts : (s : Taking) → start s ≡ record { state = s; held = [] }
+  pub stands : (s : Taking) (held : List ℕ) → standsAt s held ≡ record { state = s; held = held }
+  pub size : (b : List ℕ) → sizeOf b ≡ lengthOf b + 2
 
 -- "and changes nothing"
 abbrev pub EachBurstRefused : Type 0
@@ -217,5 +226,6 @@ pub record IntakeCrossing : Type 0 where
   pub left-taken : LeftTaken
   pub journal-changed : JournalChanged
   pub each-burst : EachBurst
+  pub starts-exactly : StartsExactly
   pub each-burst-refused : EachBurstRefused
   pub each-end : EachEndAnswer

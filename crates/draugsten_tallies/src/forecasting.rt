@@ -2,8 +2,8 @@
 ghost use mathlib.Core.Path.{_≡_};
 ghost use Rattle.calls.specs.Status.{statusWord};
 ghost use Rattle.forecast.specs.Forecast.{forecastOf};
-ghost use Rattle.forecast.specs.Claims.{ForecastClaims};
-ghost use Rattle.draugsten_tallies.specs.Flat.{talliesFrom, CrossingClaims};
+ghost use Rattle.draugsten_tallies.specs.Flat.{talliesFrom};
+ghost use Rattle.draugsten_tallies.specs.Promises.{ForecastPromise};
 use crate::flat::FlatTallies;
 use crate::flat::tallies_from;
 use node_area::StateVariable;
@@ -19,7 +19,7 @@ pub struct FlatForecast {
 #[no_mangle]
 pub extern "C" fn draugsten_forecast(tallies: FlatTallies, scope: u32, state: u32) -> FlatForecast
     ensures { λ r. ⌜ (r .status ≡ statusWord (forecastOf (talliesFrom tallies) scope state .status)) × (r .next ≡ forecastOf (talliesFrom tallies) scope state .next) ⌝ }
-    ensures claims { λ _. ⌜ ForecastClaims × CrossingClaims ⌝ }
+    ensures promise { λ _. ⌜ ForecastPromise ⌝ }
 {
     let told = forecast::forecast_from(tallies_from(tallies), scope, StateVariable(state));
     let status = told.status;

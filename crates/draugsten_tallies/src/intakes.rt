@@ -1,13 +1,10 @@
 // Intakes over the C boundary: journals that arrive in bursts.
 ghost use mathlib.Core.Path.{_≡_};
 ghost use lib.ListN.{length};
-ghost use Rattle.tallies.specs.Claims.{TallyClaims};
 ghost use Rattle.intake.specs.Bursts.{startOf};
-ghost use Rattle.intake.specs.States.{ReadyExactly};
-ghost use Rattle.intake.specs.Claims.{IntakeClaims};
-ghost use Rattle.draugsten_tallies.specs.Cuts.{EachCut};
 ghost use Rattle.draugsten_tallies.specs.Flat.{talliedFrom};
-ghost use Rattle.draugsten_tallies.specs.Intakes.{faultFrom, flatIntake, intakeFrom, stateNumber, recordFor, flatEnd, FlatBursts, endAnswer, IntakeCrossing};
+ghost use Rattle.draugsten_tallies.specs.Intakes.{faultFrom, flatIntake, intakeFrom, stateNumber, recordFor, flatEnd, FlatBursts, endAnswer};
+ghost use Rattle.draugsten_tallies.specs.Promises.{IntakePromise};
 use crate::flat::FlatTallied;
 use crate::flat::flat_tallied;
 use crate::flat::tallied_from;
@@ -145,7 +142,7 @@ fn flat_end(ending: Ending) -> FlatEnd
 #[no_mangle]
 pub extern "C" fn draugsten_intake_start(journal: FlatTallied) -> FlatIntake
     ensures { λ r. ⌜ r ≡ flatIntake (startOf (talliedFrom journal)) ⌝ }
-    ensures claims { λ _. ⌜ TallyClaims × IntakeClaims × IntakeCrossing ⌝ }
+    ensures promise { λ _. ⌜ IntakePromise ⌝ }
 {
     flat_intake(intake::start(tallied_from(journal)))
 }
@@ -159,7 +156,7 @@ pub extern "C" fn draugsten_intake_burst(
     bytes: &[u8],
 ) -> FlatBurst
     ensures { λ r. ⌜ FlatBursts (now (buffer .entry)) (now (store .entry)) intake (now (bytes .entry)) (now (buffer .exit)) (now (store .exit)) r ⌝ }
-    ensures claims { λ _. ⌜ TallyClaims × IntakeClaims × ReadyExactly × IntakeCrossing × EachCut ⌝ }
+    ensures promise { λ _. ⌜ IntakePromise ⌝ }
 {
     let from = intake_from(intake);
     let refusal = state_number(&*store, buffer.len(), from);
@@ -184,7 +181,7 @@ pub extern "C" fn draugsten_intake_burst(
 #[no_mangle]
 pub extern "C" fn draugsten_intake_end(buffer: &[u8], store: &[u8], intake: FlatIntake) -> FlatEnd
     ensures { λ r. ⌜ r ≡ endAnswer (length (now (buffer .entry))) (now (store .entry)) intake ⌝ }
-    ensures claims { λ _. ⌜ TallyClaims × IntakeClaims × ReadyExactly × IntakeCrossing × EachCut ⌝ }
+    ensures promise { λ _. ⌜ IntakePromise ⌝ }
 {
     let from = intake_from(intake);
     let refusal = state_number(store, buffer.len(), from);

@@ -2,9 +2,8 @@
 ghost use mathlib.Core.Path.{_≡_};
 ghost use Rattle.tallies.specs.Keeping.{nothing, appendOf, joinOf};
 ghost use Rattle.tallies.specs.Tallies.{recountFor};
-ghost use Rattle.tallies.specs.Claims.{TallyClaims, RecountClaims};
-ghost use Rattle.tallies.specs.Joining.{JoinClaims};
-ghost use Rattle.draugsten_tallies.specs.Flat.{flatTallied, talliedFrom, flatTallies, outcomeNumber, goodNumber, flatLeaves, flatLeft, CrossingClaims};
+ghost use Rattle.draugsten_tallies.specs.Flat.{flatTallied, talliedFrom, flatTallies, outcomeNumber, goodNumber, flatLeaves, flatLeft};
+ghost use Rattle.draugsten_tallies.specs.Promises.{TalliesPromise, JoinPromise, RecountPromise};
 use crate::flat::FlatTallied;
 use crate::flat::FlatTallies;
 use crate::flat::flat_tallied;
@@ -59,7 +58,7 @@ fn good_number(good: bool) -> u32
 #[no_mangle]
 pub extern "C" fn draugsten_tallies_cleared() -> FlatTallied
     ensures { λ r. ⌜ r ≡ flatTallied nothing ⌝ }
-    ensures claims { λ _. ⌜ TallyClaims × CrossingClaims ⌝ }
+    ensures promise { λ _. ⌜ TalliesPromise ⌝ }
 {
     flat_tallied(tallies::cleared())
 }
@@ -72,7 +71,7 @@ pub extern "C" fn draugsten_tallies_append(
     bytes: &[u8],
 ) -> FlatKept
     ensures { λ r. ⌜ flatLeaves (r .number) (now (buffer .exit)) (r .journal) ≡ flatLeft (appendOf (now (buffer .entry)) (talliedFrom journal) (now (bytes .entry))) ⌝ }
-    ensures claims { λ _. ⌜ TallyClaims × CrossingClaims ⌝ }
+    ensures promise { λ _. ⌜ TalliesPromise ⌝ }
 {
     flat_kept(tallies::append(buffer, tallied_from(journal), bytes))
 }
@@ -85,7 +84,7 @@ pub extern "C" fn draugsten_tallies_join(
     part: &[u8],
 ) -> FlatKept
     ensures { λ r. ⌜ flatLeaves (r .number) (now (buffer .exit)) (r .journal) ≡ flatLeft (joinOf (now (buffer .entry)) (talliedFrom journal) (now (part .entry))) ⌝ }
-    ensures claims { λ _. ⌜ TallyClaims × JoinClaims × CrossingClaims ⌝ }
+    ensures promise { λ _. ⌜ JoinPromise ⌝ }
 {
     flat_kept(tallies::join(buffer, tallied_from(journal), part))
 }
@@ -94,7 +93,7 @@ pub extern "C" fn draugsten_tallies_join(
 #[no_mangle]
 pub extern "C" fn draugsten_tallies_recount(journal: &[u8]) -> FlatRecount
     ensures { λ r. ⌜ (r .number ≡ goodNumber (recountFor (now (journal .entry)) .good)) × (r .tallies ≡ flatTallies (recountFor (now (journal .entry)) .tallies)) ⌝ }
-    ensures claims { λ _. ⌜ RecountClaims × CrossingClaims ⌝ }
+    ensures promise { λ _. ⌜ RecountPromise ⌝ }
 {
     let counted = tallies::recount(journal);
     let tallies = counted.tallies;

@@ -6,7 +6,7 @@ use borrow.Author.Tests.{not-true, not-false}
 use Rattle.replay_states.specs.States.{isState}
 use Rattle.draugsten_replay.specs.Feeding.{flatEndOf}
 use Rattle.replay_states.proofs.States.{few, narrow}
-use Rattle.draugsten_replay.proofs.Claims.{boundary-claims}
+use Rattle.draugsten_replay.proofs.Promises.{replay-promise}
 use Rattle.draugsten_replay.proofs.feeding.draugsten_replay_end.Statement.{statement}
 use Rattle.draugsten_replay.proofs.feeding.draugsten_replay_end.Tie as tie
 
@@ -15,7 +15,7 @@ passed c = sym (c .before .is-state .ensures .0) ∙ not-false _ (c .if1 .left)
 
 returns : tie.Need-returns
 unfolding flatEndOf
-returns c = rw (sym (c .before .is-state .ensures .0) ∙ not-true _ (c .if1 .taken)) (refl, boundary-claims)
+returns c = rw (sym (c .before .is-state .ensures .0) ∙ not-true _ (c .if1 .taken)) (refl, replay-promise)
 
 replay-alone-requires : tie.Need-replay-alone-requires
 replay-alone-requires c κs = narrow _ (passed c)
@@ -25,7 +25,7 @@ end-requires c κs = rw (c .replay-alone .ensures) (few _ (passed (c .before)))
 
 returns-2 : tie.Need-returns-2
 unfolding flatEndOf
-returns-2 c = rw (passed (c .before .before .before), c .flat-report-of .ensures, c .before .end .ensures .0, c .before .before .replay-alone .ensures) (refl, boundary-claims)
+returns-2 c = rw (passed (c .before .before .before), c .flat-report-of .ensures, c .before .end .ensures .0, c .before .before .replay-alone .ensures) (refl, replay-promise)
 
 pub draugsten-replay-end-spec : {M : Type 1} → statement M
 draugsten-replay-end-spec =

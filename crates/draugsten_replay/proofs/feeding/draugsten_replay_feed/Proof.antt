@@ -6,12 +6,12 @@ use Rattle.counting.specs.Counts.{noCounts}
 use Rattle.replay_states.specs.States.{judged}
 use Rattle.replay_states.proofs.States.{taken, narrow, ready}
 use Rattle.draugsten_replay.proofs.Bursts.{feeds-refused, feeds-given}
-use Rattle.draugsten_replay.proofs.Claims.{boundary-claims}
+use Rattle.draugsten_replay.proofs.Promises.{replay-promise}
 use Rattle.draugsten_replay.proofs.feeding.draugsten_replay_feed.Statement.{statement}
 use Rattle.draugsten_replay.proofs.feeding.draugsten_replay_feed.Tie as tie
 
 returns : tie.Need-returns
-returns c = (feeds-refused _ _ _ _ _ _ _ _ (c .before .judge .ensures .0) (c .if1 .taken), boundary-claims)
+returns c = (feeds-refused _ _ _ _ _ _ _ _ (c .before .judge .ensures .0) (c .if1 .taken), replay-promise)
 
 -- the state and the buffers are taken
 zero-is : (c : tie.Else1) → judged (now (c .before .before .before .before .before .before .before .before .before .args .held)) (now (c .before .before .before .before .before .before .before .before .before .args .args)) (c .before .before .before .before .before .before .before .before .before .args .from) ≡ 0
@@ -30,7 +30,7 @@ returns-2 c =
     rw (c .flat-replay-of .ensures) (
       feeds-given _ _ _ _ _ _ _ noCounts _ _ _ _ (zero-is (c .before .before .before .before .before .before .before .before .before .before .before .before))
           (rw (c .before .before .before .before .before .before .before .before .replay-alone .ensures) at (c .before .before .before .before .before .before .before .feed .ensures .0)),
-      boundary-claims,
+      replay-promise,
     )
 
 pub draugsten-replay-feed-spec : {M : Type 1} → statement M

@@ -13,13 +13,13 @@ use Rattle.replay_states.proofs.Counted.{counts-within}
 use Rattle.draugsten_replay.specs.Month.{isCounting, monthAdded}
 use Rattle.draugsten_replay.proofs.Sessions.{state-of, counts-of}
 use Rattle.draugsten_replay.proofs.Months.{added-agreed, added-over}
-use Rattle.draugsten_replay.proofs.MonthClaims.{month-claims}
+use Rattle.draugsten_replay.proofs.Promises.{month-promise}
 use Rattle.draugsten_replay.proofs.month.draugsten_month_add.Statement.{statement}
 use Rattle.draugsten_replay.proofs.month.draugsten_month_add.Tie as tie
 
 returns : tie.Need-returns
 unfolding monthAdded
-returns c = rw (sym (c .before .is-counting .ensures) ∙ not-true _ (c .if1 .taken)) (refl, month-claims)
+returns c = rw (sym (c .before .is-counting .ensures) ∙ not-true _ (c .if1 .taken)) (refl, month-promise)
 
 -- the state and its counts are taken
 abbrev begun : tie.Else1 → tie.Start
@@ -53,7 +53,7 @@ returns-2 c =
     let e = c .before .before .before .before in
     let k = e .before .before in
     let going = not-true _ (sym (c .before .before .is-going .ensures) ∙ c .before .if2 .taken) in
-    rw (passed k, ← told e, c .add-counts .ensures, c .before .before .before .flat-report-of .ensures, added-agreed (begun k .args .totals) (e .end .result) _ going) (refl, month-claims)
+    rw (passed k, ← told e, c .add-counts .ensures, c .before .before .before .flat-report-of .ensures, added-agreed (begun k .args .totals) (e .end .result) _ going) (refl, month-promise)
 
 returns-3 : tie.Need-returns-3
 unfolding monthAdded
@@ -61,7 +61,7 @@ returns-3 c =
     let e = c .before .before .before in
     let k = e .before .before in
     let over = not-false _ (sym (c .before .is-going .ensures) ∙ c .if2 .left) in
-    rw (passed k, ← told e, c .before .before .flat-report-of .ensures, added-over (begun k .args .totals) (e .end .result) _ over) (refl, month-claims)
+    rw (passed k, ← told e, c .before .before .flat-report-of .ensures, added-over (begun k .args .totals) (e .end .result) _ over) (refl, month-promise)
 
 pub draugsten-month-add-spec : {M : Type 1} → statement M
 draugsten-month-add-spec =

@@ -9,12 +9,12 @@ use Rattle.replay_states.proofs.Counted.{counts-within}
 use Rattle.draugsten_replay.specs.Month.{judgedCounting}
 use Rattle.draugsten_replay.proofs.Sessions.{alone, counts-in}
 use Rattle.draugsten_replay.proofs.Countings.{counting-refused, counting-given}
-use Rattle.draugsten_replay.proofs.MonthClaims.{month-claims}
+use Rattle.draugsten_replay.proofs.Promises.{month-promise}
 use Rattle.draugsten_replay.proofs.month.draugsten_month_feed.Statement.{statement}
 use Rattle.draugsten_replay.proofs.month.draugsten_month_feed.Tie as tie
 
 returns : tie.Need-returns
-returns c = (counting-refused _ _ _ _ _ _ _ _ (c .before .judge-counting .ensures) (c .if1 .taken), month-claims)
+returns c = (counting-refused _ _ _ _ _ _ _ _ (c .before .judge-counting .ensures) (c .if1 .taken), month-promise)
 
 -- the state, its counts and the buffers are taken
 abbrev begun : tie.Else1 → tie.Start
@@ -49,7 +49,7 @@ returns-2 c =
     let k = c .before .before .before .before .before .before .before .before .before .before .before .before in
     rw (c .flat-counting-of .ensures) (
       counting-given _ _ _ _ _ (begun k .args .from) _ _ _ _ _ (rows-are (begun k)) (zero-is k) (rw (c .before .before .before .before .before .before .before .before .replay-of .ensures) at (c .before .before .before .before .before .before .before .feed .ensures .0)),
-      month-claims,
+      month-promise,
     )
 
 pub draugsten-month-feed-spec : {M : Type 1} → statement M

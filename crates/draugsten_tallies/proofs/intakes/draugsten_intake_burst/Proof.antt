@@ -1,20 +1,16 @@
 -- `intakes::draugsten_intake_burst` meets its contract.
 use mathlib.Core.Path.{sym, _∙_}
 use borrow.Author.Needs.{needs}
-use Rattle.tallies.proofs.Claims.{tally-claims}
-use Rattle.intake.proofs.Claims.{intake-claims}
-use Rattle.intake.proofs.Taken.{ready-exactly}
 use Rattle.draugsten_tallies.proofs.IntakeCrossed.{each-state}
-use Rattle.draugsten_tallies.proofs.IntakeTells.{intake-crossing}
-use Rattle.draugsten_tallies.proofs.CutReadings.{each-cut}
 use Rattle.draugsten_tallies.proofs.Answers.{burst-refused, burst-taken}
+use Rattle.draugsten_tallies.proofs.Promises.{intake-promise}
 use Rattle.draugsten_tallies.proofs.intakes.draugsten_intake_burst.Statement.{statement}
 use Rattle.draugsten_tallies.proofs.intakes.draugsten_intake_burst.Tie as tie
 
 returns : tie.Need-returns
 returns c =
     let told = c .before in
-    (burst-refused _ _ (told .before .before .intake-from .ensures) (told .state-number .ensures) (c .if1 .taken), (tally-claims, intake-claims, ready-exactly, intake-crossing, each-cut))
+    (burst-refused _ _ (told .before .before .intake-from .ensures) (told .state-number .ensures) (c .if1 .taken), intake-promise)
 
 burst-requires : tie.Need-burst-requires
 burst-requires c κs = let test = c .before .before in each-state _ _ _ .taken .0 (sym (test .before .state-number .ensures) ∙ test .if1 .left)
@@ -25,7 +21,7 @@ returns-2 c =
     let test = ran .before .before .before in
     let told = test .before in (
       burst-taken _ _ (told .before .before .intake-from .ensures) (told .state-number .ensures) _ (test .if1 .left) (ran .burst .ensures .0) (c .before .before .outcome-number .ensures) (c .before .record-for .ensures) (c .flat-intake .ensures),
-      (tally-claims, intake-claims, ready-exactly, intake-crossing, each-cut),
+      intake-promise,
     )
 
 pub draugsten-intake-burst-spec : {M : Type 1} → statement M
