@@ -25,6 +25,9 @@ const NOT_DONE: u8 = 1;
 const WRONG_USAGE: u8 = 2;
 const ASTRAY: u8 = 3;
 
+/// What the agreement of calls is about: a trace has no bytes of memory after a call.
+const COMPARED: &str = "compared: argument buffers; work areas are not part of a trace";
+
 /// The bytes of a trace between two looks at the progress.
 const PART: u64 = 262_144;
 
@@ -57,7 +60,7 @@ fn say(message: impl Display) {
     _ = writeln!(io::stderr(), "draugsten-replay: {message}");
 }
 
-/// Whether all calls agreed; or what could not be done, and what helps.
+/// Whether all calls agreed, and there was one if there has to be; or what could not be done, and what helps.
 fn run(options: &Options) -> Result<bool, String> {
     let journal = input::read_records("journal", options.journal.as_deref())?;
     let inventory = input::read_records("inventory", options.inventory.as_deref())?;
@@ -66,7 +69,7 @@ fn run(options: &Options) -> Result<bool, String> {
     let mut replay = Replay::new(&mut memory, &journal, &inventory, Edition(options.edition));
     let report = play(&mut replay, &mut trace)?;
     write(&tell(report, &replay, options))?;
-    Ok(report.is_agreed())
+    Ok(report.is_agreed() && !lacks_calls(report, options))
 }
 
 /// Replays a trace to its end, or to where it stops.
@@ -84,13 +87,32 @@ fn play(replay: &mut Replay<'_>, trace: &mut Stream) -> Result<Report, String> {
     }
 }
 
-/// The verdict, and below it what the call or the record is that it names.
+/// Whether the trace has no call, and nobody said that it may have none.
+fn lacks_calls(report: Report, options: &Options) -> bool {
+    report == Report::Agreed { calls: 0 } && !options.allow_empty
+}
+
+/// The verdict, and below it what was compared, or what the call or the record is that it names.
 fn tell(report: Report, replay: &Replay<'_>, options: &Options) -> String {
+    if lacks_calls(report, options) {
+        return tell_no_call(replay.records());
+    }
     let mut lines = vec![report.to_string()];
     match report {
-        Report::Agreed { .. } => {}
+        Report::Agreed { calls: 0 } => {}
+        Report::Agreed { .. } => lines.push(String::from(COMPARED)),
         Report::Differs { call, offset } => lines.extend(difference::tell(replay, call, offset, options)),
         Report::Malformed { record } => lines.push(flaw::tell(replay, record)),
     }
     lines.join("\n") + "\n"
+}
+
+/// Of a trace without a call: whether it is empty, or has records that set memory, so many.
+fn tell_no_call(records: u64) -> String {
+    let what = match records {
+        0 => String::from("is empty"),
+        1 => String::from("has 1 record, which sets memory"),
+        _ => format!("has {records} records, which all set memory"),
+    };
+    format!("no call\nthe trace {what}: nothing was compared; if that is meant, give --allow-empty\n")
 }

@@ -13,6 +13,8 @@ pub struct Options {
     pub journal: Option<PathBuf>,
     pub inventory: Option<PathBuf>,
     pub edition: u32,
+    /// Whether a trace without a call is taken as one that agrees.
+    pub allow_empty: bool,
     /// Standard input, where there is none.
     pub trace: Option<PathBuf>,
 }
@@ -25,6 +27,7 @@ struct Given {
     journal: Option<OsString>,
     inventory: Option<OsString>,
     edition: Option<OsString>,
+    allow_empty: bool,
     trace: Option<OsString>,
 }
 
@@ -46,6 +49,7 @@ fn judge(given: Given) -> Result<Options, String> {
         journal: given.journal.map(PathBuf::from),
         inventory: given.inventory.map(PathBuf::from),
         edition: edition as u32,
+        allow_empty: given.allow_empty,
         trace: given.trace.filter(|name| name != "-").map(PathBuf::from),
     })
 }
@@ -61,6 +65,10 @@ fn collect(mut arguments: impl Iterator<Item = OsString>) -> Result<Option<Given
             "--journal" => &mut given.journal,
             "--inventory" => &mut given.inventory,
             "--edition" => &mut given.edition,
+            "--allow-empty" => {
+                take_flag(&mut given.allow_empty, &name)?;
+                continue;
+            }
             "--help" | "-h" => return Ok(None),
             _ => {
                 take_trace(&mut given.trace, argument, &name)?;
@@ -69,10 +77,21 @@ fn collect(mut arguments: impl Iterator<Item = OsString>) -> Result<Option<Given
         };
         let value = arguments.next().ok_or(format!("{name} needs a value behind it"))?;
         if place.replace(value).is_some() {
-            return Err(format!("{name} is given twice"));
+            return Err(given_twice(&name));
         }
     }
     Ok(Some(given))
+}
+
+fn take_flag(flag: &mut bool, name: &str) -> Result<(), String> {
+    match std::mem::replace(flag, true) {
+        false => Ok(()),
+        true => Err(given_twice(name)),
+    }
+}
+
+fn given_twice(name: &str) -> String {
+    format!("{name} is given twice")
 }
 
 fn take_trace(trace: &mut Option<OsString>, argument: OsString, name: &str) -> Result<(), String> {
@@ -111,12 +130,28 @@ mod tests {
             journal: Some("j".into()),
             inventory: Some("i".into()),
             edition: 7,
+            allow_empty: true,
             trace: Some("t".into()),
         };
-        assert_eq!(of("--journal j --inventory i t --edition 7 --memory m"), Ok(expected));
-        let least = Options { memory: Memory::Zeros(0), journal: None, inventory: None, edition: 0, trace: None };
+        assert_eq!(of("--journal j --inventory i t --edition 7 --allow-empty --memory m"), Ok(expected));
+        let least = Options {
+            memory: Memory::Zeros(0),
+            journal: None,
+            inventory: None,
+            edition: 0,
+            allow_empty: false,
+            trace: None,
+        };
         assert_eq!(of("--memory-size 0").as_ref(), Ok(&least));
         assert_eq!(of("- --memory-size 0x0").as_ref(), Ok(&least));
+    }
+
+    #[test]
+    fn an_option_without_a_value_takes_none() {
+        let options = of("--allow-empty t --memory-size 0").unwrap();
+        assert_eq!((options.allow_empty, options.trace), (true, Some("t".into())));
+        let options = of("--memory-size 0 --journal --allow-empty").unwrap();
+        assert_eq!((options.allow_empty, options.journal), (false, Some("--allow-empty".into())));
     }
 
     #[test]
@@ -160,6 +195,8 @@ mod tests {
             ("--memory m --memory-size 1", "--memory and --memory-size are given both; give one"),
             ("--memory-size 1 --journal", "--journal needs a value behind it"),
             ("--journal a --journal b --memory-size 1", "--journal is given twice"),
+            ("--allow-empty --memory-size 1 --allow-empty", "--allow-empty is given twice"),
+            ("--allow-empty=1 --memory-size 1", "unknown argument --allow-empty=1"),
             ("--memory-size 1 a b", "there is one trace, and after a was given b"),
             ("--memory-size 1 - b", "there is one trace, and after - was given b"),
             ("--memory-size 1 --wat", "unknown argument --wat"),

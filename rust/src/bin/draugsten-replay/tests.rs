@@ -20,11 +20,16 @@ fn buffer(words: &[u32]) -> Vec<u8> {
     words.iter().flat_map(|word| word.to_be_bytes()).collect()
 }
 
+/// So many zero bytes of memory, and nothing else given.
+fn over(size: u64) -> Options {
+    let memory = Memory::Zeros(size);
+    Options { memory, journal: None, inventory: None, edition: 0, allow_empty: false, trace: None }
+}
+
 /// The text of a trace that ends here, over 16 bytes of memory, an empty journal and an empty inventory.
 fn told(trace: &[u8]) -> Vec<String> {
     let journal = Some("journal".into());
-    let options = Options { memory: Memory::Zeros(16), inventory: journal.clone(), journal, edition: 0, trace: None };
-    told_over(&mut [0; 16], trace, &options)
+    told_over(&mut [0; 16], trace, &Options { inventory: journal.clone(), journal, ..over(16) })
 }
 
 fn told_over(memory: &mut [u8], trace: &[u8], options: &Options) -> Vec<String> {
@@ -35,8 +40,38 @@ fn told_over(memory: &mut [u8], trace: &[u8], options: &Options) -> Vec<String> 
 
 #[test]
 fn calls_that_agree_are_counted() {
-    assert_eq!(told(&[]), ["agreed 0"]);
-    assert_eq!(told(&[call(&[], &[]), call(&[1], &[1])].concat()), ["agreed 2"]);
+    let compared = "compared: argument buffers; work areas are not part of a trace";
+    assert_eq!(told(&call(&[], &[])), ["agreed 1", compared]);
+    let two = [record(34, &[0; 5]), call(&[], &[]), call(&[1], &[1])].concat();
+    assert_eq!(told(&two), ["agreed 2", compared]);
+    assert_eq!(told_over(&mut [0; 16], &two, &Options { allow_empty: true, ..over(16) }), ["agreed 2", compared]);
+}
+
+#[test]
+fn a_trace_without_a_call() {
+    let rest = ": nothing was compared; if that is meant, give --allow-empty";
+    let setting = record(34, &[0; 5]);
+    let cases = [
+        (0, "the trace is empty"),
+        (1, "the trace has 1 record, which sets memory"),
+        (2, "the trace has 2 records, which all set memory"),
+    ];
+    for (number, what) in cases {
+        let trace = setting.repeat(number);
+        assert_eq!(told(&trace), ["no call", &format!("{what}{rest}")]);
+        assert_eq!(told_over(&mut [0; 16], &trace, &Options { allow_empty: true, ..over(16) }), ["agreed 0"]);
+    }
+}
+
+#[test]
+fn what_goes_astray_before_any_call_is_told_as_ever() {
+    for allow_empty in [false, true] {
+        let of = |trace: &[u8]| told_over(&mut [0; 16], trace, &Options { allow_empty, ..over(16) });
+        assert_eq!(of(&[7]), ["malformed record 1", "record 1 is cut off by the end, inside its length"]);
+        let alone = "record 1 is a 32 without its 33: the trace ends behind it";
+        assert_eq!(of(&record(32, &[])), ["malformed record 1", alone]);
+        assert_eq!(of(&call(&[], &[7]))[0], "differs call 1 at 0");
+    }
 }
 
 #[test]
@@ -139,10 +174,9 @@ fn a_buffer_without_a_status() {
 
 /// The last line of a call that differs in its last byte, over 4,096 zero bytes, where only memory was given.
 fn last(before: &[u8]) -> String {
-    let options = Options { memory: Memory::Zeros(4096), journal: None, inventory: None, edition: 0, trace: None };
     let mut after = before.to_vec();
     *after.last_mut().unwrap() = 7;
-    told_over(&mut [0; 4096], &call(before, &after), &options).pop().unwrap()
+    told_over(&mut [0; 4096], &call(before, &after), &over(4096)).pop().unwrap()
 }
 
 /// A get-indices for a sensor.
