@@ -44,7 +44,7 @@ fn main() -> ExitCode {
 fn end(done: Result<End, String>) -> ExitCode {
     match done {
         Ok(End::Added) => ExitCode::SUCCESS,
-        Ok(End::Refused) => ExitCode::from(REFUSED),
+        Ok(End::Refused | End::Empty) => ExitCode::from(REFUSED),
         Ok(End::Unread) => ExitCode::from(NOT_DONE),
         Err(message) => {
             say(message);

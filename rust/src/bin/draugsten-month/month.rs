@@ -39,6 +39,8 @@ pub enum End {
     Added,
     Refused,
     Unread,
+    /// There was nothing to add: no session, and no table.
+    Empty,
 }
 
 impl<'a> Month<'a> {
@@ -117,11 +119,25 @@ impl<'a> Month<'a> {
                 self.unread
             ));
         }
-        Ok(match (self.unread, self.sessions.refused + self.tables.refused) {
+        if self.is_empty() {
+            let what = "has no session, and no --merge is given; if that is meant, give --allow-empty";
+            say(format_args!("{} {what}", self.list));
+        }
+        Ok(self.end())
+    }
+
+    fn end(&self) -> End {
+        match (self.unread, self.sessions.refused + self.tables.refused) {
+            (0, 0) if self.is_empty() => End::Empty,
             (0, 0) => End::Added,
             (0, _) => End::Refused,
             _ => End::Unread,
-        })
+        }
+    }
+
+    /// Whether nothing was there to be added, and nobody said that this may be.
+    fn is_empty(&self) -> bool {
+        self.sessions() == 0 && self.options.tables.is_empty() && !self.options.allow_empty
     }
 
     fn text(&self) -> String {

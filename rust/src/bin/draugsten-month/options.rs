@@ -13,6 +13,8 @@ const THREADS_LIMIT: u64 = 1024;
 #[derive(PartialEq, Eq, Debug, Default)]
 pub struct Options {
     pub csv: bool,
+    /// Whether a list without a session is taken, if no table is given either.
+    pub allow_empty: bool,
     pub tables: Vec<PathBuf>,
     /// As many as there are cores, where there is none.
     pub threads: Option<usize>,
@@ -24,6 +26,7 @@ pub struct Options {
 #[derive(Default)]
 struct Given {
     csv: bool,
+    allow_empty: bool,
     tables: Vec<PathBuf>,
     threads: Option<OsString>,
     list: Option<OsString>,
@@ -38,6 +41,7 @@ fn judge(given: Given) -> Result<Options, String> {
     let threads = given.threads.map(|text| number("--threads", &text, 1..=THREADS_LIMIT)).transpose()?;
     Ok(Options {
         csv: given.csv,
+        allow_empty: given.allow_empty,
         tables: given.tables,
         threads: threads.map(|threads| threads as usize),
         list: given.list.filter(|name| name != "-").map(PathBuf::from),
@@ -52,6 +56,7 @@ fn collect(mut arguments: impl Iterator<Item = OsString>) -> Result<Option<Given
         let mut value = || arguments.next().ok_or(format!("{name} needs a value behind it"));
         let again = match name.as_str() {
             "--csv" => std::mem::replace(&mut given.csv, true),
+            "--allow-empty" => std::mem::replace(&mut given.allow_empty, true),
             "--merge" => {
                 given.tables.push(value()?.into());
                 false
@@ -107,11 +112,14 @@ mod tests {
         assert_eq!(of("-"), Ok(Options::default()));
         let expected = Options {
             csv: true,
+            allow_empty: true,
             tables: vec!["a".into(), "--csv".into(), "a".into()],
             threads: Some(16),
             list: Some("l".into()),
         };
-        assert_eq!(of("--merge a l --csv --merge --csv --threads 0x10 --merge a"), Ok(expected));
+        assert_eq!(of("--merge a l --csv --merge --csv --threads 0x10 --allow-empty --merge a"), Ok(expected));
+        assert_eq!(of("--allow-empty"), Ok(Options { allow_empty: true, ..Options::default() }));
+        assert!(!of("--merge --allow-empty").unwrap().allow_empty);
     }
 
     #[test]
@@ -126,6 +134,7 @@ mod tests {
         let threads = "--threads needs a number from 1 to 1024, decimal or behind 0x hexadecimal, and was given ";
         let cases = [
             ("--csv --csv", String::from("--csv is given twice")),
+            ("--allow-empty l --allow-empty", String::from("--allow-empty is given twice")),
             ("--threads 1 --threads 1", String::from("--threads is given twice")),
             ("--threads 0", format!("{threads}0")),
             ("--threads 1025", format!("{threads}1025")),
