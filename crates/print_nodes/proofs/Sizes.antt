@@ -7,7 +7,7 @@ use native.Mathlib.Omega.{arith}
 use lib.Dec.{eqb}
 use lib.ListN.{length, take, drop, length-append, length-drop}
 use lib.Seq.{sets, length-take-le}
-use borrow.Author.Tests.{eqb-true, ne-eqb, not-false}
+use borrow.Author.Tests.{eqb-true, eq-eqb, ne-eqb, not-false}
 use Rattle.words.specs.Numbers.{words}
 use Rattle.words.proofs.Words.{length-words}
 use Rattle.journal.specs.declared.operation.Operation.{Operation}
@@ -18,13 +18,17 @@ use Rattle.node_area.specs.declared.reading.Refusal.the-variants.{Size, Reserve
 use Rattle.node_area.specs.declared.reading.Check.the-variants.{Entries, Refused}
 use Rattle.words.specs.Reading.{Reading, read, refused}
 use Rattle.node_area.specs.Reading.{Verdict, good, bad, verdict, reading, readBy, refusalNumber, operationsAt, opcodeIn, countIn, checkOf}
-use Rattle.node_area.specs.Head.{areaSize, headSize, stateIn, isReserved}
+use Rattle.node_area.specs.Head.{areaSize, headSize, stateIn, unitIn, reservedFrom, isReserved}
 use Rattle.node_area.specs.Cursor.{remaining, startOf}
 use Rattle.node_area.proofs.Verdicts.{entries-in-order}
 use Rattle.printing.specs.Put.{Fits}
-use Rattle.printing.specs.Text.{newline, space, state-, delete-, end-, ended, operand, refusalLine}
-use Rattle.printing.proofs.Sizes.{length-ended, length-operand, refusal-fits, inside-buffer}
-use Rattle.print_nodes.specs.Text.{update-, add-, line, lines, assumedScope, text, textOf, LongInput}
+use Rattle.printing.specs.Text.{hexDigits, newline, space, state-, delete-, end-, numbered, ended, operand, refusalLine}
+use Rattle.words.proofs.Claims.{numbers-exactly, zeros-exactly}
+use Rattle.node_area.proofs.ReaderClaims.{node-reader-exactly}
+use Rattle.printing.proofs.Digits.{digits-exactly}
+use Rattle.printing.proofs.Sizes.{length-hexDigits, length-ended, length-operand, length-refusal, inside-buffer}
+use Rattle.print_nodes.specs.Text.{update-, add-, unit-, line, lines, unitLine, text, textOf}
+use Rattle.print_nodes.specs.Claims.{TextExactly, LongInput, PrintNodesPromise}
 
 length-line : (o : Operation) → length (line o) ≤ 22
 unfolding line
@@ -47,69 +51,118 @@ length-operations (w ∷ []) code (suc n) = choose (eqb code 3) (λ (os : List O
 length-operations (w ∷ v ∷ ws) code (suc n) =
     choose (eqb code 3) (λ (os : List Operation). length os ≤ suc (suc (length ws))) (λ _. omega (arith, length-operations ws code (n - 1))) (λ _. omega (arith, length-operations (v ∷ ws) code n))
 
-read-of : (a b : Bool) (v : Verdict) (os ps : List Operation) → cond a (refused Size 0) (cond b (refused Reserved 4) (readBy v os)) ≡ read ps → (a ≡ false) × (os ≡ ps)
-read-of true b v os ps e = (cc, cc)
-read-of false true v os ps e = (cc, cc)
-read-of false false good os ps e = (refl, cc)
-read-of false false (bad r at) os ps e = (cc, cc)
+read-of : (a b : Bool) (k : ℕ) (v : Verdict) (os ps : List Operation) → cond a (refused Size 0) (cond b (refused Reserved k) (readBy v os)) ≡ read ps → (a ≡ false) × (os ≡ ps)
+read-of true b k v os ps e = (cc, cc)
+read-of false true k v os ps e = (cc, cc)
+read-of false false k good os ps e = (refl, cc)
+read-of false false k (bad r at) os ps e = (cc, cc)
 
 -- an area that is read
 record Area (area : List ℕ) (os : List Operation) : Type 0 where
   pub size : length area ≡ areaSize
   pub few : length os ≤ 1024
 
-area-read : (area : List ℕ) (os : List Operation) → reading assumedScope area ≡ read os → Area area os
+area-read : (scope : ℕ) (area : List ℕ) (os : List Operation) → reading scope area ≡ read os → Area area os
 unfolding reading
-area-read area os e =
+area-read scope area os e =
     let ws = drop 4 (words area) in
-    let r = read-of (not (eqb (length area) areaSize)) (not (isReserved assumedScope area)) (verdict 0 headSize 0 ws) (operationsAt ws 0 0) os e in
+    let r = read-of (not (eqb (length area) areaSize)) (not (isReserved scope area)) (reservedFrom scope) (verdict 0 headSize 0 ws) (operationsAt ws 0 0) os e in
     let size : length area ≡ areaSize = eqb-true (length area) areaSize (not-false (eqb (length area) areaSize) (r .0)) in
     record { size = size; few = rw (← (r .1)) (omega (arith, length-operations ws 0 0, length-drop 4 (words area), length-words 1024 area size)) }
 
--- ---- the text, from what a check tells of an area
+-- ---- the text, from what a check gives of an area
 
-module _ (input : List ℕ) where
-  -- the text of an area with n operations
-  pub area-text : (n state : ℕ) → checkOf (reading assumedScope input) ≡ Entries n → state ≡ stateIn input
-      → (length input ≡ areaSize) × (text input ≡ ended state- state ++ (lines (remaining input startOf) ++ ended end- n))
+module _ (scope : ℕ) (input : List ℕ) where
+  text-read : (os : List Operation) → reading scope input ≡ read os
+      → text scope input ≡ ended state- (stateIn input) ++ (unitLine scope input ++ (lines os ++ ended end- (length os)))
   unfolding text
-  area-text n state e w = go (reading assumedScope input) refl e
+  text-read os e = rw e
+
+  text-refused : (r : Refusal) (at : ℕ) → reading scope input ≡ refused r at → text scope input ≡ refusalLine (refusalNumber r) at
+  unfolding text
+  text-refused r at e = rw e
+
+  -- the text of an area with n operations
+  pub area-text : (n state : ℕ) → checkOf (reading scope input) ≡ Entries n → state ≡ stateIn input
+      → (length input ≡ areaSize) × (text scope input ≡ ended state- state ++ (unitLine scope input ++ (lines (remaining input startOf) ++ ended end- n)))
+  area-text n state e w = go (reading scope input) refl e
     where
-      go : (r : Reading Operation Refusal) → reading assumedScope input ≡ r → checkOf r ≡ Entries n
-          → (length input ≡ areaSize) × (textOf (stateIn input) (reading assumedScope input) ≡ ended state- state ++ (lines (remaining input startOf) ++ ended end- n))
-      go (read os) g h = let same : length os ≡ n = cc in (area-read input os g .size, rw (g, entries-in-order assumedScope input os g, same, w))
+      go : (r : Reading Operation Refusal) → reading scope input ≡ r → checkOf r ≡ Entries n
+          → (length input ≡ areaSize) × (text scope input ≡ ended state- state ++ (unitLine scope input ++ (lines (remaining input startOf) ++ ended end- n)))
+      go (read os) g h = let same : length os ≡ n = cc in (area-read scope input os g .size, text-read os g ∙ rw (entries-in-order scope input os g, same, w))
       go (refused r at) g h = (cc, cc)
 
-  pub refused-text : (r : Refusal) (at : ℕ) → checkOf (reading assumedScope input) ≡ Refused r at → text input ≡ refusalLine (refusalNumber r) at
-  unfolding text
-  refused-text r at e = go (reading assumedScope input) refl e
+  pub refused-text : (r : Refusal) (at : ℕ) → checkOf (reading scope input) ≡ Refused r at → text scope input ≡ refusalLine (refusalNumber r) at
+  refused-text r at e = go (reading scope input) refl e
     where
-      go : (x : Reading Operation Refusal) → reading assumedScope input ≡ x → checkOf x ≡ Refused r at → textOf (stateIn input) (reading assumedScope input) ≡ refusalLine (refusalNumber r) at
+      go : (x : Reading Operation Refusal) → reading scope input ≡ x → checkOf x ≡ Refused r at → text scope input ≡ refusalLine (refusalNumber r) at
       go (read os) g h = cc
-      go (refused q k) g h = let same : _≡_ {A = Reading Operation Refusal} (refused q k) (refused r at) = cc in rw g (ap (textOf (stateIn input)) same)
+      go (refused q k) g h = let same : _≡_ {A = Reading Operation Refusal} (refused q k) (refused r at) = cc in text-refused r at (g ∙ same)
 
--- ---- the text fits
+  -- ---- the line of the unit
 
-pub text-fits : (input : List ℕ) → Fits 0 (text input)
-unfolding text
-text-fits input = go (reading assumedScope input) refl
-  where
-    go : (r : Reading Operation Refusal) → reading assumedScope input ≡ r → Fits 0 (textOf (stateIn input) (reading assumedScope input))
-    go (read os) g =
-        let first = ended state- (stateIn input) in
-        let last = ended end- (length os) in
-        rw g (omega (arith, area-read input os g .few, length-append first (lines os ++ last), length-append (lines os) last, length-ended state- (stateIn input), length-lines os, length-ended end- (length os)))
-    go (refused r at) g = rw g (refusal-fits (refusalNumber r) at)
+  pub unit-none : (scope ≡ 3 → ⊥) → unitLine scope input ≡ []
+  unit-none h = rw (ne-eqb scope 3 h)
 
--- the text stays inside its buffer
-pub text-room : (input l m : List ℕ) (r : ℕ) → length l ≡ 32768 → r ≡ length (text input) → m ≡ sets l 0 (text input) → r ≤ length m
-text-room input l m r size e s = inside-buffer (text input) l m r (text-fits input) size e s
+  pub unit-some : scope ≡ 3 → unitLine scope input ≡ (unit- ++ hexDigits 16 (unitIn input)) ++ newline
+  unit-some h = rw (eq-eqb scope 3 h)
 
--- ---- an input that is no area
+  -- ---- the text fits
 
-wrong-size : (input : List ℕ) → (length input ≡ areaSize → ⊥) → text input ≡ refusalLine 20 0
-unfolding text reading
-wrong-size input h = rw (ne-eqb (length input) areaSize h)
+  length-unit : length (unitLine scope input) ≤ 22
+  length-unit =
+      choose (eqb scope 3) (λ (s : List ℕ). length s ≤ 22)
+      (λ _. omega (arith, length-append (unit- ++ hexDigits 16 (unitIn input)) newline, length-append unit- (hexDigits 16 (unitIn input)), length-hexDigits 16 (unitIn input)))
+      (λ _. omega arith)
 
-pub long-input : LongInput
-long-input input h = wrong-size (take 4097 input) (λ e. omega (arith, length-take-le 4097 input (omega arith))) ∙ sym (wrong-size input (λ e. omega arith))
+  pub text-fits : (out : List ℕ) → 32768 ≤ length out → Fits out 0 (text scope input)
+  text-fits out room = go (reading scope input) refl
+    where
+      go : (r : Reading Operation Refusal) → reading scope input ≡ r → Fits out 0 (text scope input)
+      go (read os) g =
+          let first = ended state- (stateIn input) in
+          let unit = unitLine scope input in
+          let last = ended end- (length os) in
+          rw (text-read os g)
+          (omega (arith, area-read scope input os g .few, length-append first (unit ++ (lines os ++ last)), length-append unit (lines os ++ last), length-append (lines os) last, length-unit, length-ended state- (stateIn input), length-lines os, length-ended end- (length os)))
+      go (refused r at) g = rw (text-refused r at g) (omega (arith, length-refusal (refusalNumber r) at))
+
+  -- the text stays inside its buffer
+  pub text-room : (l m : List ℕ) (r : ℕ) → length l ≡ 32768 → r ≡ length (text scope input) → m ≡ sets l 0 (text scope input) → r ≤ length m
+  text-room l m r size e s = inside-buffer (text scope input) l m r (text-fits l (omega arith)) e s
+
+  -- ---- an input that is no area
+
+  wrong-size : (length input ≡ areaSize → ⊥) → text scope input ≡ refusalLine 20 0
+  unfolding text reading
+  wrong-size h = rw (ne-eqb (length input) areaSize h)
+
+long-input : LongInput
+long-input scope input h = wrong-size scope (take 4097 input) (λ e. omega (arith, length-take-le 4097 input (omega arith))) ∙ sym (wrong-size scope input (λ e. omega arith))
+
+-- ---- the text in bytes
+
+text-exactly : TextExactly
+unfolding lines line ended numbered operand
+text-exactly =
+    record {
+      area = text-read;
+      unit = λ input. refl;
+      no-unit = unit-none;
+      refusal = λ scope input number at h. text-refused scope input (h .0) at (h .1 .1) ∙ rw (h .1 .0);
+      none = refl;
+      delete = λ p os. refl;
+      update = λ p os. refl;
+      add = λ p i os. refl;
+    }
+
+pub promise : PrintNodesPromise
+promise =
+    record {
+      text-exactly = text-exactly;
+      digits = digits-exactly;
+      long-input = long-input;
+      reader = node-reader-exactly;
+      numbers = numbers-exactly;
+      zeros = zeros-exactly;
+    }

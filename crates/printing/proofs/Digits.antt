@@ -10,6 +10,7 @@ use borrow.Author.Tests.{lt-ltb, le-ltb, ltb-true, ltb-false}
 use Rattle.words.proofs.Choice.{decide}
 use Rattle.io.specs.Digits.{Fewest, digits as io·digits}
 use Rattle.printing.specs.Text.{digits, decimal, hexDigits}
+use Rattle.printing.specs.Claims.{DigitsExactly}
 
 -- one digit
 last : (v : ℕ) → io·digits 10 1 v ≡ (48 + v % 10) ∷ []
@@ -47,3 +48,22 @@ hex-digits n v k some few h w =
     let least : min (max n 1) 16 ≡ n = rw (max-eq-left some) (min-eq-left few) in
     let all : Fewest 16 n v k = rw least at w in
     hex-same k v ∙ ap (λ (m : ℕ). hexDigits m v) (omega (arith, all .0, short 16 n v k n (omega arith) (omega arith) h all))
+
+-- ---- the digits one after the other
+
+-- room for one digit more makes no difference
+digits-room : (n v : ℕ) → v < 10 ^ suc n → digits (suc (suc n)) v ≡ digits (suc n) v
+unfolding digits
+digits-room zero v h = rw (lt-ltb v 10 h)
+digits-room (suc n) v h = rw (digits-room n (v / 10) (omega (arith, pow-suc 10 (suc n))))
+
+pub digits-exactly : DigitsExactly
+unfolding digits decimal hexDigits
+digits-exactly =
+    record {
+      one = λ v h. rw (lt-ltb v 10 h);
+      more = λ v h l. rw (le-ltb v 10 h, digits-room 18 (v / 10) (omega arith));
+      none = λ v. refl;
+      low = λ n v h. rw (lt-ltb (v % 16) 10 h);
+      high = λ n v h. rw (le-ltb (v % 16) 10 h);
+    }

@@ -6,16 +6,20 @@ use native.Mathlib.Nat.{add-zero}
 use native.Mathlib.Numerals.{add-one}
 use native.Mathlib.Omega.{arith}
 use lib.ListN.{length, take, getD, set, length-append}
-use lib.Seq.{sets, take-suc, take-all, length-take-le}
+use lib.Seq.{sets, length-sets, take-suc, take-all, length-take-le}
 use Rattle.words.proofs.Stores.{sets-append}
 use Rattle.printing.specs.Put.{Fits, Put}
 
--- a text that fits: its first part fits, and the rest behind it
-pub fits-first : (at : ℕ) (us vs : List ℕ) → Fits at (us ++ vs) → Fits at us
+-- a put keeps the length of the buffer
+pub put-length : {l m us : List ℕ} {at b : ℕ} → Put l m at b us → length m ≡ length l
+put-length {l} {m} {us} {at} p = rw (p .stored) (length-sets l at us)
+
+-- a text that fits: its first part fits, and the rest after it
+pub fits-first : {room : ℕ} (at : ℕ) (us vs : List ℕ) → at + length (us ++ vs) ≤ room → at + length us ≤ room
 fits-first at us vs h = omega (arith, length-append us vs)
 
-pub fits-then : {l m us : List ℕ} {at b : ℕ} (vs : List ℕ) → Fits at (us ++ vs) → Put l m at b us → Fits b vs
-fits-then {us = us} vs h p = omega (arith, length-append us vs, p .place)
+pub fits-then : {l m us : List ℕ} {at b : ℕ} (vs : List ℕ) → Fits l at (us ++ vs) → Put l m at b us → Fits m b vs
+fits-then {us = us} vs h p = omega (arith, length-append us vs, p .place, put-length p)
 
 pub put-none : (l : List ℕ) (at : ℕ) → Put l l at at []
 put-none l at = record { place = sym (add-zero at); stored = refl }
@@ -44,6 +48,9 @@ module _ {bytes l m : List ℕ} {at i to : ℕ} (p : Copied bytes l at m i to) w
   pub copied-place : to ≡ at + i
   copied-place = omega (arith, p .put .place, p .inside, length-take-le i bytes (p .inside))
 
+  pub copied-length : length m ≡ length l
+  copied-length = put-length (p .put)
+
   pub copied-byte : i < length bytes → Copied bytes l at (set m to (getD bytes i 0)) (i + 1) (to + 1)
   copied-byte h = record { inside = omega arith; put = rw (add-one i, take-suc bytes i 0 h) (put-then (p .put) (put-byte m to (getD bytes i 0))) }
 
@@ -54,10 +61,10 @@ module _ {bytes l m : List ℕ} {at i to : ℕ} (p : Copied bytes l at m i to) w
 
 -- a part of a text is put, and the rest is still to come
 pub record Ahead (all l : List ℕ) (at : ℕ) (m : List ℕ) (to : ℕ) (rest : List ℕ) : Type 0 where
-  pub fits : Fits to rest
+  pub fits : Fits m to rest
   pub whole : {n : List ℕ} {b : ℕ} → Put m n to b rest → Put l n at b all
 
-pub ahead-first : (all l : List ℕ) (at : ℕ) → Fits at all → Ahead all l at l at all
+pub ahead-first : (all l : List ℕ) (at : ℕ) → Fits l at all → Ahead all l at l at all
 ahead-first all l at h = record { fits = h; whole = λ p. p }
 
 module _ {all l m : List ℕ} {at to : ℕ} where

@@ -33,9 +33,9 @@ pub length-operand : (word : List ℕ) (v : ℕ) → length (operand word v) ≡
 unfolding operand
 length-operand word v = rw (length-append, length-hexDigits 8 v)
 
-pub refusal-fits : (n at : ℕ) → Fits 0 (refusalLine n at)
-refusal-fits n at = omega (arith, length-append (numbered refused- n) (ended -at- at), length-numbered refused- n, length-ended -at- at)
+pub length-refusal : (n at : ℕ) → length (refusalLine n at) ≤ 53
+length-refusal n at = omega (arith, length-append (numbered refused- n) (ended -at- at), length-numbered refused- n, length-ended -at- at)
 
 -- a text that fits stays inside its buffer
-pub inside-buffer : (t l m : List ℕ) (r : ℕ) → Fits 0 t → length l ≡ 32768 → r ≡ length t → m ≡ sets l 0 t → r ≤ length m
-inside-buffer t l m r fits size e s = rw (s, length-sets l 0 t) (omega arith)
+pub inside-buffer : (t l m : List ℕ) (r : ℕ) → Fits l 0 t → r ≡ length t → m ≡ sets l 0 t → r ≤ length m
+inside-buffer t l m r fits e s = rw (s, length-sets l 0 t) (omega arith)

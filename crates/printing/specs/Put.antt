@@ -7,13 +7,13 @@ use lib.Seq.{sets}
 use Rattle.printing.specs.declared.channel.Input.{Input}
 use Rattle.printing.specs.declared.channel.Input.the-variants.{Bytes, Unread}
 
--- bytes fit the buffer from a place on
-abbrev pub Fits : ℕ → List ℕ → Type 0
-Fits at bytes = at + length bytes ≤ 32768
+-- bytes fit a buffer from a place on
+abbrev pub Fits : List ℕ → ℕ → List ℕ → Type 0
+Fits out at bytes = at + length bytes ≤ length out
 
--- bytes were put into a buffer from a place on, and every other byte stays; the place behind them is told
-pub record Put (before after : List ℕ) (at behind : ℕ) (bytes : List ℕ) : Type 0 where
-  pub place : behind ≡ at + length bytes
+-- bytes were put into a buffer from a place on, and every other byte stays; `end` is the place after them
+pub record Put (before after : List ℕ) (at end : ℕ) (bytes : List ℕ) : Type 0 where
+  pub place : end ≡ at + length bytes
   pub stored : after ≡ sets before at bytes
 
 -- what reading an input gives counts bytes of the buffer

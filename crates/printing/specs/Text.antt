@@ -1,8 +1,8 @@
--- What the texts of both printing programs are made of (document 01, "Readings on both sides of the lines").
+-- What the texts of the printing programs are made of (document 01, "Readings on both sides of the lines").
 use Prim.Native.Nat.{ℕ, zero, suc, _+_, _/_, _%_}
-use mathlib.Core.Bool.{cond}
+use mathlib.Core.Bool.{Bool, cond, not, _&&_}
 use mathlib.Core.List.{List, [], _∷_, _++_}
-use lib.Dec.{ltb}
+use lib.Dec.{ltb, eqb}
 
 -- The decimal digits of a number, at most n of them, with no zero in front.
 unfoldable pub digits : ℕ → ℕ → List ℕ
@@ -49,7 +49,7 @@ abbrev pub -at- : List ℕ
 -at- = 32 ∷ 97 ∷ 116 ∷ 32 ∷ []
 
 -- 01: "State, count, refusal and offset are decimal, operands eight hexadecimal digits."
--- a number behind a word, the same at the end of a line, and an operand behind a word
+-- a number after a word, the same at the end of a line, and an operand after a word
 unfoldable pub numbered : List ℕ → ℕ → List ℕ
 numbered word v = word ++ decimal v
 
@@ -62,3 +62,25 @@ operand word v = word ++ hex v
 -- 01: "For a refusal it writes one line and no other, as `refused 27 at 4096`."
 abbrev pub refusalLine : ℕ → ℕ → List ℕ
 refusalLine number at = numbered refused- number ++ ended -at- at
+
+-- what is written for each byte of a list, in a row
+unfoldable pub each : (ℕ → List ℕ) → List ℕ → List ℕ
+each f [] = []
+each f (b ∷ bs) = f b ++ each f bs
+
+-- a byte in two hexadecimal digits
+abbrev pub hexByte : ℕ → List ℕ
+hexByte b = hexDigits 2 b
+
+-- A byte of a name or a code: itself from 0x21 to 0x7e, but for the backslash; any other as \xNN, so that no name can forge a line.
+abbrev pub isShown : ℕ → Bool
+isShown b = ltb 32 b && ltb b 127
+
+abbrev pub isPlain : ℕ → Bool
+isPlain b = isShown b && not (eqb b 92)
+
+unfoldable pub nameByte : ℕ → List ℕ
+nameByte b = cond (isPlain b) (b ∷ []) ((92 ∷ 120 ∷ []) ++ hexByte b)
+
+abbrev pub named : List ℕ → List ℕ → List ℕ
+named word name = word ++ each nameByte name

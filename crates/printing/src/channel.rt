@@ -1,4 +1,4 @@
-// Standard input and output of a printing program. Where one fails, a line on standard error says so.
+// Standard input and output of a printing program. If one fails, a line on standard error says so.
 ghost use Rattle.printing.specs.Put.{Given};
 
 // What reading gives: so many bytes, or an input that could not be read.
@@ -7,8 +7,8 @@ pub enum Input {
     Unread,
 }
 
-// Writes a line on standard error.
-fn say(program: &[u8], line: &[u8]) {
+// Writes a line of a program on standard error.
+pub fn say(program: &[u8], line: &[u8]) {
     io::write_all(libc::STDERR_FILENO, program);
     io::write_all(libc::STDERR_FILENO, line);
 }
@@ -19,17 +19,17 @@ fn is_at_end() -> bool {
     libc::read(libc::STDIN_FILENO, &mut next) == 0
 }
 
-// Whether an input of so many bytes was read as far as its text depends on it.
-fn is_read(n: usize) -> bool {
-    n == 4097 || is_at_end()
+// Whether an input of so many bytes filled its buffer, or was read to its end.
+fn is_read(n: usize, size: usize) -> bool {
+    n == size || is_at_end()
 }
 
-// Reads one byte more than an area has: an input that is longer is refused whatever follows.
-pub fn read_input(program: &[u8], input: &mut [u8; 4097]) -> Input
+// Reads an input into a buffer that has one byte more than the longest input whose text is printed.
+pub fn read_input(program: &[u8], input: &mut [u8]) -> Input
     ensures { λ r. ⌜ Given r (now (input .exit)) ⌝ }
 {
     let n = io::read_full(libc::STDIN_FILENO, input);
-    if is_read(n) {
+    if is_read(n, input.len()) {
         return Input::Bytes(n);
     }
     say(

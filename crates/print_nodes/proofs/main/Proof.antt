@@ -10,13 +10,13 @@ use Rattle.print_nodes.proofs.main.Tie as tie
 
 -- the bytes that were read are inside their buffer, and so is the text
 array-share-prefix-input : tie.Need-array-share-prefix-input
-array-share-prefix-input c = rw (c .before .found .given .1) at (c .before .before .before .read-input .ensures)
+array-share-prefix-input c = rw (c .before .found .given .1) at (c .before .before .before .before .read-input .ensures)
 
 slice-aggregate-print-area : tie.Need-slice-aggregate-print-area
 slice-aggregate-print-area c = sym (length-take-le _ _ (array-share-prefix-input (c .before)))
 
-room : (c : tie.After-print-area) → c .print-area .result ≤ length (c .print-area .last .1 .0)
-room c = text-room _ (replicate 32768 0) _ _ (length-replicate {A = ℕ} 32768 0) (c .print-area .ensures .0) (c .print-area .ensures .1 .0)
+room : (c : tie.After-print-area) → c .print-area .result ≤ length (c .print-area .last .1 .1 .0)
+room c = text-room _ _ (replicate 32768 0) _ _ (length-replicate {A = ℕ} 32768 0) (c .print-area .ensures .0) (c .print-area .ensures .1 .0)
 
 array-share-prefix-out : tie.Need-array-share-prefix-out
 array-share-prefix-out c = room (c .before)
@@ -28,6 +28,8 @@ pub main-spec : {M : Type 1} → statement M
 main-spec =
     tie.close
     (tie.spec
+    (λ c κs. search needs)
+    (λ c. search needs)
     (λ c. search needs)
     (λ c κs. search needs)
     (λ c. search needs)

@@ -3,7 +3,7 @@ use Prim.Native.Nat.{_-_}
 use native.Mathlib.Omega.{arith}
 use lib.ListN.{length}
 use borrow.Author.Needs.{needs}
-use Rattle.printing.proofs.Puts.{Copied, copied-first, copied-place, copied-byte, copied-all}
+use Rattle.printing.proofs.Puts.{Copied, copied-first, copied-place, copied-length, copied-byte, copied-all}
 use Rattle.printing.proofs.put.put_bytes.Statement.{statement}
 use Rattle.printing.proofs.put.put_bytes.Tie as tie
 
@@ -30,9 +30,10 @@ put-bytes-spec =
     μ-loop
     loop-holds
     (λ c. search needs)
-    (λ c. omega (arith, copied-place (c .before .before .loop .inv)))
+    (λ c. omega (arith, copied-place (c .before .before .loop .inv), copied-length (c .before .before .loop .inv)))
     (λ c. omega (arith, copied-place (c .before .before .loop .inv)))
     (λ c. search needs)
     (λ c. omega arith)
     loop-again
+    (λ c. copied-length (c .before .loop .inv))
     returns)
