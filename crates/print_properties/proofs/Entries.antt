@@ -11,12 +11,12 @@ use Rattle.words.proofs.Choice.{choose}
 use Rattle.property_area.specs.Piece.{Piece, deletion}
 use Rattle.property_area.specs.declared.reading.Located.{Located}
 use Rattle.property_area.specs.Reading.{pieceIn}
-use Rattle.printing.specs.Put.{Fits, Put}
-use Rattle.printing.specs.Text.{newline, space, delete-, numbered}
+use Rattle.printing.specs.Put.{Put}
+use Rattle.printing.specs.Text.{newline, space, delete-, numbered, each, hexByte, named}
 use Rattle.printing.proofs.Sizes.{length-hexDigits, length-numbered}
-use Rattle.print_properties.specs.Text.{each, hexByte, nameByte, property-, part-, named, bytesText, valueText, entry, line}
+use Rattle.printing.proofs.Bytes.{length-each, length-named}
+use Rattle.print_properties.specs.Text.{property-, part-, bytesText, valueText, entry, line}
 use Rattle.print_properties.specs.Put.{pieceOf}
-use Rattle.print_properties.proofs.Bytes.{length-nameByte, length-each}
 
 -- ---- a value
 
@@ -54,16 +54,13 @@ module _ (area : List ℕ) (l : Located) where
       let v : l .value + l .«value_length» - l .value ≡ l .«value_length» = omega arith in
       rw (n, v)
 
-  pub located-fits : (at : ℕ) → Fits at (entry (pieceIn area l)) → Fits at (entry cutOut)
-  located-fits at h = subst (λ (p : Piece). Fits at (entry p)) (sym same) h
+  pub located-fits : {room : ℕ} (at : ℕ) → at + length (entry (pieceIn area l)) ≤ room → at + length (entry cutOut) ≤ room
+  located-fits {room} at h = subst (λ (p : Piece). at + length (entry p) ≤ room) (sym same) h
 
-  pub located-put : {before after : List ℕ} {at behind : ℕ} → Put before after at behind (entry cutOut) → Put before after at behind (entry (pieceIn area l))
-  located-put {before} {after} {at} {behind} h = subst (λ (p : Piece). Put before after at behind (entry p)) same h
+  pub located-put : {before after : List ℕ} {at end : ℕ} → Put before after at end (entry cutOut) → Put before after at end (entry (pieceIn area l))
+  located-put {before} {after} {at} {end} h = subst (λ (p : Piece). Put before after at end (entry p)) same h
 
 -- ---- how long a line is
-
-length-named : (word name : List ℕ) → length (named word name) ≤ length word + 4 * length name
-length-named word name = omega (arith, length-append word (each nameByte name), length-each nameByte length-nameByte name)
 
 length-bytes : (value : List ℕ) → length (bytesText value) ≤ 1 + 4 * length value
 length-bytes value =

@@ -1,5 +1,3 @@
-pub mod Bytes
-pub mod Shown
 pub mod Entries
 pub mod Lines
 pub mod Sizes

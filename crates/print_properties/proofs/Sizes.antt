@@ -1,4 +1,4 @@
--- The text of an input, from what a check tells of it, and that it fits its buffer.
+-- The text of an input, from what a check gives of it, that it fits its buffer, and the promise of the program.
 use mathlib.Core.Path.{_≡_, refl, sym, ap, _∙_}
 use mathlib.Core.List.{List, _∷_, _++_}
 use Prim.Native.Nat.{ℕ, zero, suc, _+_, _*_, _≤_}
@@ -21,10 +21,15 @@ use Rattle.property_area.specs.Cursor.{fineOr, piecesFrom, remaining, startOf}
 use Rattle.property_area.proofs.Judging.{fine-told}
 use Rattle.property_area.proofs.PropertyLaws.{properties-in-order}
 use Rattle.printing.specs.Put.{Fits}
-use Rattle.printing.specs.Text.{newline, state-, end-, ended, operand, refusalLine}
-use Rattle.printing.proofs.Sizes.{length-ended, length-operand, refusal-fits, inside-buffer}
-use Rattle.print_properties.specs.Text.{phandle-, line, lines, phandleLine, textOf, text, LongInput}
-use Rattle.print_properties.proofs.Entries.{length-line}
+use Rattle.printing.specs.Text.{newline, state-, end-, decimal, digits, numbered, ended, operand, refusalLine}
+use Rattle.words.proofs.Claims.{numbers-exactly, nul-exactly}
+use Rattle.property_area.proofs.ReaderClaims.{property-reader-exactly}
+use Rattle.printing.proofs.Digits.{digits-exactly}
+use Rattle.printing.proofs.NameLaws.{names-exactly}
+use Rattle.printing.proofs.Sizes.{length-ended, length-operand, length-refusal, inside-buffer}
+use Rattle.print_properties.specs.Text.{phandle-, line, lines, phandleLine, textOf, text}
+use Rattle.print_properties.specs.Claims.{TextExactly, LongInput, PrintPropertiesPromise}
+use Rattle.print_properties.proofs.Entries.{value-some, length-line}
 
 -- ---- each byte of an area gives at most seven bytes of lines
 
@@ -41,8 +46,8 @@ length-lines (suc n) area at h = go (length-lines n area (endOf (locatedAt area 
     go more (Fine l) e =
         let m = locatedAt area at in
         let p = pieceIn area m in
-        let told = fine-told area at l e in
-        let inside : endOf m ≤ length area = rw (told .0) at (told .1) in
+        let fine = fine-told area at l e in
+        let inside : endOf m ≤ length area = rw (fine .0) at (fine .1) in
         let rest = piecesFrom n area (endOf m) in
         omega (
           arith,
@@ -53,7 +58,7 @@ length-lines (suc n) area at h = go (length-lines n area (endOf (locatedAt area 
           more inside,
         )
 
--- ---- the text, from what a check tells of an area
+-- ---- the text, from what a check gives of an area
 
 module _ (input : List ℕ) where
   -- an area that is read has its size
@@ -91,11 +96,11 @@ lines-fit input ps e =
     let all : piecesFrom (countIn input) input firstAt ≡ ps = rw long at (properties-in-order input ps e) in
     rw (← all) (omega (arith, length-lines (countIn input) input firstAt (omega arith)))
 
-pub text-fits : (input : List ℕ) → Fits 0 (text input)
+pub text-fits : (input out : List ℕ) → 32768 ≤ length out → Fits out 0 (text input)
 unfolding text
-text-fits input = go (reading input) refl
+text-fits input out room = go (reading input) refl
   where
-    go : (r : Reading Piece Refusal) → reading input ≡ r → Fits 0 (textOf (phandleIn input) (stateIn input) (reading input))
+    go : (r : Reading Piece Refusal) → reading input ≡ r → Fits out 0 (textOf (phandleIn input) (stateIn input) (reading input))
     go (read ps) g =
         let first = operand phandle- (phandleIn input) in
         let second = ended state- (stateIn input) in
@@ -112,11 +117,11 @@ text-fits input = go (reading input) refl
           length-ended state- (stateIn input),
           length-ended end- (length ps),
         ))
-    go (refused r at) g = rw g (refusal-fits (refusalNumber r) at)
+    go (refused r at) g = rw g (omega (arith, length-refusal (refusalNumber r) at))
 
 -- the text stays inside its buffer
 pub text-room : (input l m : List ℕ) (r : ℕ) → length l ≡ 32768 → r ≡ length (text input) → m ≡ sets l 0 (text input) → r ≤ length m
-text-room input l m r size e s = inside-buffer (text input) l m r (text-fits input) size e s
+text-room input l m r size e s = inside-buffer (text input) l m r (text-fits input l (omega arith)) e s
 
 -- ---- an input that is no area
 
@@ -124,5 +129,43 @@ wrong-size : (input : List ℕ) → (length input ≡ areaSize → ⊥) → text
 unfolding text reading
 wrong-size input h = rw (ne-eqb (length input) areaSize h)
 
-pub long-input : LongInput
+long-input : LongInput
 long-input input h = wrong-size (take 4097 input) (λ e. omega (arith, length-take-le 4097 input (omega arith))) ∙ sym (wrong-size input (λ e. omega arith))
+
+-- ---- the text in bytes
+
+text-read : (input : List ℕ) (ps : List Piece) → reading input ≡ read ps
+    → text input ≡ phandleLine (phandleIn input) ++ (ended state- (stateIn input) ++ (lines ps ++ ended end- (length ps)))
+unfolding text
+text-read input ps e = rw e
+
+text-refused : (input : List ℕ) (r : Refusal) (at : ℕ) → reading input ≡ refused r at → text input ≡ refusalLine (refusalNumber r) at
+unfolding text
+text-refused input r at e = rw e
+
+text-exactly : TextExactly
+unfolding lines line decimal digits numbered ended operand
+text-exactly =
+    record {
+      area = text-read;
+      refusal = λ input number at h. text-refused input (h .0) at (h .1 .1) ∙ rw (h .1 .0);
+      none = refl;
+      deleted = λ p ps h. rw h;
+      whole = λ p ps h k. rw (h, k);
+      part = λ p ps h k. rw (h, k);
+      no-value = refl;
+      value = λ b bs. value-some (b ∷ bs) (λ h. omega arith);
+      byte = λ b. refl;
+    }
+
+pub promise : PrintPropertiesPromise
+promise =
+    record {
+      text-exactly = text-exactly;
+      digits = digits-exactly;
+      names = names-exactly;
+      long-input = long-input;
+      reader = property-reader-exactly;
+      numbers = numbers-exactly;
+      nul = nul-exactly;
+    }

@@ -10,6 +10,6 @@ use Rattle.property_area.specs.Reading.{endOf}
 abbrev pub Inside : Located → ℕ → Type 0
 Inside l size = (l .name + l .«name_length» ≤ l .value) × (endOf l ≤ size)
 
--- what a descriptor tells of a name and a value
+-- the piece of a descriptor, a name and a value
 abbrev pub pieceOf : ℕ → List ℕ → List ℕ → Piece
 pieceOf d name value = record { part = record { name = name; deleted = eqb d deletion; value = value }; more = ltb deletion d }

@@ -1,4 +1,4 @@
-// Prints the property work area on standard input, or why it is refused. Where the input cannot be read or the text not be
+// Prints the property work area on standard input, or why it is refused. If the input cannot be read or the text not be
 // written, a line on standard error says so.
 mod text;
 

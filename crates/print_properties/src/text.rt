@@ -1,4 +1,5 @@
 // The text of a property work area, put into a buffer.
+ghost use Prim.Native.Nat.{_≤_};
 ghost use mathlib.Core.Path.{_≡_};
 ghost use lib.ListN.{length};
 ghost use lib.Seq.{sets};
@@ -6,14 +7,16 @@ ghost use Rattle.property_area.specs.declared.reading.Check.the-variants.{Prope
 ghost use Rattle.property_area.specs.Reading.{refusalNumber, reading, checkOf, pieceIn};
 ghost use Rattle.property_area.specs.Cursor.{remaining, startOf};
 ghost use Rattle.printing.specs.Put.{Fits, Put};
-ghost use Rattle.print_properties.specs.Text.{each, hexByte, isPlain, nameByte, named, valueText, entry, line, lines, phandleLine, text, LongInput, NamesShown};
+ghost use Rattle.print_properties.specs.Text.{valueText, entry, line, lines, phandleLine, text};
 ghost use Rattle.print_properties.specs.Put.{Inside, pieceOf};
+ghost use Rattle.print_properties.specs.Claims.{PrintPropertiesPromise};
 use printing::put_bytes;
 use printing::put_ended;
-use printing::put_hex;
+use printing::put_named;
 use printing::put_number;
 use printing::put_operand;
 use printing::put_refusal;
+use printing::put_value_bytes;
 use property_area::Check;
 use property_area::Cursor;
 use property_area::DELETION;
@@ -21,79 +24,9 @@ use property_area::Located;
 use property_area::Next;
 use property_area::Refusal;
 
-// A byte in two hexadecimal digits.
-fn put_hex_byte(b: u8, out: &mut [u8; 32768], at: usize) -> usize
-    requires { ⌜ Fits at (hexByte b) ⌝ }
-    ensures { λ r. ⌜ Put (now (out .entry)) (now (out .exit)) at r (hexByte b) ⌝ }
-{
-    put_hex(b as u64, 2, out, at)
-}
-
-// Each byte of a value.
-fn put_value_bytes(value: &[u8], out: &mut [u8; 32768], at: usize) -> usize
-    requires { ⌜ Fits at (each hexByte (now value)) ⌝ }
-    ensures { λ r. ⌜ Put (now (out .entry)) (now (out .exit)) at r (each hexByte (now (value .entry))) ⌝ }
-{
-    let mut i = 0;
-    let mut to = at;
-    while i < value.len() {
-        to = put_hex_byte(value[i], out, to);
-        i += 1;
-    }
-    to
-}
-
-// Whether a byte of a name is written as it is.
-fn is_plain(b: u8) -> bool
-    ensures { λ r. ⌜ r ≡ isPlain b ⌝ }
-{
-    if b <= 32 {
-        return false;
-    }
-    if b >= 127 {
-        return false;
-    }
-    b != b'\\'
-}
-
-fn put_name_byte(b: u8, out: &mut [u8; 32768], at: usize) -> usize
-    requires { ⌜ Fits at (nameByte b) ⌝ }
-    ensures { λ r. ⌜ Put (now (out .entry)) (now (out .exit)) at r (nameByte b) ⌝ }
-{
-    if is_plain(b) {
-        let one = [b];
-        return put_bytes(&one, out, at);
-    }
-    let to = put_bytes(b"\\x", out, at);
-    put_hex_byte(b, out, to)
-}
-
-// Each byte of a name.
-fn put_name_bytes(name: &[u8], out: &mut [u8; 32768], at: usize) -> usize
-    requires { ⌜ Fits at (each nameByte (now name)) ⌝ }
-    ensures { λ r. ⌜ Put (now (out .entry)) (now (out .exit)) at r (each nameByte (now (name .entry))) ⌝ }
-{
-    let mut i = 0;
-    let mut to = at;
-    while i < name.len() {
-        to = put_name_byte(name[i], out, to);
-        i += 1;
-    }
-    to
-}
-
-// A word, and a name.
-fn put_named(word: &[u8], name: &[u8], out: &mut [u8; 32768], at: usize) -> usize
-    requires { ⌜ Fits at (named (now word) (now name)) ⌝ }
-    ensures { λ r. ⌜ Put (now (out .entry)) (now (out .exit)) at r (named (now (word .entry)) (now (name .entry))) ⌝ }
-{
-    let to = put_bytes(word, out, at);
-    put_name_bytes(name, out, to)
-}
-
 // A value's length and its bytes.
-fn put_value(value: &[u8], out: &mut [u8; 32768], at: usize) -> usize
-    requires { ⌜ Fits at (valueText (now value)) ⌝ }
+fn put_value(value: &[u8], out: &mut [u8], at: usize) -> usize
+    requires { ⌜ Fits (now out) at (valueText (now value)) ⌝ }
     ensures { λ r. ⌜ Put (now (out .entry)) (now (out .exit)) at r (valueText (now (value .entry))) ⌝ }
 {
     let to = put_number(b" ", value.len() as u64, out, at);
@@ -104,25 +37,25 @@ fn put_value(value: &[u8], out: &mut [u8; 32768], at: usize) -> usize
     put_value_bytes(value, out, first)
 }
 
-// The property that a descriptor tells of, by its name and its value.
-fn put_entry(descriptor: u32, name: &[u8], value: &[u8], out: &mut [u8; 32768], at: usize) -> usize
-    requires { ⌜ Fits at (entry (pieceOf descriptor (now name) (now value))) ⌝ }
+// The property of a descriptor, by its name and its value.
+fn put_entry(descriptor: u32, name: &[u8], value: &[u8], out: &mut [u8], at: usize) -> usize
+    requires { ⌜ Fits (now out) at (entry (pieceOf descriptor (now name) (now value))) ⌝ }
     ensures { λ r. ⌜ Put (now (out .entry)) (now (out .exit)) at r (entry (pieceOf descriptor (now (name .entry)) (now (value .entry)))) ⌝ }
 {
     if descriptor == DELETION {
         return put_named(b"delete ", name, out, at);
     }
     if DELETION < descriptor {
-        let behind = put_named(b"part ", name, out, at);
-        return put_value(value, out, behind);
+        let after = put_named(b"part ", name, out, at);
+        return put_value(value, out, after);
     }
     let to = put_named(b"property ", name, out, at);
     put_value(value, out, to)
 }
 
-fn put_line(input: &[u8], l: Located, out: &mut [u8; 32768], at: usize) -> usize
+fn put_line(input: &[u8], l: Located, out: &mut [u8], at: usize) -> usize
     requires { ⌜ Inside l (length (now input)) ⌝ }
-    requires { ⌜ Fits at (line (pieceIn (now input) l)) ⌝ }
+    requires { ⌜ Fits (now out) at (line (pieceIn (now input) l)) ⌝ }
     ensures { λ r. ⌜ Put (now (out .entry)) (now (out .exit)) at r (line (pieceIn (now (input .entry)) l)) ⌝ }
 {
     let name = l.name;
@@ -140,8 +73,8 @@ fn put_line(input: &[u8], l: Located, out: &mut [u8; 32768], at: usize) -> usize
 }
 
 // A line for each property of an area.
-fn put_lines(input: &[u8], out: &mut [u8; 32768], at: usize) -> usize
-    requires { ⌜ Fits at (lines (remaining (now input) (startOf (now input)))) ⌝ }
+fn put_lines(input: &[u8], out: &mut [u8], at: usize) -> usize
+    requires { ⌜ Fits (now out) at (lines (remaining (now input) (startOf (now input)))) ⌝ }
     ensures { λ r. ⌜ Put (now (out .entry)) (now (out .exit)) at r (lines (remaining (now (input .entry)) (startOf (now (input .entry))))) ⌝ }
 {
     let mut cursor = Cursor::start(input);
@@ -152,17 +85,17 @@ fn put_lines(input: &[u8], out: &mut [u8; 32768], at: usize) -> usize
             Next::End => {
                 return to;
             }
-            Next::Found(l, behind) => {
+            Next::Found(l, after) => {
                 to = put_line(input, l, out, to);
-                cursor = behind;
+                cursor = after;
             }
         }
     }
 }
 
 // The line of a phandle.
-fn put_phandle(phandle: u32, out: &mut [u8; 32768], at: usize) -> usize
-    requires { ⌜ Fits at (phandleLine phandle) ⌝ }
+fn put_phandle(phandle: u32, out: &mut [u8], at: usize) -> usize
+    requires { ⌜ Fits (now out) at (phandleLine phandle) ⌝ }
     ensures { λ r. ⌜ Put (now (out .entry)) (now (out .exit)) at r (phandleLine phandle) ⌝ }
 {
     let to = put_operand(b"phandle ", phandle, out, at);
@@ -170,8 +103,8 @@ fn put_phandle(phandle: u32, out: &mut [u8; 32768], at: usize) -> usize
 }
 
 // An area that has so many properties.
-fn put_area(input: &[u8], count: usize, out: &mut [u8; 32768]) -> usize
-    requires { ⌜ checkOf (reading (now input)) ≡ Properties count ⌝ }
+fn put_area(input: &[u8], count: usize, out: &mut [u8]) -> usize
+    requires { ⌜ (32768 ≤ length (now out)) × (checkOf (reading (now input)) ≡ Properties count) ⌝ }
     ensures { λ r. ⌜ Put (now (out .entry)) (now (out .exit)) 0 r (text (now (input .entry))) ⌝ }
 {
     let phandle = property_area::read_phandle(input);
@@ -197,7 +130,7 @@ fn refusal_number(r: Refusal) -> u64
 pub fn print_area(input: &[u8], out: &mut [u8; 32768]) -> usize
     ensures { λ r. ⌜ r ≡ length (text (now (input .entry))) ⌝ }
     ensures { λ _. ⌜ now (out .exit) ≡ sets (now (out .entry)) 0 (text (now (input .entry))) ⌝ }
-    ensures claims { λ _. ⌜ LongInput × NamesShown ⌝ }
+    ensures promise { λ _. ⌜ PrintPropertiesPromise ⌝ }
 {
     let found = property_area::check_area(input);
     match found {

@@ -10,7 +10,7 @@ use Rattle.print_properties.proofs.main.Tie as tie
 
 -- the bytes that were read are inside their buffer, and so is the text
 array-share-prefix-input : tie.Need-array-share-prefix-input
-array-share-prefix-input c = rw (c .before .found .given .1) at (c .before .before .before .read-input .ensures)
+array-share-prefix-input c = rw (c .before .found .given .1) at (c .before .before .before .before .read-input .ensures)
 
 slice-aggregate-print-area : tie.Need-slice-aggregate-print-area
 slice-aggregate-print-area c = sym (length-take-le _ _ (array-share-prefix-input (c .before)))
@@ -28,6 +28,7 @@ pub main-spec : {M : Type 1} → statement M
 main-spec =
     tie.close
     (tie.spec
+    (λ c. search needs)
     (λ c. search needs)
     (λ c κs. search needs)
     (λ c. search needs)
