@@ -1,7 +1,7 @@
 -- The claims that the contract of `call` cites hold.
 use mathlib.Core.Path.{refl}
 use native.Mathlib.Omega.{arith}
-use Rattle.words.proofs.Claims.{zeros-exactly}
+use Rattle.words.proofs.Claims.{zeros-exactly, stated-exactly}
 use Rattle.journal.proofs.Claims.{journal-claims}
 use Rattle.inventory.proofs.Claims.{inventory-claims}
 use Rattle.dump.proofs.StructureClaims.{structure-exactly}
@@ -18,6 +18,7 @@ use Rattle.properties.proofs.ChangeClaims.{changes-exactly, fill-exactly, sessi
 use Rattle.calls.specs.Lent.{partAt, withPart, PartExactly}
 use Rattle.calls.specs.NodeSession.{reported as reportedNodes}
 use Rattle.calls.specs.PropertySession.{reported}
+use Rattle.calls.specs.Terms.{TermsExactly}
 use Rattle.calls.specs.CallClaims.{ReportedExactly, Foundations, CallClaims}
 use Rattle.calls.proofs.Confined.{demand1}
 use Rattle.calls.proofs.Exact.{demand2}
@@ -39,6 +40,18 @@ reported-exactly : ReportedExactly
 unfolding reportedNodes reported
 reported-exactly = record { nodes-done = λ os st. (λ e. rw e, λ e. rw e); node-done = λ cs st. (λ e. rw e, λ e. rw e) }
 
+terms-exactly : TermsExactly
+terms-exactly =
+    record {
+      minus-words = λ n h. omega arith;
+      has-status = λ x h. h;
+      status-is = λ b x. refl;
+      refused = λ b x h. h;
+      asks-is = λ t i o b. ((λ h. h), (λ h. h));
+      reading-named = λ flag type number edition. refl;
+      found-is = λ args memory journal inventory edition registration reading. refl;
+    }
+
 pub foundations : Foundations
 foundations =
     record {
@@ -58,8 +71,9 @@ foundations =
       properties-written = round-trip;
       properties-read = property-reader-exactly;
       zeros = zeros-exactly;
+      stated = stated-exactly;
       parts = part-exactly;
-      minus-words = λ n h. omega arith;
+      terms = terms-exactly;
     }
 
 pub call-claims : CallClaims

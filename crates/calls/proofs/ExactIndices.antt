@@ -8,6 +8,7 @@ use native.Mathlib.Omega.{arith}
 use native.Mathlib.Nat.{mod-eq-of-lt}
 use lib.Dec.{leb, eqb}
 use lib.ListN.{length, take, drop, getD, length-drop}
+use Rattle.words.specs.Exactly.{Exactly}
 use Rattle.words.specs.Numbers.{Bytes, be, be32, beBytes}
 use Rattle.words.proofs.Numbers.{be-bytes}
 use Rattle.words.proofs.Choice.{and-left, and-right}
@@ -26,7 +27,7 @@ use Rattle.calls.specs.Status.{statusWord}
 use Rattle.calls.specs.ReadingRecord.{isNamed, isCurrent, recordAfter}
 use Rattle.calls.specs.Lent.{partAt}
 use Rattle.calls.specs.GetIndices.{askable, lendable, entriesFor, numberIn, runFor, goodNumber, dueFits, moreEntries, listStatus, readingStatus, indicesStatus, indicesMemory, nextNumber}
-use Rattle.calls.specs.Terms.{minus, Exactly, naming}
+use Rattle.calls.specs.Terms.{minus, naming}
 use Rattle.calls.specs.ExactIndices as exact
 use Rattle.calls.specs.ExactIndices.{ExactIndices}
 use Rattle.calls.proofs.Exactly.{equal, at-most, both, either, no, fails, same}

@@ -5,6 +5,7 @@ use mathlib.Core.List.{List}
 use Prim.Native.Nat.{ℕ, _≤_}
 use lib.Dec.{eqb}
 use lib.ListN.{length}
+use Rattle.words.specs.Exactly.{Exactly}
 use Rattle.words.specs.Numbers.{Bytes, be32}
 use Rattle.words.proofs.Numbers.{be-below}
 use Rattle.words.proofs.Choice.{and-left, and-right}
@@ -20,7 +21,7 @@ use Rattle.properties.proofs.Steps.{placed-all}
 use Rattle.calls.specs.Status.{statusWord}
 use Rattle.calls.specs.UpdateNodes.{areaAt, placed}
 use Rattle.calls.specs.UpdateProperties.{propertiesStatus, propertiesMemory}
-use Rattle.calls.specs.Terms.{minus, Exactly}
+use Rattle.calls.specs.Terms.{minus}
 use Rattle.calls.specs.ExactNodes.{Asked}
 use Rattle.calls.specs.ExactProperties as exact
 use Rattle.calls.specs.ExactProperties.{ExactProperties}

@@ -5,8 +5,8 @@ use mathlib.Core.Logic.{_⊎_, inl, inr, ⊎-elim}
 use Prim.Native.Nat.{ℕ, _≤_, _<_}
 use lib.Dec.{leb, ltb, eqb}
 use borrow.Author.Tests.{leb-true, le-leb, ltb-true, lt-ltb, eqb-true, eq-eqb}
+use Rattle.words.specs.Exactly.{Exactly}
 use Rattle.words.proofs.Choice.{and-left, and-right}
-use Rattle.calls.specs.Terms.{Exactly}
 
 pub equal : (a b : ℕ) → Exactly (eqb a b ≡ true) (a ≡ b)
 equal a b = (eqb-true a b, eq-eqb a b)

@@ -9,6 +9,7 @@ use lib.Dec.{leb}
 use lib.ListN.{length, drop, getD, length-append, length-drop}
 use lib.Seq.{sets}
 use borrow.Author.Tests.{leb-true, leb-false, le-leb, lt-leb}
+use Rattle.words.specs.Exactly.{Outside}
 use Rattle.words.specs.Numbers.{Bytes, beBytes, wordBytes}
 use Rattle.words.proofs.Stores.{wordBytes-one}
 use Rattle.words.proofs.Choice.{choose, decide, and-left, and-right}
@@ -28,7 +29,6 @@ use Rattle.inventory.specs.declared.edition.Edition.{Edition}
 use Rattle.calls.specs.declared.reading_record.ReadingRecord.{ReadingRecord}
 use Rattle.calls.specs.ReadingRecord.{isNamed, isCurrent}
 use Rattle.calls.specs.GetIndices.{askable, lendable, entriesFor, numberIn, runFor, goodNumber, dueFits, moreEntries, listStatus, readingStatus, indicesStatus, indicesMemory, nextNumber, numberGiven}
-use Rattle.calls.specs.Terms.{Outside}
 use Rattle.calls.proofs.Ladder.{steps-passed}
 use Rattle.calls.proofs.Memory.{part-length, part-stored, part-kept, part-before, part-behind}
 

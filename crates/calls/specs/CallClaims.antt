@@ -1,11 +1,11 @@
 -- All that is claimed of a call, cited by the contracts of `call` and `call_step` of crate `rtas`.
-use Prim.Native.Nat.{ℕ, _+_, _≤_}
+use Prim.Native.Nat.{ℕ}
 use mathlib.Core.Path.{_≡_}
 use mathlib.Core.Bool.{true, false}
 use mathlib.Core.List.{List}
 use lib.ListN.{length}
 use Rattle.words.specs.Numbers.{be}
-use Rattle.words.specs.Claims.{ZerosExactly}
+use Rattle.words.specs.Claims.{ZerosExactly, StatedExactly}
 use Rattle.journal.specs.Claims.{JournalClaims}
 use Rattle.inventory.specs.Claims.{InventoryClaims}
 use Rattle.dump.specs.StructureClaims.{StructureExactly}
@@ -25,7 +25,7 @@ use Rattle.calls.specs.Lent.{PartExactly}
 use Rattle.calls.specs.Session.{Standing}
 use Rattle.calls.specs.NodeSession.{reported as reportedNodes}
 use Rattle.calls.specs.PropertySession.{reported}
-use Rattle.calls.specs.Terms.{minus}
+use Rattle.calls.specs.Terms.{TermsExactly}
 use Rattle.calls.specs.Demands.{Demand1, Demand2, Demand3}
 use Rattle.calls.specs.Fewest.{FewestAreas, FewestWitness}
 use Rattle.calls.specs.WholeList.{WholeList}
@@ -54,8 +54,9 @@ pub record Foundations : Type 0 where
   pub properties-written : RoundTrip
   pub properties-read : PropertyReaderExactly
   pub zeros : ZerosExactly
+  pub stated : StatedExactly
   pub parts : PartExactly
-  pub minus-words : (n : ℕ) → n ≤ 4294967296 → minus n + n ≡ 4294967296
+  pub terms : TermsExactly
 
 -- how much of a list a session has reported, by its end or by the state that it carries
 pub record ReportedExactly : Type 0 where

@@ -6,6 +6,7 @@ use mathlib.Core.List.{List}
 use mathlib.Core.Logic.{_⊎_}
 use lib.ListN.{length, take, getD}
 use lib.Seq.{sets}
+use Rattle.words.specs.Exactly.{Outside}
 use Rattle.words.specs.Numbers.{Bytes, be32, beBytes}
 use Rattle.journal.specs.Journal.{wellFormed}
 use Rattle.journal.specs.Scope.{valid, selectionOf}
@@ -15,7 +16,7 @@ use Rattle.node_area.specs.Reading.{reading}
 use Rattle.journal.specs.declared.operation.Operation.{Operation}
 use Rattle.calls.specs.Status.{numberOf}
 use Rattle.calls.specs.Buffer.{Found, Left, callOf}
-use Rattle.calls.specs.Terms.{minus, HasStatus, Refused, Asks, statusOf, Outside, naming}
+use Rattle.calls.specs.Terms.{minus, HasStatus, Refused, Asks, statusOf, naming}
 use Rattle.calls.specs.ExactNodes.{ExactNodes}
 use Rattle.calls.specs.ExactIndices.{ExactIndices}
 use Rattle.calls.specs.ExactDump.{ExactDump}

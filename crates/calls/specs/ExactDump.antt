@@ -5,12 +5,13 @@ use mathlib.Core.Bool.{true}
 use mathlib.Core.List.{List, [], _++_}
 use mathlib.Core.Logic.{_⊎_}
 use lib.ListN.{length, replicate}
+use Rattle.words.specs.Exactly.{Exactly}
 use Rattle.dump.specs.declared.registration.Phase.{Phase}
 use Rattle.dump.specs.declared.registration.Phase.the-variants.{Unregistered, Registered, Active}
 use Rattle.dump.specs.declared.registration.Registration.{Registration}
 use Rattle.dump.specs.Structure.{goodStructure}
 use Rattle.calls.specs.Lent.{partAt}
-use Rattle.calls.specs.Terms.{minus, Exactly}
+use Rattle.calls.specs.Terms.{minus}
 
 -- 01: "Command 1: length 40 to 512, inside memory, and a good structure, else -3."
 pub record Acceptable (m : List ℕ) (address len : ℕ) : Type 0 where

@@ -7,6 +7,7 @@ use mathlib.Core.List.{List}
 use mathlib.Core.Logic.{_⊎_}
 use lib.Dec.{ltb}
 use lib.ListN.{length, take, drop, getD}
+use Rattle.words.specs.Exactly.{Exactly}
 use Rattle.words.specs.Numbers.{Bytes, be32}
 use Rattle.inventory.specs.Inventory.{wellFormed}
 use Rattle.inventory.specs.Listing.{Entry, listed}
@@ -16,7 +17,7 @@ use Rattle.words.specs.Reading.{read}
 use Rattle.indices.specs.Reading.{reading}
 use Rattle.calls.specs.declared.reading_record.ReadingRecord.{ReadingRecord}
 use Rattle.calls.specs.Lent.{partAt, withPart}
-use Rattle.calls.specs.Terms.{minus, Exactly, naming}
+use Rattle.calls.specs.Terms.{minus, naming}
 
 -- 01: "Order: flag; type not 9001, 9002, 9003 for indicators nor 9003 for sensors; size at least 4 and address + size at most 2^32 and inside
 -- memory; all -3."

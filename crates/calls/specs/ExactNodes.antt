@@ -7,6 +7,7 @@ use mathlib.Core.Logic.{_⊎_}
 use lib.Dec.{ltb}
 use lib.ListN.{length, drop, getD}
 use lib.Seq.{slice}
+use Rattle.words.specs.Exactly.{Exactly}
 use Rattle.words.specs.Numbers.{Bytes, be32, be64, zeros}
 use Rattle.journal.specs.declared.operation.Operation.{Operation}
 use Rattle.journal.specs.Journal.{wellFormed}
@@ -18,7 +19,7 @@ use Rattle.nodes.specs.Area.{written}
 use Rattle.words.specs.Reading.{read}
 use Rattle.node_area.specs.Reading.{reading}
 use Rattle.calls.specs.Lent.{partAt, withPart}
-use Rattle.calls.specs.Terms.{minus, Exactly}
+use Rattle.calls.specs.Terms.{minus}
 
 -- 01: "Checks in order: address a multiple of 4,096 and the area inside memory (-3); scope (-3);"
 pub record Asked (m : List ℕ) (address scope : ℕ) : Type 0 where

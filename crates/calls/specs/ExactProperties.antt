@@ -5,6 +5,7 @@ use mathlib.Core.Bool.{true, false, cond}
 use mathlib.Core.List.{List}
 use lib.ListN.{length, getD, take}
 use lib.Seq.{slice}
+use Rattle.words.specs.Exactly.{Exactly}
 use Rattle.words.specs.Numbers.{Bytes, be32, zeros}
 use Rattle.words.specs.Reading.{read}
 use Rattle.journal.specs.Journal.{wellFormed}
@@ -15,7 +16,7 @@ use Rattle.properties.specs.Changes.{Change, changes, dueAt, isDue, offsetOr}
 use Rattle.properties.specs.Filling.{Filled, fill, weight, parts}
 use Rattle.properties.specs.Session.{Carried}
 use Rattle.calls.specs.Lent.{partAt, withPart}
-use Rattle.calls.specs.Terms.{minus, Exactly}
+use Rattle.calls.specs.Terms.{minus}
 use Rattle.calls.specs.ExactNodes.{Asked}
 
 -- 02: "after update-nodes' checks .., -3 for a phandle that no kind 5 or 6 record carries, non-zero reserved bytes or a state that this node's session never

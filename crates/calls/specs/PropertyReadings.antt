@@ -4,13 +4,14 @@ use mathlib.Core.Bool.{Bool, _&&_}
 use mathlib.Core.List.{List, [], _∷_, _++_}
 use lib.Dec.{T, eqb}
 use lib.ListN.{replicate}
+use Rattle.words.specs.Cases.{same, every}
 use Rattle.words.specs.Numbers.{be32, wordBytes}
 use Rattle.journal.specs.Claims.{short, property}
 use Rattle.property_area.specs.Reading.{reading}
 use Rattle.dump.specs.declared.registration.Phase.the-variants.{Unregistered}
 use Rattle.calls.specs.Buffer.{Left, callOf}
 use Rattle.calls.specs.Terms.{minus}
-use Rattle.calls.specs.Readings.{atRest, called, reads, nodes, same, none, all}
+use Rattle.calls.specs.Readings.{atRest, called, reads, nodes, none}
 
 -- a call of a scope over an area with these first four words and sevens after them
 abbrev pub updateProperties : List ℕ → ℕ → List ℕ → Left
@@ -78,4 +79,4 @@ cases =
     ∷ []
 
 abbrev pub PropertyReadings : Type 0
-PropertyReadings = T (all cases)
+PropertyReadings = T (every cases)

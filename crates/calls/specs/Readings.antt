@@ -5,6 +5,7 @@ use mathlib.Core.Bool.{Bool, true, false, _&&_}
 use mathlib.Core.List.{List, [], _∷_, _++_}
 use lib.Dec.{T, eqb}
 use lib.ListN.{length, take, replicate}
+use Rattle.words.specs.Cases.{same, every}
 use Rattle.words.specs.Numbers.{be32, wordBytes}
 use Rattle.words.specs.Reading.{Reading, read, refused}
 use Rattle.journal.specs.Claims.{short, long}
@@ -106,13 +107,6 @@ numbered inputs outputs size number = eqb (numberOf (callOf (atRest (take size (
 
 -- ---- the table
 
--- the same numbers, for the tables of other crates too
-abbrev pub same : List ℕ → List ℕ → Bool
-same [] [] = true
-same [] (y ∷ ys) = false
-same (x ∷ xs) [] = false
-same (x ∷ xs) (y ∷ ys) = eqb x y && same xs ys
-
 abbrev pub cases : List Bool
 cases =
     -- * "1,018 reportable deletes: one call. * 1,019: status 1, state 1,018; then one delete, status 0."
@@ -162,9 +156,5 @@ cases =
     ∷ numbered 0 0 12 11
     ∷ []
 
-abbrev pub all : List Bool → Bool
-all [] = true
-all (c ∷ cs) = c && all cs
-
 abbrev pub Readings : Type 0
-Readings = T (all cases)
+Readings = T (every cases)

@@ -5,11 +5,12 @@ use mathlib.Core.Bool.{Bool, _&&_}
 use mathlib.Core.List.{List, [], _∷_}
 use lib.Dec.{T, eqb}
 use lib.ListN.{replicate}
+use Rattle.words.specs.Cases.{every}
 use Rattle.words.specs.Numbers.{be32, wordBytes}
 use Rattle.calls.specs.declared.reading_record.ReadingRecord.{ReadingRecord}
 use Rattle.calls.specs.Buffer.{found, callOf}
 use Rattle.calls.specs.Terms.{minus, naming}
-use Rattle.calls.specs.Readings.{none, inventoryOf, all}
+use Rattle.calls.specs.Readings.{none, inventoryOf}
 
 abbrev pub sameRecord : ReadingRecord → ReadingRecord → Bool
 sameRecord r s = eqb (r .flag) (s .flag) && (eqb (r .«item_type») (s .«item_type») && (eqb (r .number .0) (s .number .0) && eqb (r .edition .0) (s .edition .0)))
@@ -59,4 +60,4 @@ cases =
     ∷ []
 
 abbrev pub RecordReadings : Type 0
-RecordReadings = T (all cases)
+RecordReadings = T (every cases)

@@ -1,12 +1,14 @@
--- Terms of the claims, in the paper's own numerals (document 01, "The argument buffer").
-use Prim.Native.Nat.{ℕ, _+_, _*_, _-_, _<_, _≤_}
+-- Terms of the claims, in the papers' own numerals (document 01, "The argument buffer"; document 02, M-105).
+use Prim.Native.Nat.{ℕ, _+_, _*_, _-_, _≤_}
 use mathlib.Core.Path.{_≡_}
 use mathlib.Core.List.{List}
-use mathlib.Core.Logic.{_⊎_}
-use Rattle.words.specs.Numbers.{be32}
+use Rattle.words.specs.Numbers.{be, be32}
+use Rattle.words.specs.Exactly.{Exactly}
+use Rattle.inventory.specs.declared.edition.Edition.{Edition}
+use Rattle.dump.specs.declared.registration.Registration.{Registration}
 use Rattle.calls.specs.declared.reading_record.ReadingRecord.{ReadingRecord}
 use Rattle.calls.specs.Status.{numberOf}
-use Rattle.calls.specs.Buffer.{Left}
+use Rattle.calls.specs.Buffer.{Left, found}
 
 -- a status below 0, as a 32-bit word
 abbrev pub minus : ℕ → ℕ
@@ -31,10 +33,16 @@ statusOf b x = be32 (x .args) (12 + 4 * be32 b 4)
 abbrev pub Refused : List ℕ → Left → Type 0
 Refused b x = HasStatus x → statusOf b x ≤ 1 → ⊥
 
--- a place outside of n bytes from another on
-abbrev pub Outside : ℕ → ℕ → ℕ → Type 0
-Outside from n k = (k < from) ⊎ (from + n ≤ k)
-
--- a statement holds exactly when another does
-abbrev pub Exactly : Type 0 → Type 0 → Type 0
-Exactly P Q = (P → Q) × (Q → P)
+-- The terms in numerals: claims speak through them.
+pub record TermsExactly : Type 0 where
+  pub minus-words : (n : ℕ) → n ≤ 4294967296 → minus n + n ≡ 4294967296
+  pub has-status : (x : Left) → numberOf (x .number) ≡ 0 → HasStatus x
+  pub status-is : (b : List ℕ) (x : Left) → statusOf b x ≡ be 4 (x .args) (12 + 4 * be 4 b 4)
+  pub refused : (b : List ℕ) (x : Left) → (numberOf (x .number) ≡ 0 → be 4 (x .args) (12 + 4 * be 4 b 4) ≤ 1 → ⊥) → Refused b x
+  pub asks-is : (t i o : ℕ) (b : List ℕ) → Exactly (Asks t i o b) ((be 4 b 0 ≡ t) × (be 4 b 4 ≡ i) × (be 4 b 8 ≡ o))
+  pub reading-named : (flag type number edition : ℕ)
+      → naming flag type number edition ≡ record { flag = flag; «item_type» = type; number = record { 0 = number }; edition = record { 0 = edition } }
+  -- what a call finds, each in its place
+  pub found-is : (args memory journal inventory : List ℕ) (edition : Edition) (registration : Registration) (reading : ReadingRecord)
+      → found args memory journal inventory edition registration reading
+      ≡ record { args = args; memory = memory; journal = journal; inventory = inventory; edition = edition; registration = registration; reading = reading }

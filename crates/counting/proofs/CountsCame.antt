@@ -189,4 +189,5 @@ each-counts records waits c = record {
 }
 
 pub trace-count-claims : TraceCountClaims
-trace-count-claims = record { each-counts = each-counts; every-call-made = every-call-made; counts-of-calls = counts-of-calls; all-counts-came = all-counts-came; each-month = each-month; each-made = each-made; trace-count-readings = trace-count-readings }
+unfolding sumOf
+trace-count-claims = record { sums = ((λ ns. refl), (λ k. refl), (λ k n ns. refl)); each-counts = each-counts; every-call-made = every-call-made; counts-of-calls = counts-of-calls; all-counts-came = all-counts-came; each-month = each-month; each-made = each-made; trace-count-readings = trace-count-readings }

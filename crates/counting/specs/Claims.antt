@@ -6,6 +6,7 @@ use mathlib.Core.List.{List, [], _∷_, _++_}
 use mathlib.Core.Logic.{_⊎_}
 use lib.Dec.{T, leb, eqb}
 use lib.ListN.{length, set, replicate}
+use Rattle.words.specs.Cases.{same, every}
 use Rattle.words.specs.Numbers.{Bytes, be32, be64, wordBytes}
 use Rattle.words.specs.Reading.{read}
 use Rattle.journal.specs.declared.operation.Operation.{Operation}
@@ -21,7 +22,6 @@ use Rattle.calls.specs.Status.{isGiven, statusWord}
 use Rattle.calls.specs.Lent.{partAt}
 use Rattle.calls.specs.Buffer.{token, input, statusAt, isNodes, Found, callOf, answered}
 use Rattle.calls.specs.Terms.{minus}
-use Rattle.calls.specs.Readings.{same, all}
 use Rattle.counting.specs.declared.counts.Counts.{Counts}
 use Rattle.counting.specs.Area.{tallyOf}
 use Rattle.counting.specs.Counts.{noCounts, countedIn, handedOut, counted}
@@ -103,7 +103,7 @@ cases =
     ∷ []
 
 abbrev pub CountReadings : Type 0
-CountReadings = T (all cases)
+CountReadings = T (every cases)
 
 pub record CountClaims : Type 0 where
   pub operations-read : OperationsRead

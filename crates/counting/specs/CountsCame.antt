@@ -1,10 +1,9 @@
--- What holds of the counts of every replay that begins with none, by where it stands (document 02, M-111). At the C boundary counts that break one of
--- these rules are
--- refused.
-use Prim.Native.Nat.{ℕ, _+_, _*_, _≤_}
+-- What holds of the counts of every replay that begins with none, by where it stands (document 02, M-111). At the C boundary counts that break one
+-- of these rules are refused.
+use Prim.Native.Nat.{ℕ, suc, _+_, _*_, _≤_}
 use mathlib.Core.Path.{_≡_}
 use mathlib.Core.Bool.{Bool, true, _&&_}
-use mathlib.Core.List.{List}
+use mathlib.Core.List.{List, [], _∷_}
 use lib.Dec.{leb}
 use Rattle.words.specs.Exactly.{Exactly}
 use Rattle.records.specs.Cutting.{start, fedAll}
@@ -49,6 +48,8 @@ abbrev pub EachCounts : Type 0
 EachCounts = (records waits : ℕ) (c : Counts) → CountsExactly records waits c
 
 pub record TraceCountClaims : Type 0 where
+  -- the sum of the first k counts
+  pub sums : ((ns : List ℕ) → sumOf 0 ns ≡ 0) × ((k : ℕ) → sumOf (suc k) [] ≡ 0) × ((k n : ℕ) (ns : List ℕ) → sumOf (suc k) (n ∷ ns) ≡ n + sumOf k ns)
   pub each-counts : EachCounts
   pub every-call-made : EveryCallMade
   pub counts-of-calls : CountsOfCalls

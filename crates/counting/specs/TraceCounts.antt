@@ -4,10 +4,11 @@ use mathlib.Core.Bool.{Bool, _&&_}
 use mathlib.Core.List.{List, [], _∷_, _++_}
 use lib.Dec.{T, eqb}
 use lib.ListN.{replicate}
+use Rattle.words.specs.Cases.{same, every}
 use Rattle.words.specs.Numbers.{wordBytes}
 use Rattle.journal.specs.Claims.{short}
 use Rattle.calls.specs.Terms.{minus}
-use Rattle.calls.specs.Readings.{inventoryOf, same, all}
+use Rattle.calls.specs.Readings.{inventoryOf}
 use Rattle.trace.specs.TraceReadings.{before}
 use Rattle.trace.specs.SessionReadings.{made, updates, whole}
 use Rattle.counting.specs.declared.counts.Counts.{Counts}
@@ -37,4 +38,4 @@ cases =
     ∷ []
 
 abbrev pub TraceCountReadings : Type 0
-TraceCountReadings = T (all cases)
+TraceCountReadings = T (every cases)

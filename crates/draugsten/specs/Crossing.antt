@@ -4,9 +4,10 @@ use mathlib.Core.Bool.{Bool, _&&_}
 use mathlib.Core.List.{List, [], _∷_}
 use lib.Dec.{T, eqb}
 use lib.ListN.{replicate}
+use Rattle.words.specs.Cases.{every}
 use Rattle.words.specs.Numbers.{be32, wordBytes}
 use Rattle.calls.specs.Terms.{minus}
-use Rattle.calls.specs.Readings.{inventoryOf, all}
+use Rattle.calls.specs.Readings.{inventoryOf}
 use Rattle.crossing.specs.declared.reading_record.FlatReading.{FlatReading}
 use Rattle.crossing.specs.Record.{flatReading}
 use Rattle.draugsten.specs.Registration.{FlatLeft, flatFound, flatCallOf}
@@ -37,4 +38,4 @@ cases =
     ∷ []
 
 abbrev pub RecordCrosses : Type 0
-RecordCrosses = T (all cases)
+RecordCrosses = T (every cases)

@@ -1,6 +1,5 @@
--- What is promised of each function of libdraugsten.a. Each function's contract cites one promise, which the header names; a promise is made of the
--- claims about the
--- function and of what they rest on.
+-- What is promised of each function of libdraugsten.a. Each function's contract cites one promise, which the header names; a promise is
+-- made of the claims about the function and of what they rest on.
 use Prim.Native.Nat.{ℕ}
 use mathlib.Core.List.{List}
 use Rattle.words.specs.Claims.{NumbersExactly, NulExactly, ZerosExactly}

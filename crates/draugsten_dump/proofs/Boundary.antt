@@ -7,6 +7,7 @@ use Prim.Native.Nat.{ℕ, zero, suc, _≤_, _<_}
 use native.Mathlib.Omega.{arith}
 use lib.Dec.{leb}
 use borrow.Author.Tests.{leb-false}
+use Rattle.words.specs.Exactly.{Exactly}
 use Rattle.words.proofs.Choice.{decide, choose}
 use Rattle.dump.specs.declared.registration.Phase.the-variants.{Registered, Active}
 use Rattle.dump.specs.declared.registration.Registration.{Registration}
@@ -14,7 +15,6 @@ use Rattle.dump.specs.declared.registration.Verdict.{Verdict}
 use Rattle.dump.specs.declared.registration.Verdict.the-variants.{Done, Parameter, AlreadyRegistered, DumpActive}
 use Rattle.calls.specs.Status.{statusWord}
 use Rattle.calls.specs.ConfigureDump.{verdictStatus}
-use Rattle.calls.specs.Terms.{Exactly}
 use Rattle.crossing.specs.declared.registration.FlatRegistration.{FlatRegistration}
 use Rattle.crossing.specs.Registration.{phaseNumber, phaseOf, flatOf, registrationOf, isRegistration}
 use Rattle.crossing.proofs.Registrations.{bounds, faithful, flat-is}

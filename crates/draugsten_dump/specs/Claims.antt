@@ -5,13 +5,14 @@ use mathlib.Core.Bool.{true}
 use mathlib.Core.List.{List, []}
 use mathlib.Core.Logic.{_⊎_}
 use lib.ListN.{take}
+use Rattle.words.specs.Exactly.{Exactly}
 use Rattle.words.specs.Numbers.{Bytes, be32}
 use Rattle.dump.specs.declared.registration.Phase.the-variants.{Unregistered}
 use Rattle.dump.specs.declared.registration.Registration.{Registration}
 use Rattle.dump.specs.declared.registration.Verdict.the-variants.{Done, DumpActive}
 use Rattle.dump.specs.Structure.{goodStructure}
 use Rattle.calls.specs.Buffer.{Found, Left, callOf}
-use Rattle.calls.specs.Terms.{minus, Exactly, Asks, HasStatus, statusOf}
+use Rattle.calls.specs.Terms.{minus, Asks, HasStatus, statusOf}
 use Rattle.calls.specs.ExactDump.{Holds}
 use Rattle.crossing.specs.declared.registration.FlatRegistration.{FlatRegistration}
 use Rattle.dumping.specs.Running.{runOf}

@@ -1,6 +1,5 @@
--- What is promised of each function of libdraugsten_dump.a. Each function's contract cites one promise, which the header names; a promise is made of
--- the claims about
--- the function and of what they rest on.
+-- What is promised of each function of libdraugsten_dump.a. Each function's contract cites one promise, which the header names; a promise is
+-- made of the claims about the function and of what they rest on.
 use Rattle.words.specs.Claims.{NumbersExactly}
 use Rattle.dump.specs.StructureClaims.{StructureExactly}
 use Rattle.dump.specs.Claims.{StructureCases}

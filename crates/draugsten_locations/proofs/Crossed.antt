@@ -4,6 +4,7 @@ use mathlib.Core.List.{List, []}
 use Prim.Native.Nat.{ℕ}
 use native.Mathlib.Omega.{arith}
 use lib.ListN.{take, drop}
+use Rattle.words.specs.Exactly.{Exactly}
 use Rattle.indices.specs.declared.reading.Refusal.{Refusal}
 use Rattle.indices.specs.declared.reading.Refusal.the-variants.{Short, Past, Length, Code}
 use Rattle.indices.specs.Reading.{refusalNumber}
@@ -11,7 +12,6 @@ use Rattle.locations.specs.declared.lookups.Location.{Location}
 use Rattle.locations.specs.declared.lookups.Location.the-variants.{Refused, NotFound, InArea, InFixed}
 use Rattle.locations.specs.declared.lookups.Answer.the-variants as answer
 use Rattle.locations.specs.Locations.{locationOf, answerOf, codeOf}
-use Rattle.locations.specs.Claims.{Exactly}
 use Rattle.locations.proofs.LookupClaims.{location-claims}
 use Rattle.draugsten_locations.specs.Flat.{flatLocation, toldBy, LookupCrossing, ViewCrossing, RefusalNumbers, LookupNumbers, StepNumbers}
 

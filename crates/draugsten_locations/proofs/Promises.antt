@@ -1,5 +1,5 @@
 -- The promises of the archive hold.
-use Rattle.words.proofs.Claims.{numbers-exactly, nul-exactly}
+use Rattle.words.proofs.Claims.{numbers-exactly, nul-exactly, stated-exactly}
 use Rattle.indices.proofs.ReaderClaims.{index-reader-exactly}
 use Rattle.indices.proofs.Bounds.{entries-bounded}
 use Rattle.locations.proofs.LookupClaims.{location-claims}
@@ -17,6 +17,7 @@ lookup-promise =
       reader = index-reader-exactly;
       entries = entries-bounded;
       numbers = numbers-exactly;
+      stated = stated-exactly;
       codes = nul-exactly;
     }
 
@@ -30,4 +31,5 @@ view-promise =
       reader = index-reader-exactly;
       entries = entries-bounded;
       numbers = numbers-exactly;
+      stated = stated-exactly;
     }

@@ -5,6 +5,7 @@ use mathlib.Core.Bool.{cond}
 use mathlib.Core.List.{List, []}
 use lib.Dec.{eqb}
 use lib.ListN.{take, drop}
+use Rattle.words.specs.Exactly.{Exactly}
 use Rattle.indices.specs.declared.reading.Refusal.{Refusal}
 use Rattle.indices.specs.declared.reading.Refusal.the-variants.{Short, Past, Length, Code}
 use Rattle.indices.specs.declared.reading.Cursor.{Cursor}
@@ -16,7 +17,7 @@ use Rattle.locations.specs.declared.views.Given.{Given}
 use Rattle.locations.specs.declared.views.Given.the-variants as given
 use Rattle.locations.specs.declared.views.Advance.{Advance}
 use Rattle.locations.specs.Locations.{locationOf}
-use Rattle.locations.specs.Claims.{Exactly, lookupOf}
+use Rattle.locations.specs.Claims.{lookupOf}
 use Rattle.draugsten_locations.specs.declared.looking.FlatLocation.{FlatLocation}
 use Rattle.draugsten_locations.specs.declared.viewing.FlatCursor.{FlatCursor}
 use Rattle.draugsten_locations.specs.declared.viewing.FlatStep.{FlatStep}

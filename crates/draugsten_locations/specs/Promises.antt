@@ -1,7 +1,6 @@
 -- What is promised of each function of libdraugsten_locations.a. Each function's contract cites one promise, which the header names; a promise is
--- made of the claims
--- about the function and of what they rest on.
-use Rattle.words.specs.Claims.{NumbersExactly, NulExactly}
+-- made of the claims about the function and of what they rest on.
+use Rattle.words.specs.Claims.{NumbersExactly, NulExactly, StatedExactly}
 use Rattle.indices.specs.ReaderClaims.{IndexReaderExactly}
 use Rattle.indices.specs.Bounds.{EntriesBounded}
 use Rattle.locations.specs.Claims.{LocationClaims, ViewClaims}
@@ -16,6 +15,7 @@ pub record LookupPromise : Type 0 where
   pub reader : IndexReaderExactly
   pub entries : EntriesBounded
   pub numbers : NumbersExactly
+  pub stated : StatedExactly
   pub codes : NulExactly
 
 -- draugsten_view_start and draugsten_view_step
@@ -27,3 +27,4 @@ pub record ViewPromise : Type 0 where
   pub reader : IndexReaderExactly
   pub entries : EntriesBounded
   pub numbers : NumbersExactly
+  pub stated : StatedExactly

@@ -2,12 +2,12 @@
 use mathlib.Core.Path.{refl}
 use borrow.Author.Tests.{ne-eqb}
 use Rattle.calls.specs.Buffer.{asks}
-use Rattle.replay_states.specs.States.{judged}
-use Rattle.draugsten_replay.specs.Month.{judgedCountingBy, countsAdded, monthAdded, monthOf}
+use Rattle.replay_states.specs.States.{areCounts, judged}
+use Rattle.draugsten_replay.specs.Month.{isCountingBy, judgedCountingBy, countsAdded, monthAdded, monthOf}
 use Rattle.draugsten_replay.specs.MonthClaims.{SessionsExactly}
 
 pub sessions-exactly : SessionsExactly
-unfolding countsAdded monthAdded monthOf judgedCountingBy asks
+unfolding countsAdded monthAdded monthOf judgedCountingBy isCountingBy areCounts asks
 sessions-exactly =
     record {
       report = λ s. refl;
@@ -16,9 +16,11 @@ sessions-exactly =
       not-taken = λ t f e. rw e;
       none = λ t. refl;
       next = λ t s ss. refl;
-      feeds = λ journal inventory held args memory bytes heldThen argsThen memoryThen f r feeds. (feeds .refused, feeds .replays);
+      feeds = λ journal inventory held args memory bytes heldThen argsThen memoryThen f r feeds. (feeds .number, feeds .refused, feeds .replays);
       judged-first = λ held args f n. rw (ne-eqb (judged held args (f .replay)) 0 n);
       judged-then = λ held args f e. rw e;
+      both = λ f. refl;
+      counts-taken = λ f c. refl;
       begins = λ edition. refl;
       figured = λ c. refl;
       nodes = λ b. refl;

@@ -1,13 +1,15 @@
 -- What start, feed and end promise at the C boundary (document 02, M-110).
-use Prim.Native.Nat.{ℕ, _≤_}
+use Prim.Native.Nat.{ℕ, suc, _≤_}
 use mathlib.Core.Path.{_≡_}
 use mathlib.Core.Bool.{true, false, cond}
 use mathlib.Core.List.{List}
-use lib.ListN.{length, drop}
+use lib.ListN.{length, take, drop}
 use lib.Seq.{sets}
 use Rattle.records.specs.Cutting.{Standing, start, fed}
 use Rattle.trace.specs.declared.report.Report.the-variants.{Agreed, Differs, Malformed}
-use Rattle.trace.specs.Playing.{Platform, State, isOver, begin, reader}
+use Rattle.crossing.specs.Registration.{registrationOf}
+use Rattle.crossing.specs.Record.{readingOf}
+use Rattle.trace.specs.Playing.{Platform, none, call, State, isOver, begin, reader}
 use Rattle.playing.specs.Lent.{Lent, lentStep, lender}
 use Rattle.replay.specs.Feeding.{standingOf, lentStandingOf, completed, startOf, endOf}
 use Rattle.replay_states.specs.declared.state.FlatReplay.{FlatReplay}
@@ -60,6 +62,12 @@ pub record FeedsExactly : Type 0 where
       × ((drop 4104 heldThen ≡ drop 4104 held)
       × (judged held args f ≡ 0 → isOver (reportOf (f .report)) ≡ true → (heldThen ≡ held) × (argsThen ≡ args)))
   pub over : (journal inventory : List ℕ) (edition : ℕ) → platform journal inventory edition ≡ record { journal = journal; inventory = inventory; edition = record { 0 = edition } }
+  -- where a state stands: its held bytes, and the 32 that waits at the front of `args`, by one more than its size
+  pub comes : (held args memory : List ℕ) (f : FlatReplay)
+      → let w = standingIn held args memory f in
+      (w .held ≡ take (f .held) held) × (w .state .records ≡ f .records) × (w .state .report ≡ reportOf (f .report)) × (w .state .memory ≡ memory)
+      × (w .state .registration ≡ registrationOf (f .registration)) × (w .state .reading ≡ readingOf (f .reading))
+      × (f .waiting ≡ 0 → w .state .waiting ≡ none) × ((n : ℕ) → f .waiting ≡ suc n → w .state .waiting ≡ call (take n args))
   -- what is looked at of a state and its buffers; which reports stop a replay; what a record puts into the lent buffer; an end of a state that is not taken
   pub looked-at : (held args : List ℕ) (f : FlatReplay) → judged held args f ≡ judgedBy held (length args) f
   pub stops : (n k : ℕ) → (isOver (Agreed n) ≡ false) × ((isOver (Differs n k) ≡ true) × (isOver (Malformed n) ≡ true))

@@ -10,7 +10,7 @@ use Rattle.calls.specs.Buffer.{input, statusAt, isNodes}
 use Rattle.counting.specs.declared.counts.Counts.{Counts}
 use Rattle.counting.specs.Counts.{noCounts}
 use Rattle.counting.specs.Claims.{CountClaims}
-use Rattle.counting.specs.CountsCame.{TraceCountClaims}
+use Rattle.counting.specs.CountsCame.{countsCame, TraceCountClaims}
 use Rattle.totals.specs.declared.adding.Totals.{Totals}
 use Rattle.totals.specs.Adding.{noTotals, addedTo}
 use Rattle.totals.specs.Claims.{reordered, EachFits, TotalsClaims}
@@ -18,9 +18,11 @@ use Rattle.totals.specs.Consistent.{consistent, ConsistentClaims}
 use Rattle.shares.specs.Share.{shareOf, Lowest, ShareClaims}
 use Rattle.trace.specs.declared.report.Report.the-variants.{Agreed}
 use Rattle.trace.specs.Playing.{isOver, replayOf}
+use Rattle.trace.specs.Came.{waitsIn}
 use Rattle.counting.specs.OfTrace.{countsOf}
 use Rattle.counting.specs.Figures.{figuresIn, figuresOf}
-use Rattle.replay_states.specs.States.{flatReportOf, areCounts, judged}
+use Rattle.replay_states.specs.declared.state.FlatReplay.{FlatReplay}
+use Rattle.replay_states.specs.States.{flatReportOf, reportOf, isState, areCounts, judged}
 use Rattle.draugsten_replay.specs.Feeding.{platform, FlatFeeds, flatStart}
 use Rattle.draugsten_replay.specs.declared.month.FlatCounting.{FlatCounting}
 use Rattle.draugsten_replay.specs.declared.month.FlatCounted.{FlatCounted}
@@ -176,10 +178,14 @@ pub record SessionsExactly : Type 0 where
   -- a counting feed does to buffers, memory and replay what draugsten_replay_feed does; refused, it changes nothing
   pub feeds : (journal inventory held args memory bytes heldThen argsThen memoryThen : List ℕ) (f : FlatCounting) (r : FlatCounted)
       → CountingFeeds journal inventory held args memory f bytes heldThen argsThen memoryThen r
-      → ((judgedCounting held args f ≡ 0 → ⊥) → (r .counting ≡ f) × ((heldThen ≡ held) × ((argsThen ≡ args) × (memoryThen ≡ memory))))
+      → (r .number ≡ judgedCounting held args f)
+      × ((judgedCounting held args f ≡ 0 → ⊥) → (r .counting ≡ f) × ((heldThen ≡ held) × ((argsThen ≡ args) × (memoryThen ≡ memory))))
       × (judgedCounting held args f ≡ 0 → FlatFeeds journal inventory held args memory (f .replay) bytes heldThen argsThen memoryThen (record { number = 0; replay = r .counting .replay }))
   pub judged-first : (held args : List ℕ) (f : FlatCounting) → (judged held args (f .replay) ≡ 0 → ⊥) → judgedCounting held args f ≡ judged held args (f .replay)
   pub judged-then : (held args : List ℕ) (f : FlatCounting) → judged held args (f .replay) ≡ 0 → judgedCounting held args f ≡ cond (areCounts (f .replay) (f .counts)) 0 14
+  -- a state with its counts is taken if each is; which counts, by the report, the records and whether a 32 waits
+  pub both : (f : FlatCounting) → isCounting f ≡ (isState (f .replay) && areCounts (f .replay) (f .counts))
+  pub counts-taken : (f : FlatReplay) (c : Counts) → areCounts f c ≡ countsCame (reportOf (f .report)) (f .records) (waitsIn (f .waiting)) c
   pub begins : (edition : ℕ) → flatCountingStart edition .replay ≡ flatStart edition
   pub figured : (c : Counts) → figuresOf c .figures ≡ figuresIn c
   -- a call of update-nodes: token 1, two inputs and one output, with its inputs and its status where they stand

@@ -4,7 +4,7 @@ use mathlib.Core.Bool.{Bool, _&&_}
 use mathlib.Core.List.{List, [], _∷_, _++_}
 use lib.Dec.{T, eqb}
 use lib.ListN.{replicate, set}
-use Rattle.calls.specs.Readings.{same, all}
+use Rattle.words.specs.Cases.{same, every}
 use Rattle.counting.specs.declared.counts.Counts.{Counts}
 use Rattle.totals.specs.declared.adding.Totals.{Totals}
 use Rattle.totals.specs.Adding.{totalsOf, noTotals}
@@ -13,19 +13,19 @@ use Rattle.totals.specs.Consistent.{figuresAt}
 use Rattle.replay_states.specs.declared.state.FlatReport.{FlatReport}
 use Rattle.replay_states.specs.declared.state.FlatReplay.{FlatReplay}
 use Rattle.replay_states.specs.States.{flatReport}
-use Rattle.replay_states.specs.Readings.{plain}
-use Rattle.draugsten_replay.specs.Month.{monthAdded, mergedTo}
-
--- ---- what is compared
-
-abbrev pub merges : Totals → Totals → ℕ → Totals → Bool
-merges t more number totals = let a = mergedTo t more in eqb (a .number) number && same (a .totals .figures) (totals .figures)
+use Rattle.crossing.specs.Record.{flatReading}
+use Rattle.draugsten_replay.specs.Month.{monthAdded}
 
 -- ---- traces by what they came to
 
 -- so many calls in a row of the first token, with operations and words
 abbrev pub inRow : ℕ → ℕ → ℕ → ℕ → Counts
 inRow row calls operations used = record { rows = set (replicate 28 0) row calls; operations = operations; used = used }
+
+-- a replay over edition 7, with no registration and no reading in progress
+abbrev pub plain : ℕ → FlatReport → ℕ → ℕ → FlatReplay
+plain records report held waiting =
+    record { records = records; report = report; held = held; waiting = waiting; edition = 7; registration = record { phase = 0; length = 0; copy = replicate 512 0 }; reading = flatReading 0 0 1 0 }
 
 -- one call that agreed
 abbrev pub oneAgreed : FlatReplay
@@ -63,14 +63,5 @@ additions =
     ∷ keeps (oneAnswered 0 3 6) (plain 4 (flatReport 1 24 1) 0 0) (inRow 0 2 0 0) 14 (flatReport 2 0 0)
     ∷ []
 
--- ---- totals of other traces
-
-abbrev pub mergings : List Bool
-mergings =
-    merges (oneAnswered 0 3 6) (oneAnswered 1 1 2) 0 (figuresAt ((0, 1) ∷ (1, 1) ∷ (28, 2) ∷ (32, 4) ∷ (33, 8) ∷ (34, 2038) ∷ []))
-    -- figures that no traces give: 18, before 17
-    ∷ merges (oneAnswered 0 3 6) (figure 34 18446744073709551615) 18 (oneAnswered 0 3 6)
-    ∷ []
-
 abbrev pub MonthReadings : Type 0
-MonthReadings = T (all (additions ++ mergings))
+MonthReadings = T (every additions)

@@ -1,6 +1,5 @@
--- What is promised of each function of libdraugsten_replay.a. Each function's contract cites one promise, which the header names; a promise is made
--- of the claims about
--- the function and of what they rest on.
+-- What is promised of each function of libdraugsten_replay.a. Each function's contract cites one promise, which the header names; a promise is
+-- made of the claims about the function and of what they rest on.
 use Rattle.calls.specs.CallClaims.{CallClaims}
 use Rattle.draugsten_replay.specs.Claims.{BoundaryClaims}
 use Rattle.draugsten_replay.specs.MonthClaims.{MonthClaims}

@@ -6,6 +6,7 @@ use mathlib.Core.List.{List, []}
 use lib.Dec.{ltb, eqb}
 use lib.ListN.{length, take}
 use lib.Seq.{sets}
+use Rattle.words.specs.Exactly.{Exactly}
 use Rattle.records.specs.Records.{lengthOf, kindOf, sizeOf}
 use Rattle.records.specs.Cutting.{Standing, start, fed}
 use Rattle.tallies.specs.declared.keeping.Tallied.{Tallied}
@@ -13,7 +14,6 @@ use Rattle.tallies.specs.declared.keeping.Outcome.{Outcome}
 use Rattle.tallies.specs.declared.keeping.Outcome.the-variants.{Done, Malformed, NoRoom, Unfit}
 use Rattle.tallies.specs.Keeping.{fits, appendOf}
 use Rattle.tallies.specs.Sessions as sessions
-use Rattle.tallies.specs.Claims.{Exactly}
 use Rattle.intake.specs.declared.taking.Place.{Place}
 use Rattle.intake.specs.declared.bursts.Intake.{Intake}
 use Rattle.intake.specs.declared.bursts.Ending.{Ending}

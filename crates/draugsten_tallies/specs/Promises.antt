@@ -1,6 +1,5 @@
--- What is promised of each function of libdraugsten_tallies.a. Each function's contract cites one promise, which the header names; a promise is made
--- of the claims about
--- the function and of what they rest on.
+-- What is promised of each function of libdraugsten_tallies.a. Each function's contract cites one promise, which the header names; a promise is
+-- made of the claims about the function and of what they rest on.
 use Rattle.journal.specs.Claims.{JournalClaims}
 use Rattle.tallies.specs.Claims.{RecountClaims, TallyClaims}
 use Rattle.tallies.specs.Joining.{JoinClaims}

@@ -8,7 +8,7 @@ use lib.Dec.{leb, ltb}
 use borrow.Author.Tests.{leb-true, ltb-true, ltb-false, le-leb, lt-ltb}
 use Rattle.dumping.specs.declared.section.Section.{Section}
 use Rattle.dumping.specs.Section.{has, room, errorFlags, actualLength}
-use Rattle.dumping.specs.Claims.{FlagsExactly, OutsideCopiesNothing, CopiedInside, AllCopied, SectionReadings, SectionClaims}
+use Rattle.dumping.specs.Claims.{FlagsExactly, OutsideCopiesNothing, CopiedInside, AllCopied, SectionClaims}
 use Rattle.dumping.proofs.Flags.{four, one-if, is-one, Bits, bits, none-set}
 
 module _ (source memory : ℕ) (s : Section) where
@@ -56,9 +56,5 @@ all-copied source memory s e =
     let wide = ltb-false (room memory s) (has source s) (none .1) in
     omega (arith, fits, wide)
 
-readings : SectionReadings
-unfolding errorFlags actualLength
-readings = tt
-
 pub section-claims : SectionClaims
-section-claims = record { each-flag = exactly; outside-copies-nothing = outside; copied-inside = inside; all-copied = all-copied; readings = readings }
+section-claims = record { each-flag = exactly; outside-copies-nothing = outside; copied-inside = inside; all-copied = all-copied }

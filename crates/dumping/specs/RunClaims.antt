@@ -5,6 +5,7 @@ use mathlib.Core.Bool.{true}
 use mathlib.Core.List.{List}
 use mathlib.Core.Logic.{_⊎_}
 use lib.ListN.{length, getD, take}
+use Rattle.words.specs.Exactly.{Exactly, Outside}
 use Rattle.words.specs.Numbers.{Bytes, be16, be32, be64}
 use Rattle.dump.specs.declared.registration.Phase.the-variants.{Registered, Active}
 use Rattle.dump.specs.declared.registration.Registration.{Registration}
@@ -12,12 +13,8 @@ use Rattle.dump.specs.declared.registration.Verdict.the-variants.{Done, Paramet
 use Rattle.dump.specs.Structure.{goodStructure}
 use Rattle.dumping.specs.declared.section.Section.{Section}
 use Rattle.dumping.specs.Running.{runOf}
-use Rattle.dumping.specs.Claims.{Exactly, FlagsExactly}
+use Rattle.dumping.specs.Claims.{FlagsExactly}
 use Rattle.dumping.specs.RunReadings.{RunReadings}
-
--- a place outside of n bytes from another on
-abbrev pub Outside : ℕ → ℕ → ℕ → Type 0
-Outside from n i = (i < from) ⊎ (from + n ≤ i)
 
 -- ---- the structure that was registered, in the paper's offsets
 

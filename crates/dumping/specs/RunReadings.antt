@@ -5,7 +5,7 @@ use mathlib.Core.List.{List, [], _∷_, _++_}
 use lib.Dec.{T, eqb}
 use lib.ListN.{take, replicate}
 use Rattle.words.specs.Numbers.{be16, be64, beBytes}
-use Rattle.words.specs.Cases.{all}
+use Rattle.words.specs.Cases.{all, same}
 use Rattle.dump.specs.declared.registration.Phase.{Phase}
 use Rattle.dump.specs.declared.registration.Phase.the-variants.{Unregistered, Registered, Active}
 use Rattle.dump.specs.declared.registration.Registration.{Registration}
@@ -44,12 +44,6 @@ abbrev pub ran : ℕ → List ℕ → Run
 ran n sections = runOf three ten (holding Registered (40 + 40 * n) (structure n sections))
 
 -- ---- what they leave
-
-abbrev pub same : List ℕ → List ℕ → Bool
-same [] [] = eqb 0 0
-same [] (y ∷ ys) = eqb 0 1
-same (x ∷ xs) [] = eqb 0 1
-same (x ∷ xs) (y ∷ ys) = eqb x y && same xs ys
 
 -- a verdict as its status without the sign
 abbrev pub number : Verdict → ℕ

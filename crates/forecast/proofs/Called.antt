@@ -10,6 +10,7 @@ use lib.Dec.{leb, ltb, eqb}
 use borrow.Author.Tests.{leb-true, leb-false, eqb-true, eqb-false}
 use lib.ListN.{length, drop}
 use lib.Seq.{take-take}
+use Rattle.words.specs.Exactly.{Exactly}
 use Rattle.words.specs.Numbers.{be, be32, be64, beBytes, wordBytes, zeros}
 use Rattle.words.proofs.Choice.{decide}
 use Rattle.words.proofs.Numbers.{be-drop, be-take}
@@ -29,7 +30,7 @@ use Rattle.tallies.proofs.Claims.{recount-claims}
 use Rattle.calls.specs.Status.{statusWord}
 use Rattle.calls.specs.Lent.{partAt}
 use Rattle.calls.specs.Buffer.{Found, Left, callOf}
-use Rattle.calls.specs.Terms.{minus, HasStatus, statusOf, Exactly}
+use Rattle.calls.specs.Terms.{minus, HasStatus, statusOf}
 use Rattle.calls.specs.ExactNodes.{Asked, Clear, Answer, ExactNodes}
 use Rattle.calls.proofs.Exactly.{equal, below, either}
 use Rattle.calls.proofs.Exact.{demand2}

@@ -1,22 +1,23 @@
 -- What is claimed of an intake: the laws of cutting over any reader, for this one, and what bursts leave of the journal.
 use mathlib.Core.Path.{_≡_, refl, ap, _∙_}
-use mathlib.Core.Bool.{true, false, not}
-use mathlib.Core.List.{List, [], _∷_}
-use Prim.Native.Nat.{ℕ, zero, suc, _≤_, _<_}
+use mathlib.Core.Bool.{true, false, not, and-false}
+use mathlib.Core.List.{List, [], _∷_, _++_}
+use mathlib.Core.Logic.{⊎-elim}
+use Prim.Native.Nat.{ℕ, zero, suc, _-_, _≤_, _<_}
 use native.Mathlib.Omega.{arith}
-use lib.Dec.{leb}
+use lib.Dec.{leb, eqb}
 use lib.ListN.{length, take, drop, length-drop}
-use borrow.Author.Tests.{leb-true, leb-false}
+use borrow.Author.Tests.{leb-true, leb-false, le-leb, lt-leb, lt-ltb, le-ltb, eq-eqb, ne-eqb}
 use Rattle.words.proofs.Choice.{decide, and-left, and-right}
 use Rattle.records.specs.Records.{lengthOf, kindOf, sizeOf, firstRecord, records, whole, allGood}
-use Rattle.records.specs.Cutting.{standing, start, fed}
+use Rattle.records.specs.Cutting.{due, standing, start, fed}
 use Rattle.records.proofs.Due.{due-least}
 use Rattle.records.proofs.Feeding.{any-cutting, standing-start, fed-append, fed-stopped, fed-first, fed-held}
 use Rattle.records.proofs.Whole.{fine, first-good, later-good, as-records}
 use Rattle.journal.specs.Journal.{goodRecord}
 use Rattle.intake.specs.Taking.{goodFront, Taking, stopped, step, reader}
-use Rattle.intake.specs.Bursts.{standsAt}
-use Rattle.intake.specs.Claims.{AnyCutting, BurstsJoin, arrived, RecordByRecord, GoodOnes, EachJudged, StopsForGood, BurstKeeps, IntakeClaims}
+use Rattle.intake.specs.Bursts.{standsAt, completed}
+use Rattle.intake.specs.Claims.{AnyCutting, BurstsJoin, arrived, RecordByRecord, GoodOnes, EachJudged, StopsForGood, BurstKeeps, EachStore, IntakeClaims}
 use Rattle.intake.proofs.Readings.{intake-readings}
 use Rattle.intake.proofs.Fronts.{front-exactly, due-size, due-four, good-front, bad-front}
 use Rattle.intake.proofs.Steps.{sticky, bad-stops, bad-malformed, going, not-done, each-step, run-grows}
@@ -94,9 +95,23 @@ burst-keeps held number fault bytes = record {
   counted = λ s. run-grows (record { buffer = s .buffer; journal = s .journal; number = number; fault = fault }) _ .counted;
 }
 
+each-store : EachStore
+unfolding completed
+each-store store bytes n =
+    let missing = due goodFront (take n store ++ bytes) - n in
+    record {
+      none = λ z. rw (eq-eqb n 0 z);
+      due-bytes = λ some o.
+          let held : eqb n 0 ≡ false = ne-eqb n 0 (λ e. omega arith) in
+          ⊎-elim (λ h. rw (held, le-ltb n 18 h))
+          (λ o. ⊎-elim (λ h. simp (held, lt-leb 18 (length bytes) h, and-false)) (λ h. simp (held, lt-leb missing 18 h, and-false)) o) o;
+      eighteen = λ some low long few. rw (ne-eqb n 0 (λ e. omega arith), lt-ltb n 18 low, le-leb 18 (length bytes) long, le-leb missing 18 few);
+    }
+
 pub intake-claims : IntakeClaims
 intake-claims = record {
   each-standing = λ buffer store i. record { standing = refl; step = λ s r. (refl, refl) };
+  each-store = each-store;
   any-cutting = every-cutting;
   bursts-join = bursts-join;
   record-by-record = record-by-record;

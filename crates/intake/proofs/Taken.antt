@@ -7,13 +7,13 @@ use native.Mathlib.Omega.{arith}
 use lib.Dec.{leb, eqb}
 use lib.ListN.{length, take}
 use borrow.Author.Tests.{leb-true, le-leb, eqb-true, eq-eqb, ne-eqb}
+use Rattle.words.specs.Exactly.{Exactly}
 use Rattle.words.proofs.Choice.{and-left, and-right}
 use Rattle.records.specs.Cutting.{due, ripe}
 use Rattle.records.proofs.Due.{due-least, nothing-raw}
 use Rattle.tallies.specs.declared.keeping.Outcome.{Outcome}
 use Rattle.tallies.specs.declared.keeping.Outcome.the-variants.{Done, Malformed, NoRoom, Unfit}
 use Rattle.tallies.specs.Keeping.{fits, isDone}
-use Rattle.tallies.specs.Claims.{Exactly}
 use Rattle.intake.specs.Taking.{goodFront}
 use Rattle.intake.specs.States.{restsAt, readyFor, ReadyExactly}
 

@@ -1,24 +1,26 @@
 -- What is claimed of an intake, cited by the contracts of `start`, `burst` and `end` (document 02, M-109).
-use Prim.Native.Nat.{ℕ, zero, suc, _+_, _≤_, _<_}
+use Prim.Native.Nat.{ℕ, zero, suc, _+_, _-_, _≤_, _<_}
 use mathlib.Core.Path.{_≡_}
 use mathlib.Core.Bool.{true, false, cond}
 use mathlib.Core.List.{List, [], _++_}
 use mathlib.Core.Logic.{_⊎_}
 use lib.Dec.{leb}
 use lib.ListN.{length, take, drop}
+use lib.Seq.{sets}
+use Rattle.words.specs.Exactly.{Exactly}
 use Rattle.records.specs.Records.{lengthOf, kindOf, sizeOf, firstRecord, records, allGood}
-use Rattle.records.specs.Cutting.{Standing, run, start, fed, fedAll, joined}
+use Rattle.records.specs.Cutting.{due, Standing, run, start, fed, fedAll, joined}
 use Rattle.journal.specs.Journal.{goodRecord}
 use Rattle.tallies.specs.declared.keeping.Tallied.{Tallied}
 use Rattle.tallies.specs.declared.keeping.Outcome.{Outcome}
 use Rattle.tallies.specs.declared.keeping.Outcome.the-variants as outcome
 use Rattle.tallies.specs.Keeping.{Left, fits}
-use Rattle.tallies.specs.Claims.{Exactly, OneGood, AttachedExactly}
+use Rattle.tallies.specs.Claims.{OneGood, AttachedExactly}
 use Rattle.tallies.specs.Sessions as sessions
 use Rattle.intake.specs.declared.bursts.Ending.the-variants as ending
 use Rattle.intake.specs.declared.bursts.Intake.{Intake}
 use Rattle.intake.specs.Taking.{goodFront, Taking, stopped, step, reader}
-use Rattle.intake.specs.Bursts.{standsAt, standingOf, Ready, startOf, endAt, endOf, bursting}
+use Rattle.intake.specs.Bursts.{standsAt, standingOf, Ready, startOf, endAt, endOf, bursting, completed}
 use Rattle.intake.specs.Readings.{IntakeReadings}
 
 -- ---- any cutting
@@ -127,8 +129,20 @@ StartReady =
 abbrev pub BurstKeeps : Type 0
 BurstKeeps = (held : List ℕ) (number : ℕ) (fault : Outcome) (bytes : List ℕ) → sessions.Keeps (bursting held number fault bytes)
 
+-- The store after a burst, before what is held now: with nothing held it stays. Else the burst's bytes go after the held ones: those that are due to
+-- the record or, if fewer than 18 are held, 18 or more came and no more than 18 are due, 18 of them. No other byte changes.
+pub record StoreExactly (store bytes : List ℕ) (n : ℕ) : Type 0 where
+  pub none : n ≡ 0 → completed store n bytes ≡ store
+  pub due-bytes : 1 ≤ n → let missing = due goodFront (take n store ++ bytes) - n in
+      (18 ≤ n) ⊎ ((length bytes < 18) ⊎ (18 < missing)) → completed store n bytes ≡ sets store n (take missing bytes)
+  pub eighteen : 1 ≤ n → n < 18 → 18 ≤ length bytes → due goodFront (take n store ++ bytes) - n ≤ 18 → completed store n bytes ≡ sets store n (take 18 bytes)
+
+abbrev pub EachStore : Type 0
+EachStore = (store bytes : List ℕ) (n : ℕ) → StoreExactly store bytes n
+
 pub record IntakeClaims : Type 0 where
   pub each-standing : EachStanding
+  pub each-store : EachStore
   pub any-cutting : AnyCutting
   pub bursts-join : BurstsJoin
   pub record-by-record : RecordByRecord

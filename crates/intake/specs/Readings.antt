@@ -4,10 +4,10 @@ use mathlib.Core.Bool.{Bool, _&&_}
 use mathlib.Core.List.{List, [], _∷_, _++_}
 use lib.Dec.{T, eqb}
 use lib.ListN.{length, take, replicate}
-use Rattle.words.specs.Cases.{all}
+use Rattle.words.specs.Cases.{all, same}
 use Rattle.records.specs.Cutting.{Standing, fed}
 use Rattle.tallies.specs.Keeping.{nothing}
-use Rattle.tallies.specs.Readings.{delete, update, addition, unit, changed, gone, same, number}
+use Rattle.tallies.specs.Readings.{delete, update, addition, unit, changed, gone, number}
 use Rattle.intake.specs.declared.bursts.Ending.{Ending}
 use Rattle.intake.specs.declared.bursts.Ending.the-variants.{Nothing, Unfinished, Malformed, NoRoom, Unfit}
 use Rattle.intake.specs.Taking.{Taking, reader}

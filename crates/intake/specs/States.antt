@@ -5,11 +5,11 @@ use mathlib.Core.Bool.{Bool, true, false, not, _&&_}
 use mathlib.Core.List.{List}
 use lib.Dec.{leb, eqb}
 use lib.ListN.{length, take}
+use Rattle.words.specs.Exactly.{Exactly}
 use Rattle.records.specs.Cutting.{ripe}
 use Rattle.tallies.specs.declared.keeping.Outcome.{Outcome}
 use Rattle.tallies.specs.declared.keeping.Outcome.the-variants.{Done, Malformed, NoRoom, Unfit}
 use Rattle.tallies.specs.Keeping.{fits}
-use Rattle.tallies.specs.Claims.{Exactly}
 use Rattle.intake.specs.declared.bursts.Intake.{Intake}
 use Rattle.intake.specs.Taking.{goodFront}
 use Rattle.intake.specs.Bursts.{Ready}

@@ -7,7 +7,7 @@ use lib.ListN.{length}
 use borrow.Author.Tests.{le-leb}
 use Rattle.words.specs.Numbers.{le}
 use Rattle.words.specs.Nul.{untilNul, isEnded}
-use Rattle.words.proofs.Claims.{numbers-exactly, nul-exactly}
+use Rattle.words.proofs.Claims.{stated-exactly, numbers-exactly, nul-exactly}
 use Rattle.records.specs.Records.{lengthOf, kindOf, recordsFrom, records, whole, allGood, wellFormedBy, sizeLimit}
 use Rattle.records.proofs.Steps.{oversized}
 use Rattle.records.proofs.Claims.{records-in-turn}
@@ -37,6 +37,7 @@ scope-rows = (λ scope h. rw (le-leb 2147483648 scope h), refl, refl, refl)
 pub journal-claims : JournalClaims
 journal-claims =
     record {
+      stated = stated-exactly;
       numbers = numbers-exactly;
       names = nul-exactly;
       in-turn = records-in-turn;

@@ -7,7 +7,7 @@ use lib.Dec.{T}
 use lib.ListN.{length, replicate}
 use Rattle.words.specs.Cases.{Case, yes, no, agree}
 use Rattle.words.specs.Exactly.{Exactly}
-use Rattle.words.specs.Claims.{NumbersExactly, NulExactly}
+use Rattle.words.specs.Claims.{StatedExactly, NumbersExactly, NulExactly}
 use Rattle.records.specs.Records.{records, allGood}
 use Rattle.records.specs.Claims.{RecordsInTurn}
 use Rattle.journal.specs.Journal.{goodRecord, wellFormed}
@@ -64,6 +64,7 @@ ScopeRows = ((scope : ℕ) → 2147483648 ≤ scope → rowOf scope ≡ 0 ∷ 0 
 
 -- all that is claimed of a journal, and what it rests on
 pub record JournalClaims : Type 0 where
+  pub stated : StatedExactly
   pub numbers : NumbersExactly
   pub names : NulExactly
   pub in-turn : RecordsInTurn

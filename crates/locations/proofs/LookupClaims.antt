@@ -8,6 +8,7 @@ use native.Mathlib.Omega.{arith}
 use lib.Dec.{ltb, eqb}
 use lib.ListN.{length, take, drop, length-take, length-drop}
 use borrow.Author.Tests.{ne-eqb, eqb-true, eqb-false, leb-true, ltb-true}
+use Rattle.words.specs.Exactly.{Exactly}
 use Rattle.words.specs.Numbers.{be32}
 use Rattle.words.specs.Nul.{untilNul}
 use Rattle.words.specs.Reading.{Reading, read, refused}
@@ -25,7 +26,7 @@ use Rattle.locations.specs.declared.lookups.Answer.the-variants as answe
 use Rattle.locations.specs.declared.lookups.Bounds.{Bounds}
 use Rattle.locations.specs.Locations.{behindNuls, fixedPart, fixedLocation, partAt, firstListed, locationBy, locationOf, answerOf, codeOf, placeOf}
 use Rattle.locations.specs.Terms.{Sets, firstFrom, noBounds, boundsOf}
-use Rattle.locations.specs.Claims.{Exactly, EmptyExactly, RefusedFirst, Reserved, ListedWins, OtherwiseFixed, LocationClaims}
+use Rattle.locations.specs.Claims.{EmptyExactly, RefusedFirst, Reserved, ListedWins, OtherwiseFixed, LocationClaims}
 use Rattle.locations.proofs.NulLaws.{behind-short, each-fixed}
 use Rattle.locations.proofs.Listings.{all-read, first-set, first-wins, none-listed}
 use Rattle.locations.proofs.LookupReadings.{lookup-readings}

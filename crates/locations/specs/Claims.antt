@@ -4,6 +4,7 @@ use Prim.Native.Nat.{ℕ, suc, _+_, _-_, _≤_, _<_}
 use mathlib.Core.Path.{_≡_}
 use mathlib.Core.List.{List, [], _∷_, _++_}
 use lib.ListN.{length, getD, take}
+use Rattle.words.specs.Exactly.{Exactly}
 use Rattle.words.specs.Numbers.{be}
 use Rattle.words.specs.Nul.{untilNul}
 use Rattle.words.specs.Reading.{read, refused}
@@ -22,10 +23,6 @@ use Rattle.locations.specs.declared.views.Given.the-variants as given
 use Rattle.locations.specs.Locations.{fixedLocation, locationOf, answerOf, codeOf, placeOf}
 use Rattle.locations.specs.Views.{advanceOf, cursorBehind, stepNumber, listing, readingBy, shown, entry, last}
 use Rattle.locations.specs.Readings.{LookupReadings}
-
--- a statement holds exactly when another does
-abbrev pub Exactly : Type 0 → Type 0 → Type 0
-Exactly P Q = (P → Q) × (Q → P)
 
 -- what the two public functions give
 abbrev pub lookupOf : List ℕ → List ℕ → ℕ → List ℕ

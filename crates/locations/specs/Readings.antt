@@ -5,20 +5,13 @@ use mathlib.Core.List.{List, [], _∷_, _++_}
 use lib.Dec.{T, eqb}
 use lib.ListN.{replicate}
 use Rattle.words.specs.Numbers.{beBytes}
-use Rattle.words.specs.Cases.{all}
+use Rattle.words.specs.Cases.{all, same}
 use Rattle.indices.specs.Reading.{refusalNumber}
 use Rattle.locations.specs.declared.lookups.Location.{Location}
 use Rattle.locations.specs.declared.lookups.Location.the-variants as location
 use Rattle.locations.specs.declared.lookups.Answer.{Answer}
 use Rattle.locations.specs.declared.lookups.Answer.the-variants as answer
 use Rattle.locations.specs.Locations.{locationOf, answerOf, codeOf}
-
--- the same bytes
-unfoldable pub same : List ℕ → List ℕ → Bool
-same [] [] = eqb 0 0
-same [] (y ∷ ys) = false
-same (x ∷ xs) [] = false
-same (x ∷ xs) (y ∷ ys) = eqb x y && same xs ys
 
 -- a set of an index and a code of three letters or of four
 abbrev pub set3 : ℕ → ℕ → List ℕ

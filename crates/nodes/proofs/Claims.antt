@@ -199,4 +199,18 @@ unfolding nextState remains
 next-exactly os state = (refl, refl)
 
 pub area-claims : AreaClaims
-area-claims = record { cost-exactly = cost-exactly; operators = operators-exactly; reportable-listed = reportable-listed; round-trip = read-back; none-empty = none-empty; longest-run = longest-run; never-empty = never-empty; well-filled = well-filled; states = next-exactly }
+unfolding written
+area-claims =
+    record {
+      cost-exactly = cost-exactly;
+      operators = operators-exactly;
+      states = next-exactly;
+      whole-area = λ units area os state. refl;
+      within = λ state all. refl;
+      reportable-listed = reportable-listed;
+      round-trip = read-back;
+      none-empty = none-empty;
+      longest-run = longest-run;
+      never-empty = never-empty;
+      well-filled = well-filled;
+    }

@@ -1,18 +1,19 @@
 -- Claims about node areas, cited by the contract of `write_answer`.
 use Prim.Native.Nat.{ℕ, zero, suc, _+_, _*_, _≤_, _<_}
 use mathlib.Core.Path.{_≡_}
-use mathlib.Core.Bool.{Bool, true, cond}
+use mathlib.Core.Bool.{Bool, true, cond, _||_}
 use mathlib.Core.List.{List, [], _∷_, _++_}
 use lib.Dec.{ltb, eqb}
 use lib.ListN.{length, drop}
 use Rattle.journal.specs.Scope.{unitsOf, Selection}
-use Rattle.words.specs.Numbers.{Bytes, Small, words}
+use Rattle.words.specs.Numbers.{Bytes, Small, words, wordBytes}
 use Rattle.journal.specs.declared.operation.Operation.{Operation}
 use Rattle.journal.specs.declared.operation.Operation.the-variants.{Delete, Update, Add}
 use Rattle.journal.specs.Journal.{opcode, operands, wellFormed}
 use Rattle.journal.specs.Reportable.{reportable, operandWords}
 use Rattle.journal.specs.declared.scope.Units.{Units}
 use Rattle.node_area.specs.Head.{areaSize, headWords}
+use Rattle.node_area.specs.State.{isWithin}
 use Rattle.nodes.specs.Run.{present, cost, filledWords, run, remains, nextState}
 use Rattle.nodes.specs.Longest.{LongestRun}
 use Rattle.nodes.specs.Area.{operandsOf, answer, written}
@@ -60,6 +61,15 @@ abbrev pub NextExactly : Type 0
 NextExactly = (os : List Operation) (state : ℕ)
     → (remains os state ≡ ltb (state + length (run os state)) (length os)) × (nextState os state ≡ cond (ltb (state + length (run os state)) (length os)) (state + length (run os state)) 0)
 
+-- 01: "Bytes after the terminator stay unchanged."
+abbrev pub WrittenExactly : Type 0
+WrittenExactly = (units : Units) (area : List ℕ) (os : List Operation) (state : ℕ)
+    → written units area os state ≡ wordBytes (answer units os state) ++ drop (length (wordBytes (answer units os state))) area
+
+-- 01: "The state is 0, or above 0 and below the length of the reportable list."
+abbrev pub WithinExactly : Type 0
+WithinExactly = (state all : ℕ) → isWithin state all ≡ (eqb state 0 || ltb state all)
+
 -- Every reportable list is one.
 abbrev pub ReportableListed : Type 0
 ReportableListed = (selection : Selection) (j : List ℕ) → Bytes j → wellFormed j ≡ true → Listed (reportable selection j)
@@ -101,6 +111,8 @@ pub record AreaClaims : Type 0 where
   pub cost-exactly : CostExactly
   pub operators : OperatorsExactly
   pub states : NextExactly
+  pub whole-area : WrittenExactly
+  pub within : WithinExactly
   pub reportable-listed : ReportableListed
   pub round-trip : RoundTrip
   pub none-empty : NoneEmpty

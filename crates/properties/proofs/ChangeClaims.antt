@@ -143,6 +143,7 @@ session-exactly = record {
   nothing = λ s. (refl, (refl, refl));
   due = due-exactly;
   joins = joined-parts;
+  is-due = (refl, λ c cs. refl);
   properties-told = λ c cs. refl;
   no-bytes = refl;
   bytes = λ p ps. refl;

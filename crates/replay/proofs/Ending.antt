@@ -22,7 +22,7 @@ use Rattle.trace.specs.declared.report.Report.{Report}
 use Rattle.trace.specs.declared.report.Report.the-variants.{Malformed}
 use Rattle.replay.specs.declared.feeding.Replay.{Replay}
 use Rattle.trace.proofs.Reader.{faulted-stopped, unfair-step, concluded-stopped}
-use Rattle.playing.proofs.Lent.{ours-stands}
+use Rattle.playing.proofs.Lent.{ours-stands, each-lent}
 use Rattle.replay.proofs.Leaves.{end-over, end-waits, end-held, end-clean}
 use Rattle.replay.proofs.Standings.{ready-start, standing-start-of, stopped-over, going, still-going}
 
@@ -102,4 +102,4 @@ pub tells : EndTells
 tells p held args memory w ready = decide (eqb (w .held) 0) (λ e. tells-none p held args memory w ready (eqb-true (w .held) 0 e)) (λ e. tells-held p held args memory w ready (eqb-false (w .held) 0 e))
 
 pub replay-claims : ReplayClaims
-replay-claims = record { of-traces = trace-claims; start-stands = λ held args memory e h a. (standing-start-of held args e memory, (ready-start held args e h a, refl)); end-tells = tells; ours-stands = ours-stands }
+replay-claims = record { of-traces = trace-claims; start-stands = λ held args memory e h a. (standing-start-of held args e memory, (ready-start held args e h a, refl)); end-tells = tells; ours-stands = ours-stands; each-lent = each-lent }

@@ -7,7 +7,7 @@ use Rattle.records.specs.Cutting.{start, ended}
 use Rattle.inventory.specs.declared.edition.Edition.{Edition}
 use Rattle.trace.specs.Playing.{Platform, State, begin, concluded, reader}
 use Rattle.trace.specs.Claims.{TraceClaims}
-use Rattle.playing.specs.Lent.{OursStands}
+use Rattle.playing.specs.Lent.{OursStands, EachLent}
 use Rattle.replay.specs.Feeding.{standingOf, Ready, startOf, endOf}
 use Rattle.replay.specs.declared.feeding.Replay.{Replay}
 
@@ -35,3 +35,4 @@ pub record ReplayClaims : Type 0 where
   pub start-stands : StartStands
   pub end-tells : EndTells
   pub ours-stands : OursStands
+  pub each-lent : EachLent

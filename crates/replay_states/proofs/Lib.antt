@@ -1,4 +1,3 @@
 pub mod States
 pub mod Counted
 pub mod StateClaims
-pub mod Readings

@@ -3,7 +3,7 @@ use mathlib.Core.Path.{_≡_, refl}
 use mathlib.Core.Bool.{Bool, true, false, and-false}
 use mathlib.Core.List.{List}
 use mathlib.Core.Logic.{_⊎_, ⊎-elim}
-use Prim.Native.Nat.{ℕ, _+_, _≤_, _<_}
+use Prim.Native.Nat.{ℕ, suc, _+_, _≤_, _<_}
 use native.Mathlib.Omega.{arith}
 use lib.ListN.{length, take}
 use borrow.Author.Tests.{le-leb, lt-leb, lt-ltb, le-ltb, eq-eqb, ne-eqb}
@@ -52,6 +52,8 @@ states-exactly = record {
   report = λ f. (λ e. rw e, λ n. rw (ne-eqb (f .verdict) 1 n) (both (at-most _ _) (equal _ _)));
   held = λ verdict n. either (equal _ _) (both (equal _ _) (at-most _ _));
   rules = λ e records waiting x r d. both (at-most _ _) (both (at-most _ _) (both same (both same same)));
+  least = λ r d. ((λ e. ((λ h. rw (e, lt-ltb 1 (d .number .0) h)), (λ h. rw (e, le-ltb 1 (d .number .0) h)))), (λ e. ((λ h. rw (e, lt-ltb 1 (d .number .0) h)), (λ h. rw (e, le-ltb 1 (d .number .0) h)))));
+  waits = (refl, λ n. rw (ne-eqb (suc n) 0 (λ e. omega arith)));
   reports = reports;
   none = λ r e. rw e (both (equal _ _) same);
   registered = λ r e. rw e (both (at-most _ _) (both same same));

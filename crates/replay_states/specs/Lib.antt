@@ -1,5 +1,3 @@
 pub mod States
 pub mod Terms
 pub mod StateClaims
-pub mod Readings
-pub mod Claims

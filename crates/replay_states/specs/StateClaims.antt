@@ -1,6 +1,6 @@
 -- `StatesExactly`: which states are taken at the C boundary, and with which number a burst is refused (document 02, M-110), each rule in
 -- numbers, in the order of `isState`.
-use Prim.Native.Nat.{ℕ, _+_, _≤_, _<_}
+use Prim.Native.Nat.{ℕ, suc, _+_, _≤_, _<_}
 use mathlib.Core.Path.{_≡_}
 use mathlib.Core.Bool.{true, false}
 use mathlib.Core.List.{List}
@@ -38,6 +38,10 @@ pub record StatesExactly : Type 0 where
   pub held : (verdict n : ℕ) → Exactly (heldCame verdict n ≡ true) ((n ≡ 0) ⊎ ((verdict ≡ 0) × (n ≤ 4103)))
   pub rules : (e : Edition) (records waiting : ℕ) (x : Report) (r : Registration) (d : ReadingRecord) → Exactly (came e records waiting x r d ≡ true)
       ((records ≤ 4294967295) × ((waiting ≤ 4101) × ((reportCame x records (waitsIn waiting) (callsFor r d) ≡ true) × ((registrationCame r ≡ true) × (readingCame e d ≡ true)))))
+  -- a registration takes a call, and so does a reading in progress; a 32 that waits is one record
+  pub least : (r : Registration) (d : ReadingRecord) → (r .phase ≡ Registered → (1 < d .number .0 → callsFor r d ≡ 2) × (d .number .0 ≤ 1 → callsFor r d ≡ 1))
+      × (r .phase ≡ Unregistered → (1 < d .number .0 → callsFor r d ≡ 1) × (d .number .0 ≤ 1 → callsFor r d ≡ 0))
+  pub waits : (waitsIn 0 ≡ 0) × ((n : ℕ) → waitsIn (suc n) ≡ 1)
   pub reports : (records waits least : ℕ) → ReportsExactly records waits least
   pub none : (r : Registration) → r .phase ≡ Unregistered → Exactly (registrationCame r ≡ true) ((r .len ≡ 0) × (zeros (r .copy) ≡ true))
   pub registered : (r : Registration) → r .phase ≡ Registered

@@ -8,7 +8,7 @@ ghost use Rattle.crossing.specs.Record.{readingOf};
 ghost use Rattle.trace.specs.declared.report.Report.the-variants.{Agreed, Differs, Malformed};
 ghost use Rattle.trace.specs.Came.{registrationCame, readingCame, waitsIn, reportCame};
 ghost use Rattle.replay_states.specs.States.{reportOf, isReport, heldCame, isState, judgedBy};
-ghost use Rattle.replay_states.specs.Claims.{StateClaims};
+ghost use Rattle.replay_states.specs.StateClaims.{StatesExactly};
 use crate::state::FlatReplay;
 use crate::state::FlatReport;
 use crossing::FlatReading;
@@ -157,7 +157,7 @@ fn held_came(verdict: u32, held: usize) -> bool
 // Whether a state keeps every rule.
 pub fn is_state(flat: FlatReplay) -> bool
     ensures { λ r. ⌜ r ≡ isState flat ⌝ }
-    ensures claims { λ _. ⌜ StateClaims ⌝ }
+    ensures claims { λ _. ⌜ StatesExactly ⌝ }
 {
     let report = flat.report;
     let registration = flat.registration;
@@ -187,7 +187,7 @@ pub fn is_state(flat: FlatReplay) -> bool
 // The number that a burst is refused with, or 0.
 pub fn judge(held: &[u8], room: usize, flat: FlatReplay) -> u32
     ensures { λ r. ⌜ r ≡ judgedBy (now (held .entry)) room flat ⌝ }
-    ensures claims { λ _. ⌜ StateClaims ⌝ }
+    ensures claims { λ _. ⌜ StatesExactly ⌝ }
 {
     if held.len() < 4104 {
         return 15;

@@ -7,6 +7,7 @@ use lib.Dec.{leb}
 use lib.ListN.{length}
 use lib.Seq.{sets}
 use borrow.Author.Tests.{leb-true}
+use Rattle.words.specs.Exactly.{Exactly}
 use Rattle.words.proofs.Choice.{decide, and-left, and-right}
 use Rattle.records.specs.Records.{sizeLimit}
 use Rattle.tallies.specs.declared.keeping.Tallied.{Tallied}
@@ -14,7 +15,6 @@ use Rattle.tallies.specs.declared.keeping.Outcome.{Outcome}
 use Rattle.tallies.specs.declared.keeping.Outcome.the-variants.{Done, Malformed, NoRoom, Unfit}
 use Rattle.tallies.specs.Tallies.{recountOf, tallySum}
 use Rattle.tallies.specs.Keeping.{Left, fits, hasRoom, outcomeOf, isDone, attached}
-use Rattle.tallies.specs.Claims.{Exactly}
 
 -- by three tests: the use and its tallies fit, the part is good, and there is room
 pub record Judged (fit good room : Bool) (o : Outcome) : Type 0 where

@@ -6,6 +6,7 @@ use mathlib.Core.List.{List, [], _∷_}
 use mathlib.Core.Logic.{_⊎_}
 use lib.ListN.{length}
 use lib.Seq.{sets}
+use Rattle.words.specs.Exactly.{Exactly}
 use Rattle.records.specs.Records.{records}
 use Rattle.journal.specs.declared.counts.Counts.{Counts}
 use Rattle.journal.specs.declared.scope.Units.the-variants.{All}
@@ -20,10 +21,6 @@ use Rattle.tallies.specs.Keeping.{Left, appendOf}
 use Rattle.tallies.specs.Sessions.{Standing, Counted, Keeps, Turn, standing, Session, fresh, appending, joining, clearing}
 use Rattle.tallies.specs.Readings.{TallyReadings}
 use Rattle.tallies.specs.RowClaims.{ThirdRow}
-
--- a statement holds exactly when another does
-abbrev pub Exactly : Type 0 → Type 0 → Type 0
-Exactly P Q = (P → Q) × (Q → P)
 
 -- After any list of operations that keep the tallies, refused ones between, the bytes in use are a well-formed journal and the tallies equal its recount.
 abbrev pub TalliesKept : Type 0

@@ -5,7 +5,7 @@ use mathlib.Core.Bool.{Bool, true, _&&_}
 use mathlib.Core.List.{List, [], _∷_, _++_}
 use lib.Dec.{T, eqb}
 use lib.ListN.{length, replicate}
-use Rattle.words.specs.Cases.{all}
+use Rattle.words.specs.Cases.{all, same}
 use Rattle.records.specs.Records.{records}
 use Rattle.journal.specs.declared.operation.Operation.{Operation}
 use Rattle.journal.specs.Journal.{wellFormed, operands, entries}
@@ -17,7 +17,7 @@ use Rattle.tallies.specs.Tallies.{recountOf, tallySum}
 use Rattle.tallies.specs.Keeping.{nothing, joinOf}
 use Rattle.tallies.specs.Sessions.{Standing, inUse, Counted, fresh, joining}
 use Rattle.tallies.specs.Claims.{AttachedExactly}
-use Rattle.tallies.specs.Readings.{delete, update, addition, unit, changed, same, tells, number}
+use Rattle.tallies.specs.Readings.{delete, update, addition, unit, changed, tells, number}
 
 -- ---- "joining well-formed journals within the size limit"
 

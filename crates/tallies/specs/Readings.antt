@@ -4,7 +4,7 @@ use mathlib.Core.Bool.{Bool, true, false, not, _&&_}
 use mathlib.Core.List.{List, [], _∷_, _++_}
 use lib.Dec.{T, eqb}
 use lib.ListN.{replicate}
-use Rattle.words.specs.Cases.{all}
+use Rattle.words.specs.Cases.{all, same}
 use Rattle.journal.specs.declared.counts.Counts.{Counts}
 use Rattle.tallies.specs.declared.tallies.Tallies.{Tallies}
 use Rattle.tallies.specs.declared.keeping.Tallied.{Tallied}
@@ -38,12 +38,6 @@ gone = 8 ∷ 0 ∷ 6 ∷ 0 ∷ 42 ∷ 0 ∷ 0 ∷ 0 ∷ 97 ∷ 0 ∷ []
 
 abbrev pub three : Counts → List ℕ
 three c = c .deletes ∷ c .updates ∷ c .additions ∷ []
-
-abbrev pub same : List ℕ → List ℕ → Bool
-same [] [] = true
-same [] (y ∷ ys) = false
-same (x ∷ xs) [] = false
-same (x ∷ xs) (y ∷ ys) = eqb x y && same xs ys
 
 abbrev pub tells : Tallies → List ℕ → Bool
 tells t ns = same (three (t .negative) ++ (three (t .first) ++ (three (t .second) ++ three (t .third)))) ns

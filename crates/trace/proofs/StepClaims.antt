@@ -38,6 +38,16 @@ is-good : (r : List ℕ) → Good r → isGood r ≡ true
 unfolding isGood goodFrame lengthOf kindOf
 is-good r g = rw (records-in-turn .alone r .1 (g .counted, g .whole), le-leb 2 _ (g .counted), le-leb _ 4102 (g .few), le-leb 32 _ (g .low), le-leb _ 34 (g .high))
 
+front : (len kind : ℕ) → Exactly (goodFrame len kind ≡ true) ((2 ≤ len) × ((len ≤ 4102) × ((32 ≤ kind) × (kind ≤ 34))))
+unfolding goodFrame
+front len kind = (
+  λ e.
+      let lengths = and-left (leb 2 len && leb len 4102) _ e in
+      let kinds = and-right (leb 2 len && leb len 4102) _ e in
+      (leb-true 2 len (and-left _ _ lengths), (leb-true len 4102 (and-right (leb 2 len) _ lengths), (leb-true 32 kind (and-left _ _ kinds), leb-true kind 34 (and-right (leb 32 kind) _ kinds)))),
+  λ h. rw (le-leb 2 len (h .0), le-leb len 4102 (h .1 .0), le-leb 32 kind (h .1 .1 .0), le-leb kind 34 (h .1 .1 .1)),
+)
+
 module _ (p : Platform) (s : State) (r : List ℕ) (going : stopped s ≡ false) where
   -- the settable bytes of a 34
   settable : 9 ≤ length r → le 4 (drop 4 r) 0 + (length (drop 4 r) - 4) ≤ length (s .memory) → isSettable (s .memory) (drop 4 r) ≡ true
@@ -93,6 +103,7 @@ unfolding stopped step concluded replayOf run
 each-replay p =
     record {
       good = λ r. (good-of r, is-good r);
+      front = front;
       going = λ s calls e. (rw e, rw e);
       over = λ s r e. (rw e, rw e);
       each = λ s r going few good. step-exactly p s r going few good;

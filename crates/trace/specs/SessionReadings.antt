@@ -5,11 +5,12 @@ use mathlib.Core.Bool.{Bool}
 use mathlib.Core.List.{List, [], _∷_, _++_}
 use lib.Dec.{T, eqb}
 use lib.ListN.{getD, replicate}
+use Rattle.words.specs.Cases.{every}
 use Rattle.words.specs.Numbers.{be32, wordBytes}
 use Rattle.journal.specs.Claims.{short}
 use Rattle.dump.specs.Claims.{from, bare, asked}
 use Rattle.calls.specs.Terms.{minus}
-use Rattle.calls.specs.Readings.{inventoryOf, all}
+use Rattle.calls.specs.Readings.{inventoryOf}
 use Rattle.trace.specs.declared.report.Report.the-variants.{Agreed, Differs, Malformed}
 use Rattle.trace.specs.Playing.{State, replayOf}
 use Rattle.trace.specs.TraceReadings.{alike, before, after, setting}
@@ -58,4 +59,4 @@ cases =
     ∷ []
 
 abbrev pub SessionReadings : Type 0
-SessionReadings = T (all cases)
+SessionReadings = T (every cases)

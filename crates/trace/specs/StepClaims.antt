@@ -49,6 +49,8 @@ pub record StepExactly (p : Platform) (s : State) (r : List ℕ) (x : State) : T
 
 pub record ReplayExactly (p : Platform) : Type 0 where
   pub good : (r : List ℕ) → Exactly (isGood r ≡ true) (Good r)
+  -- a record's length and kind are judged when its first four bytes are in
+  pub front : (len kind : ℕ) → Exactly (reader p .good len kind ≡ true) ((2 ≤ len) × ((len ≤ 4102) × ((32 ≤ kind) × (kind ≤ 34))))
   pub going : (s : State) (calls : ℕ) → s .report ≡ Agreed calls → (stopped s ≡ false) × (agreed (s .report) ≡ calls)
   pub over : (s : State) (r : List ℕ) → stopped s ≡ true → (step p s r ≡ s) × (concluded s ≡ s)
   pub each : (s : State) (r : List ℕ) → stopped s ≡ false → s .records < 4294967295 → isGood r ≡ true → StepExactly p s r (step p s r)

@@ -5,11 +5,11 @@ use mathlib.Core.Bool.{Bool, false, _&&_}
 use mathlib.Core.List.{List, [], _∷_, _++_}
 use lib.Dec.{T, eqb}
 use lib.ListN.{take, replicate}
+use Rattle.words.specs.Cases.{every}
 use Rattle.words.specs.Numbers.{wordBytes}
 use Rattle.dump.specs.Registration.{noRegistration}
 use Rattle.calls.specs.ReadingRecord.{noReading}
 use Rattle.calls.specs.Terms.{minus}
-use Rattle.calls.specs.Readings.{all}
 use Rattle.trace.specs.declared.report.Report.{Report}
 use Rattle.trace.specs.declared.report.Report.the-variants.{Agreed, Differs, Malformed}
 use Rattle.trace.specs.Playing.{Waiting, none, State, step, replayOf}
@@ -95,4 +95,4 @@ cases =
     ∷ []
 
 abbrev pub TraceReadings : Type 0
-TraceReadings = T (all cases)
+TraceReadings = T (every cases)

@@ -7,8 +7,8 @@ use native.Mathlib.Numerals.{towards-suc}
 use native.Mathlib.Omega.{arith}
 use lib.ListN.{length, getD}
 use lib.Seq.{getD-drop}
-use Rattle.words.specs.Numbers.{be, le, beBytes, words}
-use Rattle.words.specs.Claims.{NumbersExactly, NulExactly, ZerosExactly, JoinedExactly}
+use Rattle.words.specs.Numbers.{be, le, beBytes, wordBytes, words}
+use Rattle.words.specs.Claims.{NumbersExactly, NulExactly, StatedExactly, ZerosExactly, JoinedExactly}
 use Rattle.words.proofs.Numbers.{be-split, le-split, be-bytes, length-beBytes}
 use Rattle.words.proofs.Words.{words-drop, words-step}
 use Rattle.words.specs.Reading.{joined, readings}
@@ -44,22 +44,28 @@ written : (w v : ℕ) → v < 256 ^ w → be w (beBytes w v) 0 ≡ v
 written w v h = ap (λ (l : List ℕ). be w l 0) (sym (append-nil (beBytes w v))) ∙ be-bytes w v [] ∙ mod-eq-of-lt h
 
 pub numbers-exactly : NumbersExactly
+unfolding wordBytes
 numbers-exactly = record {
   big-two = big-two;
   big-four = λ s at. be-split 2 2 s at ∙ omega arith;
   big-eight = λ s at. be-split 4 4 s at ∙ omega arith;
   word = word;
   word-count = word-count;
+  as-bytes = (refl, λ w ws. refl);
   written = written;
   width = length-beBytes;
   by-width = λ s at. (refl, (refl, refl));
   little-two = little-two;
   little-four = le-split 2 2;
   little-eight = le-split 4 4;
+  bytes = λ s h. h;
 }
 
 pub nul-exactly : NulExactly
-nul-exactly = record { stops = until-stops; no-nul = until-all }
+nul-exactly = record { stops = until-stops; no-nul = until-all; non-zero = λ s. ((λ h. h), (λ h. h)) }
+
+pub stated-exactly : StatedExactly
+stated-exactly = record { exactly = λ a b c d h. h; outside = λ from n k h. h }
 
 pub zeros-exactly : ZerosExactly
 zeros-exactly s = (λ e i h. zeros-byte s i e, zeros-all s)

@@ -3,11 +3,12 @@ use Prim.Native.Nat.{ℕ, _+_, _*_, _/_, _^_, _<_, _≤_}
 use mathlib.Core.Path.{_≡_}
 use mathlib.Core.Bool.{true}
 use mathlib.Core.List.{List, [], _∷_, _++_}
+use mathlib.Core.Logic.{_⊎_}
 use lib.ListN.{length, getD}
-use Rattle.words.specs.Numbers.{be, be16, be32, be64, le, le16, le32, le64, beBytes, words, zeros}
+use Rattle.words.specs.Numbers.{Bytes, be, be16, be32, be64, le, le16, le32, le64, beBytes, wordBytes, words, zeros}
 use Rattle.words.specs.Nul.{untilNul}
 use Rattle.words.specs.Reading.{Reading, read, refused, joined, readings}
-use Rattle.words.specs.Exactly.{Exactly, NonZero}
+use Rattle.words.specs.Exactly.{Exactly, Outside, NonZero}
 
 pub record NumbersExactly : Type 0 where
   -- 01: "All RTAS words are big-endian and 32 bits, unless a width is given."
@@ -16,6 +17,7 @@ pub record NumbersExactly : Type 0 where
   pub big-eight : (s : List ℕ) (at : ℕ) → be 8 s at ≡ 4294967296 * be 4 s at + be 4 s (at + 4)
   pub word : (s : List ℕ) (i : ℕ) → 4 * i + 4 ≤ length s → getD (words s) i 0 ≡ be 4 s (4 * i)
   pub word-count : (s : List ℕ) → length (words s) ≡ length s / 4
+  pub as-bytes : (wordBytes [] ≡ []) × ((w : ℕ) (ws : List ℕ) → wordBytes (w ∷ ws) ≡ beBytes 4 w ++ wordBytes ws)
   -- a number is written as it is read
   pub written : (w v : ℕ) → v < 256 ^ w → be w (beBytes w v) 0 ≡ v
   pub width : (w v : ℕ) → length (beBytes w v) ≡ w
@@ -24,11 +26,18 @@ pub record NumbersExactly : Type 0 where
   pub little-two : (s : List ℕ) (at : ℕ) → le 2 s at ≡ getD s at 0 + 256 * getD s (at + 1) 0
   pub little-four : (s : List ℕ) (at : ℕ) → le 4 s at ≡ le 2 s at + 65536 * le 2 s (at + 2)
   pub little-eight : (s : List ℕ) (at : ℕ) → le 8 s at ≡ le 4 s at + 4294967296 * le 4 s (at + 4)
+  pub bytes : (s : List ℕ) → ((i : ℕ) → getD s i 0 < 256) → Bytes s
 
 -- 01: "a search that stops at the first NUL"
 pub record NulExactly : Type 0 where
   pub stops : (s rest : List ℕ) → NonZero s → untilNul (s ++ (0 ∷ rest)) ≡ s
   pub no-nul : (s : List ℕ) → NonZero s → untilNul s ≡ s
+  pub non-zero : (s : List ℕ) → Exactly (NonZero s) ((i : ℕ) → i < length s → getD s i 0 ≡ 0 → ⊥)
+
+-- What claims are stated with: exactly when, in both directions, and a place outside of some bytes.
+pub record StatedExactly : Type 0 where
+  pub exactly : (a b c d : ℕ) → Exactly (a ≡ b) (c ≡ d) → (a ≡ b → c ≡ d) × (c ≡ d → a ≡ b)
+  pub outside : (from n k : ℕ) → (k < from) ⊎ (from + n ≤ k) → Outside from n k
 
 -- 01: "bytes 4 to 15 of the area zero": each of them
 abbrev pub ZerosExactly : Type 0

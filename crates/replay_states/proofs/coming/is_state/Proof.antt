@@ -10,7 +10,7 @@ use Rattle.crossing.specs.Record.{readingOf}
 use Rattle.trace.specs.Came.{callsFor, waitsIn, reportCame}
 use Rattle.replay_states.specs.declared.state.FlatReplay.{FlatReplay}
 use Rattle.replay_states.specs.States.{reportOf, isReport}
-use Rattle.replay_states.proofs.Readings.{state-claims}
+use Rattle.replay_states.proofs.StateClaims.{states-exactly}
 use Rattle.replay_states.proofs.States.{at-most-one, at-most-two, calls-are, state-tests}
 use Rattle.replay_states.proofs.coming.is_state.Statement.{statement}
 use Rattle.replay_states.proofs.coming.is_state.Tie as tie
@@ -32,15 +32,15 @@ unfolding flat
 short c = le-leb _ _ (c .if3 .left)
 
 returns : tie.Need-returns
-returns c = (state-tests (c .before .before .before .before .before .args .flat) (sym (c .before .is-report .ensures) ∙ not-true _ (c .if1 .taken)) refl refl refl refl refl refl, state-claims)
+returns c = (state-tests (c .before .before .before .before .before .args .flat) (sym (c .before .is-report .ensures) ∙ not-true _ (c .if1 .taken)) refl refl refl refl refl refl, states-exactly)
 
 returns-2 : tie.Need-returns-2
 unfolding flat
-returns-2 c = (state-tests (flat (c .before .before)) (reports (c .before .before)) (lt-leb _ _ (c .if2 .taken)) refl refl refl refl refl, state-claims)
+returns-2 c = (state-tests (flat (c .before .before)) (reports (c .before .before)) (lt-leb _ _ (c .if2 .taken)) refl refl refl refl refl, states-exactly)
 
 returns-3 : tie.Need-returns-3
 unfolding flat
-returns-3 c = (state-tests (flat (c .before .before .before .before)) (reports (c .before .before .before .before)) (few (c .before .before)) (lt-leb _ _ (c .if3 .taken)) refl refl refl refl, state-claims)
+returns-3 c = (state-tests (flat (c .before .before .before .before)) (reports (c .before .before .before .before)) (few (c .before .before)) (lt-leb _ _ (c .if3 .taken)) refl refl refl refl, states-exactly)
 
 report-came-requires : tie.Need-report-came-requires
 unfolding flat
@@ -57,7 +57,7 @@ returns-4 : tie.Need-returns-4
 unfolding flat
 returns-4 c =
     let at = c .before .before .before .before in
-    (state-tests (flat (at .before .before .before .before)) (reports (at .before .before .before .before)) (few (at .before .before)) (short at) (counts (c .before) ∙ not-true _ (c .if4 .taken)) refl refl refl, state-claims)
+    (state-tests (flat (at .before .before .before .before)) (reports (at .before .before .before .before)) (few (at .before .before)) (short at) (counts (c .before) ∙ not-true _ (c .if4 .taken)) refl refl refl, states-exactly)
 
 counted : (c : tie.Else4) → let f = flat (c .before .before .before .before .before .before .before .before) in reportCame (reportOf (f .report)) (f .records) (waitsIn (f .waiting)) (callsFor (registrationOf (f .registration)) (readingOf (f .reading))) ≡ true
 counted c = counts (c .before) ∙ not-false _ (c .if4 .left)
@@ -69,7 +69,7 @@ returns-5 c =
     let at = past .before .before .before .before in (
       state-tests (flat (at .before .before .before .before)) (reports (at .before .before .before .before)) (few (at .before .before)) (short at) (counted past)
           (sym (c .before .registration-came .ensures) ∙ not-true _ (c .if5 .taken)) refl refl,
-      state-claims,
+      states-exactly,
     )
 
 returns-6 : tie.Need-returns-6
@@ -79,7 +79,7 @@ returns-6 c =
     let at = past .before .before .before .before in (
       state-tests (flat (at .before .before .before .before)) (reports (at .before .before .before .before)) (few (at .before .before)) (short at) (counted past)
           (sym (c .before .before .before .registration-came .ensures) ∙ not-false _ (c .before .before .if5 .left)) (sym (c .before .reading-came .ensures) ∙ not-true _ (c .if6 .taken)) refl,
-      state-claims,
+      states-exactly,
     )
 
 returns-7 : tie.Need-returns-7
@@ -90,7 +90,7 @@ returns-7 c =
       c .held-came .ensures
           ∙ state-tests (flat (at .before .before .before .before)) (reports (at .before .before .before .before)) (few (at .before .before)) (short at) (counted past)
           (sym (c .before .before .before .before .registration-came .ensures) ∙ not-false _ (c .before .before .before .if5 .left)) (sym (c .before .before .reading-came .ensures) ∙ not-false _ (c .before .if6 .left)) refl,
-      state-claims,
+      states-exactly,
     )
 
 pub is-state-spec : {M : Type 1} → statement M

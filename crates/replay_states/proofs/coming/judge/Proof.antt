@@ -6,19 +6,19 @@ use borrow.Author.Needs.{needs}
 use borrow.Author.Tests.{not-true, not-false, le-leb, lt-leb}
 use denote.Ref.{now}
 use Rattle.replay_states.specs.States.{isState}
-use Rattle.replay_states.proofs.Readings.{state-claims}
+use Rattle.replay_states.proofs.StateClaims.{states-exactly}
 use Rattle.replay_states.proofs.States.{judged-by, held-fits, ripe-not, ripe-is}
 use Rattle.replay_states.proofs.coming.judge.Statement.{statement}
 use Rattle.replay_states.proofs.coming.judge.Tie as tie
 
 returns : tie.Need-returns
-returns c = (judged-by _ _ _ (lt-leb _ _ (c .if1 .taken)) refl refl refl, state-claims)
+returns c = (judged-by _ _ _ (lt-leb _ _ (c .if1 .taken)) refl refl refl, states-exactly)
 
 returns-2 : tie.Need-returns-2
-returns-2 c = (judged-by _ _ _ (le-leb _ _ (c .before .if1 .left)) (lt-leb _ _ (c .if2 .taken)) refl refl, state-claims)
+returns-2 c = (judged-by _ _ _ (le-leb _ _ (c .before .if1 .left)) (lt-leb _ _ (c .if2 .taken)) refl refl, states-exactly)
 
 returns-3 : tie.Need-returns-3
-returns-3 c = (judged-by _ _ _ (le-leb _ _ (c .before .before .before .if1 .left)) (le-leb _ _ (c .before .before .if2 .left)) (sym (c .before .is-state .ensures .0) ∙ not-true _ (c .if3 .taken)) refl, state-claims)
+returns-3 c = (judged-by _ _ _ (le-leb _ _ (c .before .before .before .if1 .left)) (le-leb _ _ (c .before .before .if2 .left)) (sym (c .before .is-state .ensures .0) ∙ not-true _ (c .if3 .taken)) refl, states-exactly)
 
 -- the tests that the state and the buffers have passed
 passed : (c : tie.Else3) → isState (c .before .before .before .before .before .args .flat) ≡ true
@@ -32,12 +32,12 @@ slice-aggregate-ripe-at c =
 returns-4 : tie.Need-returns-4
 returns-4 c =
     let at = c .before .before .before in
-    (judged-by _ _ _ (le-leb _ _ (at .before .before .before .if1 .left)) (le-leb _ _ (at .before .before .if2 .left)) (passed at) (ripe-is _ _ (c .before .ripe-at .ensures) (c .if4 .taken)), state-claims)
+    (judged-by _ _ _ (le-leb _ _ (at .before .before .before .if1 .left)) (le-leb _ _ (at .before .before .if2 .left)) (passed at) (ripe-is _ _ (c .before .ripe-at .ensures) (c .if4 .taken)), states-exactly)
 
 returns-5 : tie.Need-returns-5
 returns-5 c =
     let at = c .before .before .before in
-    (judged-by _ _ _ (le-leb _ _ (at .before .before .before .if1 .left)) (le-leb _ _ (at .before .before .if2 .left)) (passed at) (ripe-not _ _ (c .before .ripe-at .ensures) (c .if4 .left)), state-claims)
+    (judged-by _ _ _ (le-leb _ _ (at .before .before .before .if1 .left)) (le-leb _ _ (at .before .before .if2 .left)) (passed at) (ripe-not _ _ (c .before .ripe-at .ensures) (c .if4 .left)), states-exactly)
 
 pub judge-spec : {M : Type 1} → statement M
 judge-spec =
