@@ -44,9 +44,9 @@ terms-exactly : TermsExactly
 terms-exactly =
     record {
       minus-words = λ n h. omega arith;
-      has-status = λ x h. h;
+      has-status = λ x. ((λ h. h), (λ h. h));
       status-is = λ b x. refl;
-      refused = λ b x h. h;
+      refused = λ b x. ((λ h. h), (λ h. h));
       asks-is = λ t i o b. ((λ h. h), (λ h. h));
       reading-named = λ flag type number edition. refl;
       found-is = λ args memory journal inventory edition registration reading. refl;

@@ -36,9 +36,9 @@ Refused b x = HasStatus x → statusOf b x ≤ 1 → ⊥
 -- The terms in numerals: claims speak through them.
 pub record TermsExactly : Type 0 where
   pub minus-words : (n : ℕ) → n ≤ 4294967296 → minus n + n ≡ 4294967296
-  pub has-status : (x : Left) → numberOf (x .number) ≡ 0 → HasStatus x
+  pub has-status : (x : Left) → Exactly (HasStatus x) (numberOf (x .number) ≡ 0)
   pub status-is : (b : List ℕ) (x : Left) → statusOf b x ≡ be 4 (x .args) (12 + 4 * be 4 b 4)
-  pub refused : (b : List ℕ) (x : Left) → (numberOf (x .number) ≡ 0 → be 4 (x .args) (12 + 4 * be 4 b 4) ≤ 1 → ⊥) → Refused b x
+  pub refused : (b : List ℕ) (x : Left) → Exactly (Refused b x) (numberOf (x .number) ≡ 0 → be 4 (x .args) (12 + 4 * be 4 b 4) ≤ 1 → ⊥)
   pub asks-is : (t i o : ℕ) (b : List ℕ) → Exactly (Asks t i o b) ((be 4 b 0 ≡ t) × (be 4 b 4 ≡ i) × (be 4 b 8 ≡ o))
   pub reading-named : (flag type number edition : ℕ)
       → naming flag type number edition ≡ record { flag = flag; «item_type» = type; number = record { 0 = number }; edition = record { 0 = edition } }

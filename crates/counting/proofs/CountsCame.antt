@@ -28,6 +28,7 @@ use Rattle.counting.proofs.Sums.{rows-sum, handed-answered}
 use Rattle.counting.proofs.OfTrace.{counter-sticky, counts-of-calls}
 use Rattle.counting.proofs.EveryCall.{every-call-made}
 use Rattle.counting.proofs.TraceCounts.{trace-count-readings}
+use Rattle.counting.specs.MonthClaims.{sumOver}
 use Rattle.counting.proofs.MonthClaims.{each-month, each-made}
 
 -- ---- the rules
@@ -189,5 +190,5 @@ each-counts records waits c = record {
 }
 
 pub trace-count-claims : TraceCountClaims
-unfolding sumOf
-trace-count-claims = record { sums = ((λ ns. refl), (λ k. refl), (λ k n ns. refl)); each-counts = each-counts; every-call-made = every-call-made; counts-of-calls = counts-of-calls; all-counts-came = all-counts-came; each-month = each-month; each-made = each-made; trace-count-readings = trace-count-readings }
+unfolding sumOf sumOver
+trace-count-claims = record { sums-over = λ f. (refl, λ x xs. refl); sums = ((λ ns. refl), (λ k. refl), (λ k n ns. refl)); each-counts = each-counts; every-call-made = every-call-made; counts-of-calls = counts-of-calls; all-counts-came = all-counts-came; each-month = each-month; each-made = each-made; trace-count-readings = trace-count-readings }

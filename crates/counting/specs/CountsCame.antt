@@ -7,6 +7,7 @@ use mathlib.Core.List.{List, [], _∷_}
 use lib.Dec.{leb}
 use Rattle.words.specs.Exactly.{Exactly}
 use Rattle.records.specs.Cutting.{start, fedAll}
+use Rattle.calls.specs.Buffer.{Left}
 use Rattle.trace.specs.declared.report.Report.{Report}
 use Rattle.trace.specs.declared.report.Report.the-variants.{Agreed, Differs, Malformed}
 use Rattle.trace.specs.Playing.{Platform, begin}
@@ -16,7 +17,7 @@ use Rattle.counting.specs.Counts.{noCounts}
 use Rattle.counting.specs.Figures.{sumOf}
 use Rattle.counting.specs.TraceCounts.{TraceCountReadings}
 use Rattle.counting.specs.OfTrace.{Counting, counter, EveryCallMade, CountsOfCalls}
-use Rattle.counting.specs.MonthClaims.{EachMonth, EachMade}
+use Rattle.counting.specs.MonthClaims.{sumOver, EachMonth, EachMade}
 
 -- so many calls can have been made: a call is two records, and a 32 that waits is one
 abbrev pub madeCame : Report → ℕ → ℕ → ℕ → Bool
@@ -51,6 +52,7 @@ pub record TraceCountClaims : Type 0 where
   -- the sum of the first k counts
   pub sums : ((ns : List ℕ) → sumOf 0 ns ≡ 0) × ((k : ℕ) → sumOf (suc k) [] ≡ 0) × ((k n : ℕ) (ns : List ℕ) → sumOf (suc k) (n ∷ ns) ≡ n + sumOf k ns)
   pub each-counts : EachCounts
+  pub sums-over : (f : Left → ℕ) → (sumOver f [] ≡ 0) × ((x : Left) (xs : List Left) → sumOver f (x ∷ xs) ≡ f x + sumOver f xs)
   pub every-call-made : EveryCallMade
   pub counts-of-calls : CountsOfCalls
   pub all-counts-came : AllCountsCame

@@ -13,6 +13,7 @@ unfolding flatEndOf
 feeds-exactly =
     record {
       kept = λ journal inventory held args memory bytes heldThen argsThen memoryThen f r feeds. (λ n. (feeds .number, feeds .refused n), (feeds .behind, feeds .stopped));
+      taken = λ journal inventory held args memory bytes heldThen argsThen memoryThen f r feeds z. (feeds .given z, feeds .lent z, feeds .again z, feeds .edition);
       over = λ journal inventory edition. refl;
       comes = λ held args memory f. (refl, refl, refl, refl, refl, refl, (λ e. rw e), (λ n e. rw (e, ne-eqb (suc n) 0 (λ z. omega arith), suc-sub-one n)));
       looked-at = λ held args f. refl;

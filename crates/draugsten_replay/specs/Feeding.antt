@@ -61,6 +61,12 @@ pub record FeedsExactly : Type 0 where
       → ((judged held args f ≡ 0 → ⊥) → (r .number ≡ judged held args f) × ((r .replay ≡ f) × ((heldThen ≡ held) × ((argsThen ≡ args) × (memoryThen ≡ memory)))))
       × ((drop 4104 heldThen ≡ drop 4104 held)
       × (judged held args f ≡ 0 → isOver (reportOf (f .report)) ≡ true → (heldThen ≡ held) × (argsThen ≡ args)))
+  -- what a feed that is taken gives: the definition's own, with the lent buffer, taken again, over the same edition
+  pub taken : (journal inventory held args memory bytes heldThen argsThen memoryThen : List ℕ) (f : FlatReplay) (r : FlatFed)
+      → FlatFeeds journal inventory held args memory f bytes heldThen argsThen memoryThen r → judged held args f ≡ 0
+      → (standingIn heldThen argsThen memoryThen (r .replay) ≡ fed (reader (platform journal inventory (f .edition))) (standingIn held args memory f) bytes)
+      × (argsThen ≡ fed (lender (platform journal inventory (f .edition))) (lentStandingOf held args memory (replayIn f)) bytes .state .args)
+      × (judged heldThen argsThen (r .replay) ≡ 0) × (r .replay .edition ≡ f .edition)
   pub over : (journal inventory : List ℕ) (edition : ℕ) → platform journal inventory edition ≡ record { journal = journal; inventory = inventory; edition = record { 0 = edition } }
   -- where a state stands: its held bytes, and the 32 that waits at the front of `args`, by one more than its size
   pub comes : (held args memory : List ℕ) (f : FlatReplay)

@@ -4,7 +4,7 @@ use mathlib.Core.Path.{_≡_}
 use mathlib.Core.Bool.{true, false, cond, _&&_}
 use mathlib.Core.List.{List, [], _∷_, _++_}
 use lib.Dec.{eqb}
-use lib.ListN.{length, getD, replicate}
+use lib.ListN.{length, drop, getD, replicate}
 use Rattle.words.specs.Numbers.{be32}
 use Rattle.calls.specs.Buffer.{input, statusAt, isNodes}
 use Rattle.counting.specs.declared.counts.Counts.{Counts}
@@ -19,16 +19,18 @@ use Rattle.shares.specs.Share.{shareOf, Lowest, ShareClaims}
 use Rattle.trace.specs.declared.report.Report.the-variants.{Agreed}
 use Rattle.trace.specs.Playing.{isOver, replayOf}
 use Rattle.trace.specs.Came.{waitsIn}
-use Rattle.counting.specs.OfTrace.{countsOf}
-use Rattle.counting.specs.Figures.{figuresIn, figuresOf}
+use Rattle.counting.specs.OfTrace.{counter, countsOf}
+use Rattle.counting.specs.Figures.{sumOf, figuresOf}
 use Rattle.replay_states.specs.declared.state.FlatReplay.{FlatReplay}
-use Rattle.replay_states.specs.States.{flatReportOf, reportOf, isState, areCounts, judged}
+use Rattle.records.specs.Cutting.{fed}
+use Rattle.replay.specs.Feeding.{endOf}
+use Rattle.replay_states.specs.States.{flatReportOf, reportOf, waits, isState, areCounts, judged}
 use Rattle.draugsten_replay.specs.Feeding.{platform, FlatFeeds, flatStart}
 use Rattle.draugsten_replay.specs.declared.month.FlatCounting.{FlatCounting}
 use Rattle.draugsten_replay.specs.declared.month.FlatCounted.{FlatCounted}
 use Rattle.draugsten_replay.specs.WholeTrace.{begun}
 use Rattle.draugsten_replay.specs.MonthReadings.{MonthReadings}
-use Rattle.draugsten_replay.specs.Month.{isCounting, judgedCounting, flatCountingStart, CountingFeeds, monthAdded, mergedTo, shareIn, Session, reportFor, figuresFor, sessionAdded, monthOf, NoneRefused}
+use Rattle.draugsten_replay.specs.Month.{isCounting, judgedCounting, flatCountingStart, countingIn, CountingFeeds, addedBy, monthAdded, mergedTo, shareIn, Session, reportFor, figuresFor, sessionAdded, monthOf, NoneRefused}
 
 -- What a start gives is taken, over any two buffers with room.
 abbrev pub CountingAccepted : Type 0
@@ -173,6 +175,8 @@ pub record SessionsExactly : Type 0 where
   pub figures : (s : Session) → figuresFor s ≡ figuresOf (countsOf (platform (s .journal) (s .inventory) (s .edition)) (s .memory) (s .trace))
   pub added : (t : Totals) (s : Session) (calls : ℕ) → reportFor s ≡ Agreed calls → sessionAdded t s .totals ≡ addedTo t (figuresFor s) .totals
   pub not-taken : (t : Totals) (f : FlatCounting) → isCounting f ≡ false → monthAdded t f ≡ record { number = 14; report = record { verdict = 2; offset = 0; number = 0 }; totals = t }
+  pub taken : (t : Totals) (f : FlatCounting) → isCounting f ≡ true
+      → monthAdded t f ≡ addedBy t (endOf (reportOf (f .replay .report)) (f .replay .records) (waits (f .replay)) (f .replay .held)) (figuresOf (f .counts))
   pub none : (t : Totals) → monthOf t [] ≡ t
   pub next : (t : Totals) (s : Session) (ss : List Session) → monthOf t (s ∷ ss) ≡ monthOf (sessionAdded t s .totals) ss
   -- a counting feed does to buffers, memory and replay what draugsten_replay_feed does; refused, it changes nothing
@@ -181,13 +185,16 @@ pub record SessionsExactly : Type 0 where
       → (r .number ≡ judgedCounting held args f)
       × ((judgedCounting held args f ≡ 0 → ⊥) → (r .counting ≡ f) × ((heldThen ≡ held) × ((argsThen ≡ args) × (memoryThen ≡ memory))))
       × (judgedCounting held args f ≡ 0 → FlatFeeds journal inventory held args memory (f .replay) bytes heldThen argsThen memoryThen (record { number = 0; replay = r .counting .replay }))
+      × (judgedCounting held args f ≡ 0 → r .counting .counts ≡ fed (counter (platform journal inventory (f .replay .edition))) (countingIn held args memory f) bytes .state .counts)
+      × (judgedCounting held args f ≡ 0 → judgedCounting heldThen argsThen (r .counting) ≡ 0)
   pub judged-first : (held args : List ℕ) (f : FlatCounting) → (judged held args (f .replay) ≡ 0 → ⊥) → judgedCounting held args f ≡ judged held args (f .replay)
   pub judged-then : (held args : List ℕ) (f : FlatCounting) → judged held args (f .replay) ≡ 0 → judgedCounting held args f ≡ cond (areCounts (f .replay) (f .counts)) 0 14
   -- a state with its counts is taken if each is; which counts, by the report, the records and whether a 32 waits
   pub both : (f : FlatCounting) → isCounting f ≡ (isState (f .replay) && areCounts (f .replay) (f .counts))
   pub counts-taken : (f : FlatReplay) (c : Counts) → areCounts f c ≡ countsCame (reportOf (f .report)) (f .records) (waitsIn (f .waiting)) c
   pub begins : (edition : ℕ) → flatCountingStart edition .replay ≡ flatStart edition
-  pub figured : (c : Counts) → figuresOf c .figures ≡ figuresIn c
+  pub figured : (c : Counts) → figuresOf c .figures
+      ≡ c .rows ++ (sumOf 7 (drop 0 (c .rows)) ∷ sumOf 7 (drop 7 (c .rows)) ∷ sumOf 7 (drop 14 (c .rows)) ∷ sumOf 7 (drop 21 (c .rows)) ∷ c .operations ∷ c .used ∷ 1019 * sumOf 2 (c .rows) ∷ [])
   -- a call of update-nodes: token 1, two inputs and one output, with its inputs and its status where they stand
   pub nodes : (b : List ℕ) → isNodes b ≡ (eqb (be32 b 0) 1 && (eqb (be32 b 4) 2 && eqb (be32 b 8) 1))
   pub at : (b : List ℕ) (n : ℕ) → (input b n ≡ be32 b (12 + 4 * n)) × (statusAt b ≡ 12 + 4 * be32 b 4)

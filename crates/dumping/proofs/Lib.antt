@@ -1,7 +1,6 @@
 pub mod Flags
 pub mod Claims
 pub mod Runs
-pub mod RunReadings
 pub mod OneSection
 pub mod SectionRuns
 pub mod RunClaims

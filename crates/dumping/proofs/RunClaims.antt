@@ -25,7 +25,6 @@ use Rattle.dumping.specs.Running.{structureRun, goodCopy, runVerdict, ru
 use Rattle.dumping.specs.RunClaims.{count, place, sectionOf, errorsIn, actualIn, SectionExactly, InOrder, MemoryKept, CopyKept, StatusFlags, Ran, EachVerdict, EachSection, RunClaims}
 use Rattle.dumping.proofs.Claims.{section-claims}
 use Rattle.dumping.proofs.Runs.{not-asked, good-bounds, run-refused, run-done}
-use Rattle.dumping.proofs.RunReadings.{run-readings}
 use Rattle.dumping.proofs.OneSection.{asked-errors, asked-actual}
 use Rattle.dumping.proofs.SectionRuns.{number-beside, same-number, errors, actual, memories, copies, failures, memories-size, each-copies, memories-kept, copies-size, copies-kept, errors-told, actual-told, no-failure, failure, sections-ran}
 
@@ -159,4 +158,4 @@ each-section platform memory r bytes e =
     rw (run-done platform memory r v, structure-ran platform memory (r .copy)) (ran platform memory (r .copy) bytes bounds)
 
 pub run-claims : RunClaims
-run-claims = record { each-verdict = each-verdict; each-section = each-section; readings = run-readings }
+run-claims = record { each-verdict = each-verdict; each-section = each-section }

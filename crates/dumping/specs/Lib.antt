@@ -1,5 +1,4 @@
 pub mod Section
 pub mod Claims
 pub mod Running
-pub mod RunReadings
 pub mod RunClaims

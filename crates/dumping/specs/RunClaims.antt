@@ -14,7 +14,6 @@ use Rattle.dump.specs.Structure.{goodStructure}
 use Rattle.dumping.specs.declared.section.Section.{Section}
 use Rattle.dumping.specs.Running.{runOf}
 use Rattle.dumping.specs.Claims.{FlagsExactly}
-use Rattle.dumping.specs.RunReadings.{RunReadings}
 
 -- ---- the structure that was registered, in the paper's offsets
 
@@ -121,4 +120,3 @@ EachSection =
 pub record RunClaims : Type 0 where
   pub each-verdict : EachVerdict
   pub each-section : EachSection
-  pub readings : RunReadings

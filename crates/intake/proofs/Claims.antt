@@ -1,13 +1,14 @@
 -- What is claimed of an intake: the laws of cutting over any reader, for this one, and what bursts leave of the journal.
 use mathlib.Core.Path.{_≡_, refl, ap, _∙_}
-use mathlib.Core.Bool.{true, false, not, and-false}
+use mathlib.Core.Bool.{true, false, cond, not, and-false}
 use mathlib.Core.List.{List, [], _∷_, _++_}
 use mathlib.Core.Logic.{⊎-elim}
-use Prim.Native.Nat.{ℕ, zero, suc, _-_, _≤_, _<_}
+use Prim.Native.Nat.{ℕ, zero, suc, _+_, _-_, _≤_, _<_}
 use native.Mathlib.Omega.{arith}
 use lib.Dec.{leb, eqb}
 use lib.ListN.{length, take, drop, length-drop}
 use borrow.Author.Tests.{leb-true, leb-false, le-leb, lt-leb, lt-ltb, le-ltb, eq-eqb, ne-eqb}
+use Rattle.words.specs.Numbers.{le}
 use Rattle.words.proofs.Choice.{decide, and-left, and-right}
 use Rattle.records.specs.Records.{lengthOf, kindOf, sizeOf, firstRecord, records, whole, allGood}
 use Rattle.records.specs.Cutting.{due, standing, start, fed}
@@ -58,6 +59,7 @@ each-judged s b e fit =
       short = short-held s b on;
       front = λ l g. front-stops s b on l g ∙ ap start (bad-malformed s (take 4 b) on (bad-front b l g) fit);
       waits = λ _ g l. waits-held s b on g l;
+      complete = λ _ g l. whole-first s b g l;
     }
 
 -- each record takes at least four bytes, so there are fewer than bytes
@@ -95,6 +97,10 @@ burst-keeps held number fault bytes = record {
   counted = λ s. run-grows (record { buffer = s .buffer; journal = s .journal; number = number; fault = fault }) _ .counted;
 }
 
+due-is : (r : List ℕ) → due goodFront r ≡ 4 + cond (goodFront (le 2 r 0) (le 2 r 2)) (le 2 r 0 - 2) 0
+unfolding due lengthOf kindOf
+due-is r = refl
+
 each-store : EachStore
 unfolding completed
 each-store store bytes n =
@@ -112,6 +118,7 @@ pub intake-claims : IntakeClaims
 intake-claims = record {
   each-standing = λ buffer store i. record { standing = refl; step = λ s r. (refl, refl) };
   each-store = each-store;
+  due-is = due-is;
   any-cutting = every-cutting;
   bursts-join = bursts-join;
   record-by-record = record-by-record;

@@ -7,6 +7,7 @@ use mathlib.Core.Logic.{_⊎_}
 use lib.Dec.{leb}
 use lib.ListN.{length, take, drop}
 use lib.Seq.{sets}
+use Rattle.words.specs.Numbers.{le}
 use Rattle.words.specs.Exactly.{Exactly}
 use Rattle.records.specs.Records.{lengthOf, kindOf, sizeOf, firstRecord, records, allGood}
 use Rattle.records.specs.Cutting.{due, Standing, run, start, fed, fedAll, joined}
@@ -79,12 +80,13 @@ pub record StepExactly (s : Taking) (r : List ℕ) (x : Taking) : Type 0 where
 abbrev pub EachStep : Type 0
 EachStep = (s : Taking) (r : List ℕ) → s .fault ≡ outcome.Done → StepExactly s r (step s r)
 
--- bytes in front of which no record is complete: under four, with a front that is refused, and with one that waits for the rest
+-- bytes under four, with a front that is refused, with one that waits for the rest, and with a complete record
 pub record Judged (s : Taking) (b : List ℕ) : Type 0 where
   pub short : length b < 4 → fed reader (start s) b ≡ standsAt s b
   pub front : 4 ≤ length b → goodFront (lengthOf b) (kindOf b) ≡ false
       → fed reader (start s) b ≡ start (record { buffer = s .buffer; journal = s .journal; number = s .number; fault = outcome.Malformed })
   pub waits : 4 ≤ length b → goodFront (lengthOf b) (kindOf b) ≡ true → length b < sizeOf b → fed reader (start s) b ≡ standsAt s b
+  pub complete : 4 ≤ length b → goodFront (lengthOf b) (kindOf b) ≡ true → sizeOf b ≤ length b → fed reader (start s) b ≡ fed reader (start (step s (firstRecord b))) (drop (sizeOf b) b)
 
 abbrev pub EachJudged : Type 0
 EachJudged = (s : Taking) (b : List ℕ) → s .fault ≡ outcome.Done → fits (length (s .buffer)) (s .journal) ≡ true → Judged s b
@@ -143,6 +145,8 @@ EachStore = (store bytes : List ℕ) (n : ℕ) → StoreExactly store bytes n
 pub record IntakeClaims : Type 0 where
   pub each-standing : EachStanding
   pub each-store : EachStore
+  -- how many bytes are judged together: the whole record after a good front, else the four of the front
+  pub due-is : (r : List ℕ) → due goodFront r ≡ 4 + cond (goodFront (le 2 r 0) (le 2 r 2)) (le 2 r 0 - 2) 0
   pub any-cutting : AnyCutting
   pub bursts-join : BurstsJoin
   pub record-by-record : RecordByRecord

@@ -26,7 +26,7 @@ use Rattle.locations.specs.declared.lookups.Answer.the-variants as answe
 use Rattle.locations.specs.declared.lookups.Bounds.{Bounds}
 use Rattle.locations.specs.Locations.{behindNuls, fixedPart, fixedLocation, partAt, firstListed, locationBy, locationOf, answerOf, codeOf, placeOf}
 use Rattle.locations.specs.Terms.{Sets, firstFrom, noBounds, boundsOf}
-use Rattle.locations.specs.Claims.{EmptyExactly, RefusedFirst, Reserved, ListedWins, OtherwiseFixed, LocationClaims}
+use Rattle.locations.specs.Claims.{EmptyExactly, RefusedFirst, Reserved, ListedWins, OtherwiseFixed, ended, LocationClaims}
 use Rattle.locations.proofs.NulLaws.{behind-short, each-fixed}
 use Rattle.locations.proofs.Listings.{all-read, first-set, first-wins, none-listed}
 use Rattle.locations.proofs.LookupReadings.{lookup-readings}
@@ -163,6 +163,7 @@ otherwise-fixed : OtherwiseFixed
 otherwise-fixed area fixed index es h other u = by-sets area index es h other fixed ∙ none-listed (be32 area 0) area 4 index es (fixedLocation fixed index) (all-read area es h) u
 
 pub location-claims : LocationClaims
+unfolding ended
 location-claims =
     record {
       place-told = record { in-area = λ area fixed p. refl; in-fixed = λ area fixed p. refl; nothing = λ area fixed r at. (refl, refl) };
@@ -173,5 +174,6 @@ location-claims =
       listed-wins = listed-wins;
       otherwise-fixed = otherwise-fixed;
       each-fixed = each-fixed;
+      ended-is = (refl, λ c cs. refl);
       readings = lookup-readings;
     }

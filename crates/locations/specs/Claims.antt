@@ -112,6 +112,7 @@ pub record LocationClaims : Type 0 where
   pub listed-wins : ListedWins
   pub otherwise-fixed : OtherwiseFixed
   pub each-fixed : EachFixed
+  pub ended-is : (ended [] ≡ []) × ((c : List ℕ) (cs : List (List ℕ)) → ended (c ∷ cs) ≡ c ++ (0 ∷ ended cs))
   pub readings : LookupReadings
 
 -- ---- the view

@@ -143,6 +143,7 @@ session-exactly = record {
   nothing = λ s. (refl, (refl, refl));
   due = due-exactly;
   joins = joined-parts;
+  carried = λ cs s. ((λ h. h), (λ h. h));
   is-due = (refl, λ c cs. refl);
   properties-told = λ c cs. refl;
   no-bytes = refl;

@@ -6,12 +6,12 @@ use mathlib.Core.List.{List, [], _∷_, _++_}
 use mathlib.Core.Logic.{_⊎_}
 use lib.ListN.{length, take, drop}
 use Rattle.words.specs.Numbers.{le}
-use Rattle.words.specs.Exactly.{Named}
+use Rattle.words.specs.Exactly.{Exactly, Named}
 use Rattle.records.specs.Records.{records, whole}
 use Rattle.property_area.specs.Piece.{Property, Piece}
 use Rattle.properties.specs.Changes.{Change, changesFrom, changes, isDue, properties, dueAt, upTo, offsetOr}
 use Rattle.properties.specs.Filling.{fill, weight, parts, joined}
-use Rattle.properties.specs.Session.{after, state}
+use Rattle.properties.specs.Session.{Carried, after, state}
 
 -- ---- "the node's changes in journal order"
 
@@ -90,6 +90,7 @@ pub record SessionExactly : Type 0 where
   pub nothing : (s : ℕ) → (dueAt s [] ≡ []) × ((upTo s [] ≡ []) × (joined [] ≡ []))
   pub due : (s : ℕ) (c : Change) (cs : List Change) → DueExactly s c cs
   pub joins : (p : Piece) (q : Property) (ps : List Piece) (qs : List Property) → JoinedParts p q ps qs
+  pub carried : (cs : List Change) (s : ℕ) → Exactly (Carried cs s) ((n : ℕ) × (isDue (after n cs) ≡ true) × (state n cs ≡ s))
   pub is-due : (isDue [] ≡ false) × ((c : Change) (cs : List Change) → isDue (c ∷ cs) ≡ true)
   pub properties-told : (c : Change) (cs : List Change) → properties (c ∷ cs) ≡ record { name = c .name; deleted = c .deleted; value = c .value } ∷ properties cs
   -- the bytes that pieces fill: name, NUL, descriptor and value

@@ -1,15 +1,25 @@
 -- Which states are taken at the C boundary, exactly.
 use mathlib.Core.Path.{_≡_, refl}
-use mathlib.Core.Bool.{Bool, true, false, and-false}
+use mathlib.Core.Bool.{Bool, true, false, cond, and-false}
 use mathlib.Core.List.{List}
 use mathlib.Core.Logic.{_⊎_, ⊎-elim}
-use Prim.Native.Nat.{ℕ, suc, _+_, _≤_, _<_}
+use Prim.Native.Nat.{ℕ, suc, _+_, _-_, _≤_, _<_}
 use native.Mathlib.Omega.{arith}
+use lib.Dec.{leb}
 use lib.ListN.{length, take}
 use borrow.Author.Tests.{le-leb, lt-leb, lt-ltb, le-ltb, eq-eqb, ne-eqb}
 use Rattle.words.specs.Exactly.{Exactly}
 use Rattle.words.proofs.Exactly.{equal, at-most, both, either}
-use Rattle.records.specs.Cutting.{ripe}
+use Rattle.words.specs.Numbers.{le}
+use Rattle.records.specs.Records.{lengthOf, kindOf}
+use Rattle.records.specs.Cutting.{due, ripe}
+use Rattle.inventory.specs.declared.edition.Edition.{Edition}
+use Rattle.calls.specs.declared.reading_record.ReadingRecord.{ReadingRecord}
+use Rattle.dump.specs.declared.registration.Registration.{Registration}
+use Rattle.dump.specs.declared.registration.Phase.the-variants.{Active}
+use Rattle.calls.specs.GetIndices.{askable}
+use Rattle.crossing.specs.Registration.{phaseOf, registrationOf}
+use Rattle.trace.proofs.StepClaims.{front}
 use Rattle.trace.specs.declared.report.Report.{Report}
 use Rattle.trace.specs.declared.report.Report.the-variants.{Agreed, Differs, Malformed}
 use Rattle.trace.specs.Trace.{goodFrame}
@@ -45,6 +55,25 @@ module _ (held : List ℕ) (room : ℕ) (f : FlatReplay) (h : 4104 ≤ length he
   not-taken o = rw (le-leb 4104 (length held) h, le-leb 4100 room g)
       (⊎-elim (λ (s : isState f ≡ false). rw s) (λ (q : ripe goodFrame (take (f .held) held) ≡ true). simp (q, and-false)) o)
 
+-- an active registration, or a phase that is none, comes of no replay
+active : (r : Registration) → r .phase ≡ Active → registrationCame r ≡ false
+unfolding registrationCame
+active r e = rw e
+
+no-phase : (f : FlatReplay) → 1 < f .registration .phase → isState f ≡ false
+unfolding isState came
+no-phase f h =
+    let two : phaseOf (f .registration .phase) ≡ Active = rw (ne-eqb (f .registration .phase) 0 (λ e. omega arith), ne-eqb (f .registration .phase) 1 (λ e. omega arith)) in
+    simp (active (registrationOf (f .registration)) two, and-false)
+
+no-flag : (e : Edition) (d : ReadingRecord) → 1 < d .number .0 → 1 < d .flag → readingCame e d ≡ false
+unfolding readingCame askable
+no-flag e d h g = simp (lt-ltb 1 (d .number .0) h, lt-leb (d .flag) 1 g, and-false)
+
+record-made : (r : List ℕ) → ripe goodFrame r ≡ leb (4 + cond (goodFrame (le 2 r 0) (le 2 r 2)) (le 2 r 0 - 2) 0) (length r)
+unfolding ripe due lengthOf kindOf
+record-made r = refl
+
 pub states-exactly : StatesExactly
 unfolding isState isReport heldCame came registrationCame readingCame judgedBy
 states-exactly = record {
@@ -57,7 +86,11 @@ states-exactly = record {
   reports = reports;
   none = λ r e. rw e (both (equal _ _) same);
   registered = λ r e. rw e (both (at-most _ _) (both same same));
-  active = λ r e. rw e;
+  active = active;
+  phase = no-phase;
+  flag = no-flag;
+  front = front;
+  record-made = record-made;
   reading = λ e d h. rw (lt-ltb 1 (d .number .0) h) (both (at-most _ _) (both same (equal _ _)));
   no-reading = λ e d h. rw (le-ltb 1 (d .number .0) h) (both (equal _ _) (both (equal _ _) (both (equal _ _) (equal _ _))));
   no-room = λ held room f o. ⊎-elim (λ h. rw (lt-leb 4104 _ h)) (λ h. simp (lt-leb 4100 room h, and-false)) o;

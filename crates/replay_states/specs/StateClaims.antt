@@ -1,12 +1,13 @@
 -- `StatesExactly`: which states are taken at the C boundary, and with which number a burst is refused (document 02, M-110), each rule in
 -- numbers, in the order of `isState`.
-use Prim.Native.Nat.{ℕ, suc, _+_, _≤_, _<_}
+use Prim.Native.Nat.{ℕ, suc, _+_, _-_, _≤_, _<_}
 use mathlib.Core.Path.{_≡_}
-use mathlib.Core.Bool.{true, false}
+use mathlib.Core.Bool.{true, false, cond}
 use mathlib.Core.List.{List}
 use mathlib.Core.Logic.{_⊎_}
+use lib.Dec.{leb}
 use lib.ListN.{length, take, drop}
-use Rattle.words.specs.Numbers.{zeros}
+use Rattle.words.specs.Numbers.{le, zeros}
 use Rattle.words.specs.Exactly.{Exactly}
 use Rattle.records.specs.Cutting.{ripe}
 use Rattle.inventory.specs.declared.edition.Edition.{Edition}
@@ -47,10 +48,15 @@ pub record StatesExactly : Type 0 where
   pub registered : (r : Registration) → r .phase ≡ Registered
       → Exactly (registrationCame r ≡ true) ((r .len ≤ 512) × ((goodStructure (take (r .len) (r .copy)) ≡ true) × (zeros (drop (r .len) (r .copy)) ≡ true)))
   pub active : (r : Registration) → r .phase ≡ Active → registrationCame r ≡ false
+  pub phase : (f : FlatReplay) → 1 < f .registration .phase → isState f ≡ false
+  pub flag : (e : Edition) (d : ReadingRecord) → 1 < d .number .0 → 1 < d .flag → readingCame e d ≡ false
   pub reading : (e : Edition) (d : ReadingRecord) → 1 < d .number .0
       → Exactly (readingCame e d ≡ true) ((d .number .0 ≤ 69905) × ((askable (d .flag) (d .«item_type») ≡ true) × (d .edition .0 ≡ e .0)))
   pub no-reading : (e : Edition) (d : ReadingRecord) → d .number .0 ≤ 1
       → Exactly (readingCame e d ≡ true) ((d .flag ≡ 0) × ((d .«item_type» ≡ 0) × ((d .number .0 ≡ 1) × (d .edition .0 ≡ 0))))
+  -- which held bytes make a record: those of a whole one after a good front, or four with a front that is refused
+  pub front : (len kind : ℕ) → Exactly (goodFrame len kind ≡ true) ((2 ≤ len) × ((len ≤ 4102) × ((32 ≤ kind) × (kind ≤ 34))))
+  pub record-made : (r : List ℕ) → ripe goodFrame r ≡ leb (4 + cond (goodFrame (le 2 r 0) (le 2 r 2)) (le 2 r 0 - 2) 0) (length r)
   -- 15 for a buffer without room, before 14 for a state that is none or for held bytes that make a record
   pub no-room : (held : List ℕ) (room : ℕ) (f : FlatReplay) → (length held < 4104) ⊎ (room < 4100) → judgedBy held room f ≡ 15
   pub taken : (held : List ℕ) (room : ℕ) (f : FlatReplay) → 4104 ≤ length held → 4100 ≤ room → isState f ≡ true → ripe goodFrame (take (f .held) held) ≡ false → judgedBy held room f ≡ 0

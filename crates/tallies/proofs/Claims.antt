@@ -24,6 +24,7 @@ use Rattle.tallies.specs.Claims.{OneGood, AttachedExactly, CountsBelow, 
 use Rattle.tallies.proofs.Outcomes.{attach-judged, attach-done, attach-refused}
 use Rattle.tallies.proofs.Kept.{tallies-kept, append-keeps, join-keeps, clear-keeps, kept-is-fit}
 use Rattle.tallies.proofs.Readings.{tally-readings}
+use Rattle.tallies.specs.RowClaims.{ofKind}
 use Rattle.tallies.proofs.RowClaims.{third-row}
 
 -- ---- statements that hold exactly when others do
@@ -128,7 +129,8 @@ rows-of-scopes = record {
 }
 
 pub recount-claims : RecountClaims
-recount-claims = record { each-recount = each-recount; rows-of-scopes = rows-of-scopes; third-row = third-row; readings = tally-readings }
+unfolding ofKind
+recount-claims = record { each-recount = each-recount; rows-of-scopes = rows-of-scopes; third-row = third-row; kinds = λ kind. (refl, λ r rs. refl); readings = tally-readings }
 
 pub tally-claims : TallyClaims
 tally-claims = record { tallies-kept = tallies-kept; append-keeps = append-keeps; join-keeps = join-keeps; clear-keeps = clear-keeps; each-append = each-append; each-within = each-within; each-sum = each-sum; kept-is-fit = kept-is-fit; recounts = recount-claims }

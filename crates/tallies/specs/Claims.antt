@@ -1,11 +1,13 @@
 -- What is claimed of tallies, cited by the contracts of `append`, `join` and `cleared`, and of the recount by that of `recount` (document 02, M-106).
 use Prim.Native.Nat.{ℕ, _+_, _≤_, _<_}
 use mathlib.Core.Path.{_≡_}
-use mathlib.Core.Bool.{true, false}
+use mathlib.Core.Bool.{true, false, cond}
 use mathlib.Core.List.{List, [], _∷_}
 use mathlib.Core.Logic.{_⊎_}
+use lib.Dec.{eqb}
 use lib.ListN.{length}
 use lib.Seq.{sets}
+use Rattle.words.specs.Numbers.{le}
 use Rattle.words.specs.Exactly.{Exactly}
 use Rattle.records.specs.Records.{records}
 use Rattle.journal.specs.declared.counts.Counts.{Counts}
@@ -20,7 +22,7 @@ use Rattle.tallies.specs.Tallies.{noTallies, recountOf, recountFor, tall
 use Rattle.tallies.specs.Keeping.{Left, appendOf}
 use Rattle.tallies.specs.Sessions.{Standing, Counted, Keeps, Turn, standing, Session, fresh, appending, joining, clearing}
 use Rattle.tallies.specs.Readings.{TallyReadings}
-use Rattle.tallies.specs.RowClaims.{ThirdRow}
+use Rattle.tallies.specs.RowClaims.{ofKind, ThirdRow}
 
 -- After any list of operations that keep the tallies, refused ones between, the bytes in use are a well-formed journal and the tallies equal its recount.
 abbrev pub TalliesKept : Type 0
@@ -106,6 +108,7 @@ pub record RecountClaims : Type 0 where
   pub each-recount : EachRecount
   pub rows-of-scopes : RowsOfScopes
   pub third-row : ThirdRow
+  pub kinds : (kind : ℕ) → (ofKind kind [] ≡ 0) × ((r : List ℕ) (rs : List (List ℕ)) → ofKind kind (r ∷ rs) ≡ cond (eqb (le 2 r 2) kind) 1 0 + ofKind kind rs)
   pub readings : TallyReadings
 
 pub record TallyClaims : Type 0 where

@@ -38,7 +38,7 @@ is-good : (r : List ℕ) → Good r → isGood r ≡ true
 unfolding isGood goodFrame lengthOf kindOf
 is-good r g = rw (records-in-turn .alone r .1 (g .counted, g .whole), le-leb 2 _ (g .counted), le-leb _ 4102 (g .few), le-leb 32 _ (g .low), le-leb _ 34 (g .high))
 
-front : (len kind : ℕ) → Exactly (goodFrame len kind ≡ true) ((2 ≤ len) × ((len ≤ 4102) × ((32 ≤ kind) × (kind ≤ 34))))
+pub front : (len kind : ℕ) → Exactly (goodFrame len kind ≡ true) ((2 ≤ len) × ((len ≤ 4102) × ((32 ≤ kind) × (kind ≤ 34))))
 unfolding goodFrame
 front len kind = (
   λ e.

@@ -62,14 +62,14 @@ numbers-exactly = record {
 }
 
 pub nul-exactly : NulExactly
-nul-exactly = record { stops = until-stops; no-nul = until-all; non-zero = λ s. ((λ h. h), (λ h. h)) }
+nul-exactly = record { stops = until-stops; no-nul = until-all; named = λ limit s name rest. ((λ h. (h .some, h .few, h .non-zero, h .ended)), (λ h. record { some = h .0; few = h .1; non-zero = h .2; ended = h .3 })); non-zero = λ s. ((λ h. h), (λ h. h)) }
 
 pub stated-exactly : StatedExactly
-stated-exactly = record { exactly = λ a b c d h. h; outside = λ from n k h. h }
+stated-exactly = record { exactly = λ a b c d h. h; outside = λ from n k h. h; every-one = (refl, λ t ts. refl) }
 
 pub zeros-exactly : ZerosExactly
 zeros-exactly s = (λ e i h. zeros-byte s i e, zeros-all s)
 
 pub joined-exactly : {E R : Type 0} → JoinedExactly E R
 unfolding joined readings
-joined-exactly = record { both = λ xs ys. refl; second = λ xs r at. refl; first = λ r at y. refl; none = λ f. refl; each = λ f area areas. refl }
+joined-exactly = record { both = λ xs ys. refl; second = λ xs r at. refl; first = λ r at y. refl; refuses = λ number x n at. ((λ h. h), (λ h. h)); none = λ f. refl; each = λ f area areas. refl }

@@ -1,14 +1,15 @@
 -- Numbers in bytes, bytes that are zero or that a NUL ends, and readings one after the other: byte by byte and in numerals.
 use Prim.Native.Nat.{ℕ, _+_, _*_, _/_, _^_, _<_, _≤_}
 use mathlib.Core.Path.{_≡_}
-use mathlib.Core.Bool.{true}
+use mathlib.Core.Bool.{Bool, true, _&&_}
 use mathlib.Core.List.{List, [], _∷_, _++_}
 use mathlib.Core.Logic.{_⊎_}
 use lib.ListN.{length, getD}
 use Rattle.words.specs.Numbers.{Bytes, be, be16, be32, be64, le, le16, le32, le64, beBytes, wordBytes, words, zeros}
 use Rattle.words.specs.Nul.{untilNul}
-use Rattle.words.specs.Reading.{Reading, read, refused, joined, readings}
-use Rattle.words.specs.Exactly.{Exactly, Outside, NonZero}
+use Rattle.words.specs.Reading.{Reading, read, refused, Refuses, joined, readings}
+use Rattle.words.specs.Cases.{every}
+use Rattle.words.specs.Exactly.{Exactly, Outside, NonZero, Named}
 
 pub record NumbersExactly : Type 0 where
   -- 01: "All RTAS words are big-endian and 32 bits, unless a width is given."
@@ -32,12 +33,15 @@ pub record NumbersExactly : Type 0 where
 pub record NulExactly : Type 0 where
   pub stops : (s rest : List ℕ) → NonZero s → untilNul (s ++ (0 ∷ rest)) ≡ s
   pub no-nul : (s : List ℕ) → NonZero s → untilNul s ≡ s
+  pub named : (limit : ℕ) (s name rest : List ℕ) → Exactly (Named limit s name rest) ((1 ≤ length name) × (length name ≤ limit) × NonZero name × (s ≡ name ++ (0 ∷ rest)))
   pub non-zero : (s : List ℕ) → Exactly (NonZero s) ((i : ℕ) → i < length s → getD s i 0 ≡ 0 → ⊥)
 
 -- What claims are stated with: exactly when, in both directions, and a place outside of some bytes.
 pub record StatedExactly : Type 0 where
   pub exactly : (a b c d : ℕ) → Exactly (a ≡ b) (c ≡ d) → (a ≡ b → c ≡ d) × (c ≡ d → a ≡ b)
   pub outside : (from n k : ℕ) → (k < from) ⊎ (from + n ≤ k) → Outside from n k
+  -- tables of cases
+  pub every-one : (every [] ≡ true) × ((t : Bool) (ts : List Bool) → every (t ∷ ts) ≡ (t && every ts))
 
 -- 01: "bytes 4 to 15 of the area zero": each of them
 abbrev pub ZerosExactly : Type 0
@@ -48,5 +52,6 @@ pub record JoinedExactly (E R : Type 0) : Type 0 where
   pub both : (xs ys : List E) → joined {E = E} {R = R} (read xs) (read ys) ≡ read (xs ++ ys)
   pub second : (xs : List E) (r : R) (at : ℕ) → joined {E = E} {R = R} (read xs) (refused r at) ≡ refused r at
   pub first : (r : R) (at : ℕ) (y : Reading E R) → joined {E = E} {R = R} (refused r at) y ≡ refused r at
+  pub refuses : (number : R → ℕ) (x : Reading E R) (n at : ℕ) → Exactly (Refuses number x n at) ((r : R) × ((number r ≡ n) × (x ≡ refused r at)))
   pub none : (reading : List ℕ → Reading E R) → readings reading [] ≡ read []
   pub each : (reading : List ℕ → Reading E R) (area : List ℕ) (areas : List (List ℕ)) → readings reading (area ∷ areas) ≡ joined (reading area) (readings reading areas)
