@@ -15,7 +15,7 @@
  *   crates/draugsten/specs/Promises.antt for libdraugsten.a, crates/draugsten_replay/specs/Promises.antt for
  *   libdraugsten_replay.a, and so on.
  * - A buffer is a pointer and the number of its elements, all of them initialised.
- * - No pointer may be NULL, also where the length is 0; nothing is read or written through it then.
+ * - A buffer of length 0 may have any pointer, also NULL: nothing is read or written through it.
  * - A buffer that is written must not overlap another buffer of the same call. Buffers that are only read may.
  * - There is no global state, and nothing is kept or allocated. Calls are reentrant and may run at the same time in
  *   several threads, where none writes a buffer that another one uses.

@@ -3,8 +3,10 @@
 
 record_calls.c  for each function one of its name that writes the call to a tape, and calls the true one as under_NAME
 play_calls.c    for each function one that takes a call from a tape, makes it, and holds what comes back to the tape
+empty_calls.c   for each function one of its name that tries the call with empty buffers, and calls the true one as under_NAME
 layout.c        the size of each struct and the place of each field as x86-64 has them, as static assertions
-names           each function with the name that record_calls.c has for the true one
+names           each function with the name that record_calls.c and empty_calls.c have for the true one
+buffers         each function with each of its buffers; with - if it has none
 """
 import pathlib
 import sys
@@ -123,6 +125,17 @@ def played(function, slots):
         '    answered();', f'    same_{function.answer[7:]}(&answer);', *checks, '}', '']
 
 
+def emptied(function):
+    """The function that tries a call with empty buffers (tests/empty/empty.h)."""
+    buffers = [take for take in function.takes if isinstance(take, header.Buffer)]
+    lends = [f'    lend("{take.name}", {take.name}, {take.length} * {take.width});' for take in buffers]
+    tries = ', '.join(f'tried({buffers.index(t)}), tried_size({buffers.index(t)}) / {t.width}' if t in buffers else t.name for t in function.takes)
+    return [
+        f'{declared(function, "under_" + function.name)};', '', declared(function, function.name), '{', f'    {function.answer} answer;',
+        f'    begin_call("{function.name}");', *lends, '    while (next_try()) {', f'        answer = under_{function.name}({tries});',
+        f'        put_{function.answer[7:]}(&answer);', '    }', f'    return under_{function.name}({given(function)});', '}', '']
+
+
 def kinds_of(functions):
     return {take.kind for function in functions for take in function.takes}
 
@@ -132,6 +145,11 @@ def record_calls(structs, functions):
     puts = [line for struct in reached(kinds_of(functions) | answers, structs) for line in put_struct(struct)]
     calls = [line for number, function in enumerate(functions) for line in recorded(number, function, slots)]
     return ['#include "tape.h"', '', f'const unsigned call_count = {len(functions)};', '', *puts, *calls]
+
+
+def empty_calls(structs, functions):
+    puts = [line for struct in reached({function.answer for function in functions}, structs) for line in put_struct(struct)]
+    return ['#include "empty.h"', '#include "tape.h"', '', *puts, *(line for function in functions for line in emptied(function))]
 
 
 def play_calls(structs, functions):
@@ -163,10 +181,16 @@ def names(_, functions):
     return [f'{function.name} under_{function.name}' for function in functions]
 
 
+def buffers(_, functions):
+    named = ((function.name, [take.name for take in function.takes if isinstance(take, header.Buffer)]) for function in functions)
+    return [f'{function} {buffer}' for function, names_of in named for buffer in names_of or ['-']]
+
+
 def main():
     folder = pathlib.Path(sys.argv[1])
     declared_here = header.read()
-    for name, make in (('record_calls.c', record_calls), ('play_calls.c', play_calls), ('layout.c', layout), ('names', names)):
+    calls = {'record_calls.c': record_calls, 'play_calls.c': play_calls, 'empty_calls.c': empty_calls}
+    for name, make in {**calls, 'layout.c': layout, 'names': names, 'buffers': buffers}.items():
         (folder / name).write_text('\n'.join([*make(*declared_here), '']))
 
 
