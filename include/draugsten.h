@@ -122,14 +122,24 @@ enum draugsten_number {
     DRAUGSTEN_NUMBER_NO_REGISTRATION = 13       /* the registration has a phase above 2 or a length above 512 */
 };
 
-/* Statuses, as they stand in the first output word. A call is answered where it is 0 or 1, otherwise refused. */
-#define DRAUGSTEN_STATUS_DONE 0x00000000u                   /* 0 */
-#define DRAUGSTEN_STATUS_CALL_AGAIN 0x00000001u             /* 1: more remains */
-#define DRAUGSTEN_STATUS_MALFORMED 0xffffffffu              /* -1: the journal or inventory is malformed */
-#define DRAUGSTEN_STATUS_PARAMETER 0xfffffffdu              /* -3: an input, the token, the counts or the area */
-#define DRAUGSTEN_STATUS_CHANGED 0xfffffffcu                /* -4: the inventory's edition is not the reading's */
-#define DRAUGSTEN_STATUS_ALREADY_REGISTERED 0xfffffff7u     /* -9 */
-#define DRAUGSTEN_STATUS_DUMP_ACTIVE 0xfffffff6u            /* -10 */
+/*
+ * Statuses. A call is answered if it is 0 or 1, otherwise refused. Each has two names: one for the first output word as it
+ * stands, a uint32_t, and one for the same 32 bits as an int32_t.
+ */
+#define DRAUGSTEN_STATUS_DONE 0x00000000u
+#define DRAUGSTEN_STATUS_DONE_SIGNED 0
+#define DRAUGSTEN_STATUS_CALL_AGAIN 0x00000001u             /* more remains */
+#define DRAUGSTEN_STATUS_CALL_AGAIN_SIGNED 1
+#define DRAUGSTEN_STATUS_MALFORMED 0xffffffffu              /* the journal or inventory is malformed */
+#define DRAUGSTEN_STATUS_MALFORMED_SIGNED (-1)
+#define DRAUGSTEN_STATUS_PARAMETER 0xfffffffdu              /* an input, the token, the counts or the area */
+#define DRAUGSTEN_STATUS_PARAMETER_SIGNED (-3)
+#define DRAUGSTEN_STATUS_CHANGED 0xfffffffcu                /* the inventory's edition is not the reading's */
+#define DRAUGSTEN_STATUS_CHANGED_SIGNED (-4)
+#define DRAUGSTEN_STATUS_ALREADY_REGISTERED 0xfffffff7u
+#define DRAUGSTEN_STATUS_ALREADY_REGISTERED_SIGNED (-9)
+#define DRAUGSTEN_STATUS_DUMP_ACTIVE 0xfffffff6u
+#define DRAUGSTEN_STATUS_DUMP_ACTIVE_SIGNED (-10)
 
 /* The command of configure-kernel-dump. Only the first looks at address and length. */
 enum draugsten_command {

@@ -19,8 +19,14 @@ fn numbers(prefix: &str) -> Vec<(&str, i32)> {
 fn number(text: &str) -> Option<i32> {
     match text.strip_prefix("0x") {
         Some(word) => u32::from_str_radix(word.strip_suffix('u')?, 16).ok().map(|word| word as i32),
-        None => text.parse().ok(),
+        None => text.trim_matches(['(', ')']).parse().ok(),
     }
+}
+
+/// The statuses as words, or as numbers with a sign, whose names have a suffix.
+fn statuses(signed: bool) -> Vec<(&'static str, i32)> {
+    let all = numbers("DRAUGSTEN_STATUS_").into_iter().filter(|(name, _)| name.ends_with("_SIGNED") == signed);
+    all.map(|(name, number)| (name.trim_end_matches("_SIGNED"), number)).collect()
 }
 
 #[test]
@@ -36,7 +42,7 @@ fn limits() {
 }
 
 #[test]
-fn statuses() {
+fn words_and_numbers_of_statuses() {
     let expected = [
         ("DONE", Answer::Done as i32),
         ("CALL_AGAIN", Answer::CallAgain as i32),
@@ -46,7 +52,8 @@ fn statuses() {
         ("ALREADY_REGISTERED", Fault::AlreadyRegistered as i32),
         ("DUMP_ACTIVE", Fault::DumpActive as i32),
     ];
-    assert_eq!(numbers("DRAUGSTEN_STATUS_"), expected);
+    assert_eq!(statuses(false), expected);
+    assert_eq!(statuses(true), expected);
 }
 
 #[test]
@@ -137,7 +144,7 @@ fn tokens_and_statuses_that_are_counted() {
         ("UPDATE_PROPERTIES", Token::UpdateProperties as i32),
     ];
     assert_eq!(numbers("DRAUGSTEN_TOKEN_"), tokens);
-    let statuses = numbers("DRAUGSTEN_STATUS_").into_iter().map(|(_, number)| number);
+    let statuses = statuses(false).into_iter().map(|(_, number)| number);
     assert!(statuses.eq(Status::ALL.into_iter().map(|status| status as i32)));
 }
 
