@@ -7,6 +7,9 @@
 //! index areas, which are the fifth.
 //! `include/draugsten.h` has what each buffer holds and which bytes are written.
 //!
+//! The crate needs `std`: readings are handed back in vectors, and traces are written and read through `std::io`. Firmware
+//! without `std` links the archives themselves, which need neither `std` nor an allocator, through the header's functions.
+//!
 //! ```
 //! use draugsten::{args, call, read_nodes, Answer, Edition, Operation, ReadingRecord, Registration};
 //!
@@ -36,11 +39,13 @@ mod month;
 mod properties;
 mod reading;
 mod reading_record;
+mod record_error;
 mod recorder;
 mod registration;
 mod replay;
 mod tallies;
 pub mod trace;
+mod trace_writer;
 
 pub use calling::{call, Answer, Fault};
 pub use dump::{Section, DUMP_ERROR, DUMP_PERFORMED};
@@ -50,7 +55,9 @@ pub use month::{Counted, CountingReplay, Figures, NotAdded, NotMerged, Share, St
 pub use properties::{read_properties, Descriptor, Property, PropertyArea, NAME_LIMIT, VALUE_LIMIT};
 pub use reading::{read_indices, read_nodes, read_state, Entry, Operation, Reason, Refusal, CODE_LIMIT, FIELD_LIMIT};
 pub use reading_record::{Edition, ReadingRecord};
-pub use recorder::{RecordError, Recorded, Recorder};
+pub use record_error::RecordError;
+pub use recorder::{Recorded, Recorder};
 pub use registration::{Phase, Registration, STRUCTURE_LIMIT};
 pub use replay::{Difference, Replay, Report};
 pub use tallies::{forecast, recount, Forecast, NotKept, TalliedJournal, Tallies, Tally};
+pub use trace_writer::TraceWriter;

@@ -1,44 +1,12 @@
 //! What comes of writers and readers that fail, and of what cannot be recorded.
 
+use crate::disk::{Disk, File};
 use crate::records::records;
 use draugsten::{args, Answer, Edition, Fault, RecordError, Recorder, Replay, Report};
 use std::cell::RefCell;
 use std::error::Error;
 use std::io::{self, ErrorKind, Read, Write};
 use std::rc::Rc;
-
-/// A file with room for so many bytes more. It takes at most 700 at a time, and is interrupted before each.
-#[derive(Default)]
-struct Disk {
-    bytes: Vec<u8>,
-    room: usize,
-    interrupted: bool,
-    flushed: bool,
-}
-
-struct File(Rc<RefCell<Disk>>);
-
-impl Write for File {
-    fn write(&mut self, bytes: &[u8]) -> io::Result<usize> {
-        let mut disk = self.0.borrow_mut();
-        disk.interrupted = !disk.interrupted;
-        if disk.interrupted {
-            return Err(ErrorKind::Interrupted.into());
-        }
-        let size = bytes.len().min(700).min(disk.room);
-        if size == 0 {
-            return Err(ErrorKind::StorageFull.into());
-        }
-        disk.bytes.extend(&bytes[..size]);
-        disk.room -= size;
-        Ok(size)
-    }
-
-    fn flush(&mut self) -> io::Result<()> {
-        self.0.borrow_mut().flushed = true;
-        Ok(())
-    }
-}
 
 /// What is done in these tests: three records are set, a call is answered, one is refused.
 #[derive(Clone, Copy)]
@@ -83,7 +51,7 @@ fn a_full_disk_loses_nothing_wherever_it_is_full() {
     let (trace, answers, left) = unhindered();
     assert_eq!(answers, [None, Some(Ok(Answer::Done)), Some(Err(Fault::Parameter))]);
     for room in 0..trace.len() {
-        let disk = Rc::new(RefCell::new(Disk { room, ..Disk::default() }));
+        let disk = Disk::with_room(room);
         let mut memory = memory();
         let mut recorder = Recorder::new(File(disk.clone()), &mut memory, &[], &[], Edition(0));
         for (number, deed) in DEEDS.into_iter().enumerate() {
@@ -121,7 +89,7 @@ fn stays_behind(recorder: &mut Recorder<'_, File>, disk: &Rc<RefCell<Disk>>) {
 #[test]
 fn what_waits_is_handed_back() {
     let (trace, ..) = unhindered();
-    let disk = Rc::new(RefCell::new(Disk { room: 100, ..Disk::default() }));
+    let disk = Disk::with_room(100);
     let mut memory = memory();
     let mut recorder = Recorder::new(File(disk.clone()), &mut memory, &[], &[], Edition(0));
     run(&mut recorder, Deed::Set).unwrap_err();
@@ -158,7 +126,7 @@ fn refused(expected: &str, attempt: impl FnOnce(&mut Recorder<'_, &mut Vec<u8>>)
 fn a_buffer_that_no_record_holds_is_not_called() {
     let mut args = [&args::update_nodes(4096, 1)[..], &[0xee; 4077]].concat();
     let before = args.clone();
-    refused("not called: an argument buffer of 4101 bytes; a record holds 4100", |recorder| {
+    refused("not done: an argument buffer of 4101 bytes; a record holds 4100", |recorder| {
         recorder.call(&mut args).unwrap_err()
     });
     assert_eq!(args, before);
@@ -173,7 +141,7 @@ fn a_buffer_that_no_record_holds_is_not_called() {
 fn bytes_past_the_end_of_memory_are_not_set() {
     let end = 4 * 4096;
     for (address, length) in [(end, 1), (end - 1, 2), (0, end + 1), (u32::MAX, 1), (u32::MAX, 0), (end + 1, 0)] {
-        let text = format!("not set: {length} bytes at address {address:#010x}, which do not lie inside memory");
+        let text = format!("not done: {length} bytes at address {address:#010x}, which do not lie inside memory");
         refused(&text, |recorder| recorder.set_memory(address, &vec![9; length as usize]).unwrap_err());
     }
 }
@@ -199,7 +167,7 @@ fn errors_tell_what_was_done_and_why() {
     assert!(unwritten.to_string().starts_with("done, but the trace is not whole, its records cannot be written: "));
     assert!(behind.source().is_some() && unwritten.source().is_some());
     assert!(RecordError::Full.source().is_none());
-    assert_eq!(RecordError::Full.to_string(), "not done: the trace has no room behind record 4294967295");
+    assert_eq!(RecordError::Full.to_string(), "not done: the trace has no room after record 4294967295");
 }
 
 /// A reader that is interrupted before each read, and fails once behind so many bytes.
