@@ -1,21 +1,13 @@
-//! Links the archives that `rt staticlib` writes at the repository's root.
+//! Links the archives that are measured.
 
 use std::env;
 
-fn main() {
-    let root = concat!(env!("CARGO_MANIFEST_DIR"), "/../target/staticlib");
-    println!("cargo:rerun-if-changed=build.rs");
-    println!("cargo:rustc-link-search=native={root}");
-    for archive in archives() {
-        println!("cargo:rerun-if-changed={root}/lib{archive}.a");
-        println!("cargo:rustc-link-lib=static={archive}");
-    }
-}
+#[path = "../tools/archives.rs"]
+mod archives;
 
-fn archives() -> &'static [&'static str] {
-    if env::var_os("CARGO_FEATURE_STAND_IN").is_some() {
-        &["bench"]
-    } else {
-        &["draugsten", "draugsten_dump", "draugsten_replay", "draugsten_tallies", "draugsten_locations", "bench"]
-    }
+fn main() {
+    println!("cargo:rerun-if-changed=build.rs");
+    let stands_in = env::var_os("CARGO_FEATURE_STAND_IN").is_some();
+    let library: &[&str] = if stands_in { &[] } else { &archives::LIBRARY };
+    archives::link(&[library, &["bench"]].concat());
 }

@@ -1,7 +1,10 @@
-//! Links the archives under test from ../target/staticlib, or from the folder that DRAUGSTEN_ARCHIVES names.
+//! Links the archives under test: those of the repository, or those in the folder that DRAUGSTEN_ARCHIVES names.
 
 use std::env;
-use std::path::PathBuf;
+use std::path::Path;
+
+#[path = "../tools/archives.rs"]
+mod archives;
 
 fn main() {
     println!("cargo:rerun-if-changed=build.rs");
@@ -9,14 +12,10 @@ fn main() {
     if env::var_os("CARGO_FEATURE_WITHOUT_LIBRARY").is_some() {
         return;
     }
-    let crate_folder = env::var_os("CARGO_MANIFEST_DIR").expect("cargo names the crate's folder");
-    let folder = match env::var_os("DRAUGSTEN_ARCHIVES") {
-        Some(folder) => PathBuf::from(folder),
-        None => PathBuf::from(crate_folder).join("../target/staticlib"),
-    };
-    println!("cargo:rustc-link-search=native={}", folder.display());
-    for archive in ["draugsten", "draugsten_dump", "draugsten_replay", "draugsten_tallies", "draugsten_locations"] {
-        println!("cargo:rustc-link-lib=static={archive}");
-        println!("cargo:rerun-if-changed={}", folder.join(format!("lib{archive}.a")).display());
+    match env::var_os("DRAUGSTEN_ARCHIVES") {
+        Some(folder) => archives::link_from(Path::new(&folder), &archives::LIBRARY, |_| {
+            String::from("DRAUGSTEN_ARCHIVES names this folder: put them there, or unset it")
+        }),
+        None => archives::link(&archives::LIBRARY),
     }
 }
