@@ -1,5 +1,6 @@
 //! Replays a recorded session, and tells the first call that went astray.
 
+#[path = "../shared/calls.rs"]
 mod calls;
 mod difference;
 mod flaw;
