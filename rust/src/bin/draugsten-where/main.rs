@@ -15,6 +15,8 @@ mod records;
 #[path = "../shared/sources.rs"]
 mod sources;
 mod text;
+#[path = "../shared/visible.rs"]
+mod visible;
 
 use draugsten::{lookup, NotLocated};
 use options::Options;
@@ -23,6 +25,7 @@ use sources::Source;
 use std::fmt::Display;
 use std::io::{self, Write};
 use std::process::ExitCode;
+use visible::visible;
 
 /// The exit statuses beside 0, where the code is written.
 const NOT_DONE: u8 = 1;
@@ -75,7 +78,7 @@ fn run(options: &Options) -> Result<(), Fault> {
     let read = |what, path| files::read(what, path).map_err(|message| (NOT_DONE, message));
     let (area, fixed) = (read(files::AREA, area_path)?, read(files::FIXED, fixed_path)?);
     match lookup(&area, &fixed, *index) {
-        Ok(code) => tell(&format!("{}\n", text::code(code))),
+        Ok(code) => tell(&format!("{}\n", visible(code))),
         Err(NotLocated::Refused(refusal)) => {
             let name = records::named(files::AREA, area_path);
             Err((NOT_LOCATED, format!("{name} is {refusal}: {}", text::reason(refusal))))

@@ -2,16 +2,6 @@
 
 use draugsten::{Reason, Refusal, FIELD_LIMIT};
 
-/// A code as one word of a line: any other byte than a visible one, and the backslash, by its number.
-pub fn code(code: &[u8]) -> String {
-    let byte = |&byte: &u8| match byte {
-        b'\\' => String::from("\\x5c"),
-        0x21..=0x7e => char::from(byte).to_string(),
-        _ => format!("\\x{byte:02x}"),
-    };
-    code.iter().map(byte).collect()
-}
-
 /// What is wrong with a refused area, in words.
 pub fn reason(refusal: Refusal) -> String {
     match refusal.reason {
@@ -42,18 +32,8 @@ pub fn not_found(index: u32, fixed: &[u8]) -> String {
 
 #[cfg(test)]
 mod tests {
-    use super::{code, not_found, reason};
+    use super::{not_found, reason};
     use draugsten::{Reason, Refusal};
-
-    #[test]
-    fn a_code_is_one_word() {
-        assert_eq!(code(b"U78A9.001-P1~!"), "U78A9.001-P1~!");
-        assert_eq!(code(b"a b\\c\n\x01\x7f\x80\xff"), "a\\x20b\\x5cc\\x0a\\x01\\x7f\\x80\\xff");
-        let all: Vec<u8> = (1..=255).collect();
-        let told = code(&all);
-        assert!(told.bytes().all(|byte| (0x21..=0x7e).contains(&byte)));
-        assert_eq!(told.len(), 93 + 4 * (255 - 93));
-    }
 
     #[test]
     fn what_is_not_found_has_a_reason() {
