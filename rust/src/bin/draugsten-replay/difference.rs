@@ -43,8 +43,11 @@ fn tell_call(before: &[u8]) -> Vec<String> {
 }
 
 fn tell_input(field: &Field, value: u32) -> String {
-    let place = field.place.as_deref().unwrap_or_default();
-    format!("{place}: {}", field.meaning(value).unwrap_or(format!("{value:08x}")))
+    let place = field.place.map(|place| place.to_string()).unwrap_or_default();
+    match field.meaning(value) {
+        Some(meaning) => format!("{place}: {meaning}"),
+        None => format!("{place}: {value:08x}"),
+    }
 }
 
 /// The word at the offset, on both sides.
@@ -55,7 +58,7 @@ fn tell_word(buffers: &Difference<'_>, offset: usize) -> Vec<String> {
         Err(_) => calls::head_field(number),
     };
     let (recorded, ours) = (buffers.recorded, buffers.ours);
-    let mut lines = vec![format!("byte {offset} is in bytes {} to {}: {}", 4 * number, 4 * number + 3, field.text())];
+    let mut lines = vec![format!("byte {offset} is in bytes {} to {}: {}", 4 * number, 4 * number + 3, field)];
     if recorded.len() != ours.len() {
         let (left, right) = (counted(recorded.len(), "byte"), counted(ours.len(), "byte"));
         lines.push(format!("  the recorded buffer has {left}, ours {right}"));

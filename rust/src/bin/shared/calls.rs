@@ -1,5 +1,7 @@
 //! The words of an argument buffer by their names, and what they mean.
 
+use std::fmt;
+
 /// How a word is told.
 #[derive(Clone, Copy, PartialEq, Eq, Debug)]
 pub enum Sense {
@@ -13,11 +15,28 @@ pub enum Sense {
     Plain,
 }
 
+/// A place among the inputs or the outputs, from 1 on.
+#[derive(Clone, Copy, PartialEq, Eq, Debug)]
+pub enum Place {
+    Input(usize),
+    Output(usize),
+}
+
+/// As `input 2`.
+impl fmt::Display for Place {
+    fn fmt(&self, f: &mut fmt::Formatter<'_>) -> fmt::Result {
+        match self {
+            Place::Input(number) => write!(f, "input {number}"),
+            Place::Output(number) => write!(f, "output {number}"),
+        }
+    }
+}
+
 /// A word of an argument buffer.
-#[derive(PartialEq, Eq, Debug)]
+#[derive(Clone, Copy, PartialEq, Eq, Debug)]
 pub struct Field {
-    /// Its place, as `input 2`; none of the head, nor behind the outputs.
-    pub place: Option<String>,
+    /// Its place; none of the head, nor after the outputs.
+    pub place: Option<Place>,
     pub name: &'static str,
     pub sense: Sense,
 }
@@ -75,18 +94,33 @@ pub struct Head {
     pub outputs: usize,
 }
 
-/// The head; or the number of the call, and why it has no status.
-pub fn head(buffer: &[u8]) -> Result<Head, &'static str> {
+/// Why a call has no status: its number, and what that means.
+#[derive(Clone, Copy, PartialEq, Eq, Debug)]
+pub struct NoStatus {
+    pub number: u32,
+    pub why: &'static str,
+}
+
+/// As `number 11, no output for a status`.
+impl fmt::Display for NoStatus {
+    fn fmt(&self, f: &mut fmt::Formatter<'_>) -> fmt::Result {
+        write!(f, "number {}, {}", self.number, self.why)
+    }
+}
+
+/// The head of a buffer, by which its call has a status; or why it has none.
+pub fn head(buffer: &[u8]) -> Result<Head, NoStatus> {
+    let refused = |number, why| Err(NoStatus { number, why });
     let words = (word(buffer, 0), word(buffer, 4), word(buffer, 8));
-    let (Some(token), Some(inputs), Some(outputs)) = words else { return Err("number 10, under 12 bytes") };
+    let (Some(token), Some(inputs), Some(outputs)) = words else { return refused(10, "under 12 bytes") };
     if inputs > 16 || outputs > 16 {
-        return Err("number 12, more than 16 inputs or outputs");
+        return refused(12, "more than 16 inputs or outputs");
     }
     if buffer.len() < 12 + 4 * (inputs + outputs) as usize {
-        return Err("number 10, fewer bytes than its inputs and outputs take");
+        return refused(10, "fewer bytes than its inputs and outputs take");
     }
     if outputs == 0 {
-        return Err("number 11, no output for a status");
+        return refused(11, "no output for a status");
     }
     Ok(Head { token, inputs: inputs as usize, outputs: outputs as usize })
 }
@@ -96,9 +130,18 @@ impl Head {
     pub fn text(&self) -> String {
         let Head { token, inputs, outputs } = *self;
         let (inputs, outputs) = (counted(inputs, "input"), counted(outputs, "output"));
-        let name = call_of(token).map_or("an unknown call", |call| call.name);
-        let unlike = if call_of(token).is_none() || self.call().is_some() { "" } else { ", unlike the call's own" };
-        format!("{name}, token {token}, {inputs}, {outputs}{unlike}")
+        let unlike = if call_of(token).is_none() || self.is_own() { "" } else { ", unlike the call's own" };
+        format!("{}, token {token}, {inputs}, {outputs}{unlike}", self.name())
+    }
+
+    /// The name of the call by its token.
+    pub fn name(&self) -> &'static str {
+        call_of(self.token).map_or("an unknown call", |call| call.name)
+    }
+
+    /// Whether there is such a call, and the counts are its own.
+    pub fn is_own(&self) -> bool {
+        self.call().is_some()
     }
 
     /// The call that it asks for, where the counts are its own.
@@ -115,11 +158,11 @@ impl Head {
         };
         let (place, (name, sense)) = match number.checked_sub(3) {
             None => return head_field(number),
-            Some(place) if place < self.inputs => (format!("input {}", place + 1), known(|call| call.inputs, place)),
-            Some(place) if place == self.inputs => (String::from("output 1"), STATUS),
+            Some(place) if place < self.inputs => (Place::Input(place + 1), known(|call| call.inputs, place)),
+            Some(place) if place == self.inputs => (Place::Output(1), STATUS),
             Some(place) if place < self.inputs + self.outputs => {
                 let place = place - self.inputs;
-                (format!("output {}", place + 1), known(|call| call.outputs, place))
+                (Place::Output(place + 1), known(|call| call.outputs, place))
             }
             Some(_) => return Field { place: None, name: "a word behind the outputs", sense: Sense::Plain },
         };
@@ -145,30 +188,46 @@ pub fn head_field(number: usize) -> Field {
 }
 
 impl Field {
-    /// Its place and its name.
-    pub fn text(&self) -> String {
-        match &self.place {
-            Some(place) if self.name.is_empty() => place.clone(),
-            Some(place) => format!("{place}, {}", self.name),
-            None => String::from(self.name),
+    /// What a word means in its place; nothing if the word's digits say all.
+    pub fn meaning(&self, word: u32) -> Option<Meaning> {
+        (self.sense != Sense::Plain).then_some(Meaning { field: *self, word })
+    }
+}
+
+/// Its place and its name.
+impl fmt::Display for Field {
+    fn fmt(&self, f: &mut fmt::Formatter<'_>) -> fmt::Result {
+        match self.place {
+            Some(place) if self.name.is_empty() => place.fmt(f),
+            Some(place) => write!(f, "{place}, {}", self.name),
+            None => f.write_str(self.name),
         }
     }
+}
 
-    /// A word in its place, as `status -3 parameter`; nothing where the word's digits say all.
-    pub fn meaning(&self, word: u32) -> Option<String> {
-        let value = match self.sense {
-            Sense::Plain => return None,
-            Sense::Number => word.to_string(),
-            Sense::Address => format!("{word:#010x}"),
-            Sense::Signed => (word as i32).to_string(),
-            Sense::Token => format!("{word} {}", call_of(word).map_or("of no call", |call| call.name)),
-            Sense::Flag => format!("{word} {}", pick(word, &["indicator", "sensor"], "neither indicator nor sensor")),
+/// A word in its place.
+#[derive(Clone, Copy, PartialEq, Eq, Debug)]
+pub struct Meaning {
+    field: Field,
+    word: u32,
+}
+
+/// As `status -3 parameter`.
+impl fmt::Display for Meaning {
+    fn fmt(&self, f: &mut fmt::Formatter<'_>) -> fmt::Result {
+        let (Field { name, sense, .. }, word) = (self.field, self.word);
+        write!(f, "{name} ")?;
+        match sense {
+            Sense::Plain | Sense::Number => write!(f, "{word}"),
+            Sense::Address => write!(f, "{word:#010x}"),
+            Sense::Signed => write!(f, "{}", word as i32),
+            Sense::Token => write!(f, "{word} {}", call_of(word).map_or("of no call", |call| call.name)),
+            Sense::Flag => write!(f, "{word} {}", pick(word, &["indicator", "sensor"], "neither indicator nor sensor")),
             Sense::Command => {
-                format!("{word} {}", pick(word, &["of none", "register", "unregister", "complete"], "of none"))
+                write!(f, "{word} {}", pick(word, &["of none", "register", "unregister", "complete"], "of none"))
             }
-            Sense::Status => format!("{} {}", word as i32, status(word as i32)),
-        };
-        Some(format!("{} {value}", self.name))
+            Sense::Status => write!(f, "{} {}", word as i32, status(word as i32)),
+        }
     }
 }
 
