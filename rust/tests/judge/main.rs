@@ -1,4 +1,4 @@
-//! The programs' judge of journals and inventories: held to the library, and its words.
+//! The programs' judge of journals, inventories and traces: held to the library, and its words.
 
 mod held;
 #[path = "../../src/bin/shared/judge.rs"]
@@ -6,8 +6,9 @@ mod judge;
 mod made;
 #[path = "../replay/random.rs"]
 mod random;
-/// Of it, all but `trace`.
-#[allow(dead_code)]
 #[path = "../replay/records.rs"]
 mod records;
+#[path = "../../src/bin/shared/trace.rs"]
+mod trace;
+mod traces;
 mod words;

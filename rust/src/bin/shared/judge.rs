@@ -31,7 +31,7 @@ pub struct Kind {
     lengths: RangeInclusive<usize>,
 }
 
-const fn kind(number: u16, least: usize, most: usize) -> Kind {
+pub const fn kind(number: u16, least: usize, most: usize) -> Kind {
     Kind { number, lengths: least..=most }
 }
 
@@ -40,7 +40,7 @@ const fn kind(number: u16, least: usize, most: usize) -> Kind {
 pub struct Sort {
     pub name: &'static str,
     pub kinds: &'static [Kind],
-    limit: u64,
+    pub limit: u64,
 }
 
 /// Kinds 5 and 6 have a phandle, and a name with its NUL.
