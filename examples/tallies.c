@@ -4,6 +4,7 @@
  * something is not as it should be.
  */
 #include "draugsten.h"
+#include "draugsten_text.h"
 
 #include <inttypes.h>
 #include <stdio.h>
@@ -49,7 +50,7 @@ static void print_use(const struct journal *journal, const char *what, uint32_t 
 {
     printf("%s: ", what);
     if (number != DRAUGSTEN_TALLIES_DONE)
-        printf("refused by %" PRIu32 ", ", number);
+        printf("refused by %" PRIu32 ", %s; ", number, draugsten_text(DRAUGSTEN_TEXT_TALLIES_NUMBER, number));
     printf("%zu bytes in use\n", journal->kept.used);
 }
 
@@ -105,8 +106,8 @@ static void print_forecast(const struct journal *journal, int32_t scope, uint32_
 {
     struct draugsten_forecast_answer answer = draugsten_forecast(journal->kept.tallies, (uint32_t)scope, state);
 
-    printf("scope %" PRId32 ", state %" PRIu32 ": status %" PRId32 ", next state %" PRIu64 "\n", scope, state,
-           (int32_t)answer.status, answer.next);
+    printf("scope %" PRId32 ", state %" PRIu32 ": status %" PRId32 " %s, next state %" PRIu64 "\n", scope, state,
+           (int32_t)answer.status, draugsten_text(DRAUGSTEN_TEXT_STATUS, answer.status), answer.next);
 }
 
 /* ---- two journals in one buffer, one after the other */

@@ -1,4 +1,4 @@
-"""What include/draugsten.h declares: its structs with their layout on x86-64, and its functions.
+"""What include/draugsten.h declares: its structs with their layout on x86-64, its functions, and the numbers that it names.
 
 Whatever stands in the header and is not known here is refused, so that nothing is passed over.
 """
@@ -11,7 +11,9 @@ FIELD = re.compile(r'(struct \w+|\w+) (\w+)((?:\[\w+\])*)$')
 POINTER = re.compile(r'(const )?(\w+) \*(\w+)$')
 VALUE = re.compile(r'(struct \w+|\w+) (\w+)$')
 STRUCT = re.compile(r'struct (\w+) \{(.*?)\};', re.DOTALL)
-ENUM = re.compile(r'enum \w+ \{.*?\};', re.DOTALL)
+ENUM = re.compile(r'enum (\w+) \{(.*?)\};', re.DOTALL)
+CONSTANT = re.compile(r'(DRAUGSTEN_\w+) = (\d+)$')
+DEFINE = re.compile(r'#define (DRAUGSTEN_([A-Z]+)_\w+) (0x[0-9a-f]+)u$')
 FUNCTION = re.compile(r'(struct \w+) (\w+)\(([^()]*)\);')
 LIMIT = re.compile(r'^#define (\w+) (\d+)$', re.MULTILINE)
 
@@ -110,10 +112,43 @@ def takes_of(text, structs):
     return takes
 
 
+def uncommented(text):
+    text = re.sub(r'/\*.*?\*/', '', text, flags=re.DOTALL)
+    return re.sub(r'[ \t]+$', '', text, flags=re.MULTILINE)
+
+
+def constants_of(body):
+    """The names of an enum with their numbers."""
+    constants = {}
+    for part in filter(None, (' '.join(part.split()) for part in body.split(','))):
+        found = CONSTANT.match(part)
+        if not found:
+            raise Unknown(f'the constant {part!r}')
+        constants[found[1]] = int(found[2])
+    return constants
+
+
+def numbers(path=PATH):
+    """The names that stand for a number, with it, by what they are: of an enum by its name, of others by the first word of theirs.
+
+    The limits, which are the header's first part, are none of them.
+    """
+    limits, calls, text = path.read_text().partition('/* ---- calls */')
+    if not calls or '/* ---- limits */' not in limits:
+        raise Unknown('a header that does not begin with its limits')
+    text = uncommented(text)
+    kinds = {name.removeprefix('draugsten_').upper(): constants_of(body) for name, body in ENUM.findall(text)}
+    for line in re.findall('^#define .*$', text, re.MULTILINE):
+        found = DEFINE.match(line)
+        if not found:
+            raise Unknown(f'the line {line!r}')
+        kinds.setdefault(found[2], {})[found[1]] = int(found[3], 16)
+    return kinds
+
+
 def read(path=PATH):
     """The structs by name and the functions, in the header's order."""
-    text = re.sub(r'/\*.*?\*/', '', path.read_text(), flags=re.DOTALL)
-    text = re.sub(r'[ \t]+$', '', text, flags=re.MULTILINE)
+    text = uncommented(path.read_text())
     structs = structs_of(text, dict(LIMIT.findall(text)))
     functions = []
     for answer, name, takes in FUNCTION.findall(text):
