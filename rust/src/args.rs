@@ -1,6 +1,8 @@
 //! Argument buffers: big-endian words, token, number of inputs, number of outputs, the inputs, the outputs.
 
+use crate::text::words;
 use crate::FIELD_LIMIT;
+use std::fmt;
 
 /// An index area of so many bytes or more holds any entry that is due: the count, an index, a length and a code.
 pub const SUFFICIENT_SIZE: u32 = 4 + 4 + 4 + FIELD_LIMIT as u32;
@@ -39,6 +41,24 @@ pub enum Command {
     Unregister = 2,
     /// Forgets the structure of an active dump.
     Complete = 3,
+}
+
+impl Command {
+    /// The one of this number; none, if it is no command.
+    pub fn of(number: u32) -> Option<Command> {
+        [Command::Register, Command::Unregister, Command::Complete].into_iter().find(|&one| one as u32 == number)
+    }
+
+    /// What it asks for.
+    pub fn words(self) -> &'static str {
+        words("COMMAND", self as i32)
+    }
+}
+
+impl fmt::Display for Command {
+    fn fmt(&self, f: &mut fmt::Formatter<'_>) -> fmt::Result {
+        f.pad(self.words())
+    }
 }
 
 /// The argument buffer of update-nodes. The work area is the 4,096 bytes of memory at `address`. In scope 3 its bytes 4

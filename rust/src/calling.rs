@@ -4,6 +4,7 @@ use crate::args::word;
 use crate::ffi;
 use crate::reading_record::{Edition, ReadingRecord};
 use crate::registration::Registration;
+use crate::text::words;
 use std::fmt;
 
 /// What an answered call says.
@@ -13,6 +14,12 @@ pub enum Answer {
     Done = 0,
     /// Status 1: more remains.
     CallAgain = 1,
+}
+
+impl fmt::Display for Answer {
+    fn fmt(&self, f: &mut fmt::Formatter<'_>) -> fmt::Result {
+        f.pad(words("STATUS", *self as i32))
+    }
 }
 
 /// Why a call is refused, or the run of a dump: by a status below 0, or by a number above 0, which leaves no status.
@@ -39,10 +46,21 @@ pub enum Fault {
     DumpActive = -10,
 }
 
+impl Fault {
+    /// What the number or the status means.
+    pub fn words(self) -> &'static str {
+        words(if self.is_number() { "NUMBER" } else { "STATUS" }, self as i32)
+    }
+
+    fn is_number(self) -> bool {
+        self as i32 > 0
+    }
+}
+
 impl fmt::Display for Fault {
     fn fmt(&self, f: &mut fmt::Formatter<'_>) -> fmt::Result {
-        let sort = if *self as i32 > 0 { "number" } else { "status" };
-        write!(f, "refused by {sort} {}", *self as i32)
+        let sort = if self.is_number() { "number" } else { "status" };
+        write!(f, "refused by {sort} {}: {}", *self as i32, self.words())
     }
 }
 

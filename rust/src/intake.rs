@@ -2,6 +2,7 @@
 
 use crate::ffi::intakes as ffi;
 use crate::tallies::TalliedJournal;
+use crate::text::words;
 use std::fmt;
 use std::io::{self, ErrorKind, Write};
 
@@ -52,13 +53,13 @@ impl Refused {
 
 impl fmt::Display for Refused {
     fn fmt(&self, f: &mut fmt::Formatter<'_>) -> fmt::Result {
-        match self {
-            Refused::Malformed { record } => write!(f, "record {record} is malformed"),
-            Refused::NoRoom { record } => {
-                write!(f, "no room for record {record}: past the buffer's end, or past 1048576 bytes")
-            }
-        }
+        write_refused(f, self.number(), self.record())
     }
+}
+
+/// What is told of a record that stops an intake, or that an end cuts off.
+fn write_refused(f: &mut fmt::Formatter<'_>, number: u32, record: u64) -> fmt::Result {
+    write!(f, "refused {number} at record {record}: {}", words("INTAKE_NUMBER", number as i32))
 }
 
 impl std::error::Error for Refused {}
@@ -90,7 +91,7 @@ impl fmt::Display for NotWhole {
     fn fmt(&self, f: &mut fmt::Formatter<'_>) -> fmt::Result {
         match self {
             NotWhole::Refused(refused) => refused.fmt(f),
-            NotWhole::Unfinished { record } => write!(f, "record {record} is not finished"),
+            NotWhole::Unfinished { record } => write_refused(f, 53, *record),
         }
     }
 }

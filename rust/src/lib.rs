@@ -5,7 +5,8 @@
 //! its calls in totals over sessions, of which the last two are the third, a journal that is kept with its tallies and may
 //! arrive in bursts, with forecasts from the tallies, which is the fourth, and lookups of location codes with views of
 //! index areas, which are the fifth.
-//! `include/draugsten.h` has what each buffer holds and which bytes are written.
+//! `include/draugsten.h` has what each buffer holds and which bytes are written, and `include/draugsten_text.h` the words that
+//! `Display` has for its numbers.
 //!
 //! The crate needs `std`: readings are handed back in vectors, and traces are written and read through `std::io`. Firmware
 //! without `std` links the archives themselves, which need neither `std` nor an allocator, through the header's functions.
@@ -44,6 +45,7 @@ mod recorder;
 mod registration;
 mod replay;
 mod tallies;
+mod text;
 pub mod trace;
 mod trace_writer;
 

@@ -2,6 +2,7 @@
 
 use crate::ffi::locations as ffi;
 use crate::reading::{accepted, Entry, Refusal};
+use crate::text::words;
 use std::fmt;
 use std::iter::FusedIterator;
 
@@ -28,7 +29,7 @@ impl fmt::Display for NotLocated {
     fn fmt(&self, f: &mut fmt::Formatter<'_>) -> fmt::Result {
         match self {
             NotLocated::Refused(refusal) => refusal.fmt(f),
-            NotLocated::NotFound => f.write_str("not found"),
+            NotLocated::NotFound => f.write_str(words("LOCATION_NUMBER", self.number() as i32)),
         }
     }
 }

@@ -3,6 +3,7 @@
 use crate::ffi;
 use crate::reading_record::Edition;
 use crate::replay::{read_bursts, Report};
+use crate::text::words;
 use crate::trace::{BODY_LIMIT, RECORD_LIMIT};
 use std::fmt;
 use std::io::{self, Read};
@@ -25,6 +26,16 @@ impl Token {
     pub const ALL: [Token; 4] =
         [Token::UpdateNodes, Token::GetIndices, Token::ConfigureKernelDump, Token::UpdateProperties];
 
+    /// The one of this number; none, if it is a token of no call.
+    pub fn of(number: u32) -> Option<Token> {
+        Token::ALL.into_iter().find(|&token| token as u32 == number)
+    }
+
+    /// The name of its call.
+    pub fn words(self) -> &'static str {
+        words("TOKEN", self as i32)
+    }
+
     /// Its place in `ALL`, and in the counts.
     pub fn place(self) -> usize {
         self as usize - 1
@@ -33,12 +44,7 @@ impl Token {
 
 impl fmt::Display for Token {
     fn fmt(&self, f: &mut fmt::Formatter<'_>) -> fmt::Result {
-        f.pad(match self {
-            Token::UpdateNodes => "ibm,update-nodes",
-            Token::GetIndices => "ibm,get-indices",
-            Token::ConfigureKernelDump => "ibm,configure-kernel-dump",
-            Token::UpdateProperties => "ibm,update-properties",
-        })
+        f.pad(self.words())
     }
 }
 
@@ -73,6 +79,16 @@ impl Status {
         Status::DumpActive,
     ];
 
+    /// The one of this number; none, if no call gives it.
+    pub fn of(number: i32) -> Option<Status> {
+        Status::ALL.into_iter().find(|&status| status as i32 == number)
+    }
+
+    /// What it means.
+    pub fn words(self) -> &'static str {
+        words("STATUS", self as i32)
+    }
+
     /// Its place in `ALL`, and in the counts.
     pub fn place(self) -> usize {
         match self {
@@ -84,6 +100,12 @@ impl Status {
             Status::AlreadyRegistered => 5,
             Status::DumpActive => 6,
         }
+    }
+}
+
+impl fmt::Display for Status {
+    fn fmt(&self, f: &mut fmt::Formatter<'_>) -> fmt::Result {
+        f.pad(self.words())
     }
 }
 
@@ -165,7 +187,7 @@ impl fmt::Display for NotAdded {
     fn fmt(&self, f: &mut fmt::Formatter<'_>) -> fmt::Result {
         match self {
             NotAdded::Report(report) => report.fmt(f),
-            NotAdded::PastLimit => f.write_str(PAST_LIMIT),
+            NotAdded::PastLimit => f.write_str(words("MONTH_NUMBER", 17)),
         }
     }
 }
@@ -183,16 +205,15 @@ pub enum NotMerged {
 
 impl fmt::Display for NotMerged {
     fn fmt(&self, f: &mut fmt::Formatter<'_>) -> fmt::Result {
-        f.write_str(match self {
-            NotMerged::NoTotals => "its figures are those of no traces",
-            NotMerged::PastLimit => PAST_LIMIT,
-        })
+        let number = match self {
+            NotMerged::PastLimit => 17,
+            NotMerged::NoTotals => 18,
+        };
+        f.write_str(words("MONTH_NUMBER", number))
     }
 }
 
 impl std::error::Error for NotMerged {}
-
-const PAST_LIMIT: &str = "a total would pass 2^64 - 1";
 
 /// The figures of totals, which anyone may write down.
 #[derive(Clone, Copy, PartialEq, Eq, Debug, Default)]

@@ -1,6 +1,7 @@
 //! Readers of the work areas that update-nodes and get-indices fill.
 
 use crate::ffi;
+use crate::text::words;
 use std::fmt;
 
 /// No area has more operations.
@@ -91,7 +92,17 @@ pub enum Reason {
 
 impl fmt::Display for Refusal {
     fn fmt(&self, f: &mut fmt::Formatter<'_>) -> fmt::Result {
-        write!(f, "refused {} at {}", self.reason as u32, self.offset)
+        write!(f, "refused {} at {}: {}", self.reason as u32, self.offset, words(self.kind(), self.reason as i32))
+    }
+}
+
+impl Refusal {
+    /// In scope 3, and only there, reserved bytes are refused at 12, which is where they begin.
+    fn kind(&self) -> &'static str {
+        match (self.reason, self.offset) {
+            (Reason::Reserved, 12) => "UNIT_REFUSAL",
+            _ => "REFUSAL",
+        }
     }
 }
 

@@ -3,6 +3,7 @@
 use crate::ffi;
 use crate::reading_record::{Edition, ReadingRecord};
 use crate::registration::Registration;
+use crate::text::words;
 use crate::trace::{Kind, BODY_LIMIT, RECORD_LIMIT};
 use std::fmt;
 use std::io::{self, ErrorKind, Read};
@@ -65,9 +66,9 @@ impl Report {
 impl fmt::Display for Report {
     fn fmt(&self, f: &mut fmt::Formatter<'_>) -> fmt::Result {
         match self {
-            Report::Agreed { calls } => write!(f, "agreed {calls}"),
-            Report::Differs { call, offset } => write!(f, "differs call {call} at {offset}"),
-            Report::Malformed { record } => write!(f, "malformed record {record}"),
+            Report::Agreed { calls } => write!(f, "{} {calls}", words("VERDICT", 0)),
+            Report::Differs { call, offset } => write!(f, "{} call {call} at {offset}", words("VERDICT", 1)),
+            Report::Malformed { record } => write!(f, "{} record {record}", words("VERDICT", 2)),
         }
     }
 }

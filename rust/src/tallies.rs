@@ -1,6 +1,7 @@
 //! A journal that is kept with its tallies, and forecasts from them.
 
 use crate::ffi::tallies as ffi;
+use crate::text::words;
 use std::fmt;
 
 /// How many operations of each opcode a scope holds.
@@ -91,11 +92,7 @@ impl NotKept {
 
 impl fmt::Display for NotKept {
     fn fmt(&self, f: &mut fmt::Formatter<'_>) -> fmt::Result {
-        f.write_str(match self {
-            NotKept::Malformed => "malformed: not one good record, or not a well-formed journal",
-            NotKept::NoRoom => "no room: past the buffer's end, or past 1048576 bytes",
-            NotKept::NoJournal => "no journal: more bytes in use than the buffer has",
-        })
+        f.write_str(words("TALLIES_NUMBER", *self as i32))
     }
 }
 
@@ -231,6 +228,16 @@ impl Forecast {
         match self {
             Forecast::CallAgain { next } => next,
             Forecast::Done | Forecast::Parameter => 0,
+        }
+    }
+}
+
+impl fmt::Display for Forecast {
+    fn fmt(&self, f: &mut fmt::Formatter<'_>) -> fmt::Result {
+        write!(f, "status {}: {}", self.status(), words("FORECAST", self.status()))?;
+        match self {
+            Forecast::CallAgain { next } => write!(f, ", next state {next}"),
+            Forecast::Done | Forecast::Parameter => Ok(()),
         }
     }
 }

@@ -44,9 +44,3 @@ fn a_longer_buffer_keeps_its_end() {
     assert_eq!(Partition::new().call(&mut args), Ok(Answer::Done));
     assert_eq!(args[20..], [0, 0, 0, 0, 0xee, 0xee, 0xee, 0xee, 0xee, 0xee, 0xee, 0xee]);
 }
-
-#[test]
-fn faults_are_told() {
-    assert_eq!(Fault::TooMany.to_string(), "refused by number 12");
-    assert_eq!(Fault::DumpActive.to_string(), "refused by status -10");
-}

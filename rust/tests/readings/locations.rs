@@ -58,7 +58,7 @@ fn a_refused_area_refuses_every_index() {
     for index in [0, 1, 2, 3, u32::MAX] {
         let refusal = lookup(&area, b"zero\0fixed\0", index).unwrap_err();
         assert_eq!(refusal, refused(Reason::Code, 16));
-        assert_eq!((refusal.number(), refusal.to_string()), (33, String::from("refused 33 at 16")));
+        assert_eq!((refusal.number(), refusal.to_string().starts_with("refused 33 at 16: ")), (33, true));
     }
     assert_eq!(lookup(&area[..3], b"zero\0", 0), Err(refused(Reason::NoCount, 0)));
     assert_eq!(lookup(&area[..15], b"zero\0", 0), Err(refused(Reason::SetPastEnd, 4)));

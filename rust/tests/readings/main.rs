@@ -12,3 +12,4 @@ mod properties;
 mod reading_record;
 mod running;
 mod tallies;
+mod text;

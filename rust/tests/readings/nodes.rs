@@ -144,7 +144,7 @@ fn node_areas_are_refused() {
     assert_eq!(read_nodes(&area(&[0, 0, 0, 0, 0x02000001, 9, 0x01000001])), refused(Reason::Order, 24));
     let unterminated = read_nodes(&area(&[0, 0, 0, 0, 0x010003fb]));
     assert_eq!(unterminated, refused(Reason::NoTerminator, 4096));
-    assert_eq!(unterminated.unwrap_err().to_string(), "refused 27 at 4096");
+    assert_eq!(unterminated.unwrap_err().to_string(), "refused 27 at 4096: the area ends without a terminator");
 }
 
 const UNIT: u64 = 0x8000_0000_2000_0002;

@@ -18,14 +18,13 @@ fn row(name: &str, [deletes, updates, additions]: [String; 3]) -> String {
     format!("{name:<12}  {deletes:>7}  {updates:>7}  {additions:>9}\n")
 }
 
-/// What the call would answer, and where it is -3 why.
+/// What the call would answer, and if it is -3 why.
 pub fn forecast(tallies: &Tallies, scope: i32, state: u32, forecast: Forecast) -> String {
-    let words = match forecast {
-        Forecast::Done => String::from("nothing remains behind this call"),
-        Forecast::CallAgain { next } => format!("more remains, next state {next}"),
-        Forecast::Parameter => refusal(tallies, scope),
+    let answer = match forecast {
+        Forecast::Done | Forecast::CallAgain { .. } => forecast.to_string(),
+        Forecast::Parameter => format!("status {}: {}", forecast.status(), refusal(tallies, scope)),
     };
-    format!("scope {scope}, state {state}: status {}: {words}\n", forecast.status())
+    format!("scope {scope}, state {state}: {answer}\n")
 }
 
 fn refusal(tallies: &Tallies, scope: i32) -> String {
@@ -86,7 +85,7 @@ negative            1   104857          2
     #[test]
     fn an_answer_is_told_in_words() {
         let told = |scope, told| forecast(&some(), scope, 7, told);
-        assert_eq!(told(1, Forecast::Done), "scope 1, state 7: status 0: nothing remains behind this call\n");
+        assert_eq!(told(1, Forecast::Done), "scope 1, state 7: status 0: nothing remains after this call\n");
         let again = Forecast::CallAgain { next: 1018 };
         assert_eq!(told(-1, again), "scope -1, state 7: status 1: more remains, next state 1018\n");
         let refused = |scope| told(scope, Forecast::Parameter);

@@ -4,16 +4,7 @@ use draugsten::{Share, Status, Token, Totals};
 
 /// A status by its number and its name.
 fn status_name(status: Status) -> String {
-    let name = match status {
-        Status::Done => "done",
-        Status::CallAgain => "call again",
-        Status::Malformed => "journal or inventory malformed",
-        Status::Parameter => "parameter",
-        Status::Changed => "inventory changed",
-        Status::AlreadyRegistered => "already registered",
-        Status::DumpActive => "dump active",
-    };
-    format!("{:>3} {name}", status as i32)
+    format!("{:>3} {status}", status as i32)
 }
 
 /// The calls, a column for each token and a line for each status; then what update-nodes handed out.

@@ -81,7 +81,7 @@ fn run(options: &Options) -> Result<(), Fault> {
         Ok(code) => tell(&format!("{}\n", visible(code))),
         Err(NotLocated::Refused(refusal)) => {
             let name = records::named(files::AREA, area_path);
-            Err((NOT_LOCATED, format!("{name} is {refusal}: {}", text::reason(refusal))))
+            Err((NOT_LOCATED, format!("{name} is {refusal}")))
         }
         Err(NotLocated::NotFound) => Err((NOT_LOCATED, text::not_found(*index, &fixed))),
     }

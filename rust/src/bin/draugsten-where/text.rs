@@ -1,20 +1,5 @@
 //! What is told of a lookup.
 
-use draugsten::{Reason, Refusal, FIELD_LIMIT};
-
-/// What is wrong with a refused area, in words.
-pub fn reason(refusal: Refusal) -> String {
-    match refusal.reason {
-        Reason::NoCount => String::from("it has under 4 bytes"),
-        Reason::SetPastEnd => String::from("the entry there goes past the end"),
-        Reason::CodeLength => {
-            format!("the length of the entry's code is zero, above {FIELD_LIMIT} or no multiple of 4")
-        }
-        Reason::Code => String::from("the entry has no code with one to four NULs behind it and nothing else"),
-        reason => unreachable!("an index area is not refused for {reason:?}"),
-    }
-}
-
 /// Why there is no code for an index in an area that reads well.
 pub fn not_found(index: u32, fixed: &[u8]) -> String {
     if index == u32::MAX {
@@ -32,8 +17,7 @@ pub fn not_found(index: u32, fixed: &[u8]) -> String {
 
 #[cfg(test)]
 mod tests {
-    use super::{not_found, reason};
-    use draugsten::{Reason, Refusal};
+    use super::not_found;
 
     #[test]
     fn what_is_not_found_has_a_reason() {
@@ -46,12 +30,5 @@ mod tests {
         assert_eq!(told(1, b"a\0bc"), format!("{} {last}", front(1)));
         let never = "index 4294967295 is never found; its entries are told apart by their codes";
         assert_eq!(told(u32::MAX, b"a\0"), never);
-    }
-
-    #[test]
-    fn each_refusal_has_its_words() {
-        for reason_of in [Reason::NoCount, Reason::SetPastEnd, Reason::CodeLength, Reason::Code] {
-            assert!(!reason(Refusal { reason: reason_of, offset: 4 }).is_empty());
-        }
     }
 }

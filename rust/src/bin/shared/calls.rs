@@ -1,5 +1,7 @@
 //! The words of an argument buffer by their names, and what they mean.
 
+use draugsten::args::Command;
+use draugsten::{Fault, Status, Token};
 use std::fmt;
 
 /// How a word is told.
@@ -43,9 +45,8 @@ pub struct Field {
 
 type Word = (&'static str, Sense);
 
-/// A call: its name, its inputs and its outputs.
+/// The inputs and the outputs of a call.
 struct Call {
-    name: &'static str,
     inputs: &'static [Word],
     outputs: &'static [Word],
 }
@@ -54,11 +55,10 @@ const ADDRESS: Word = ("address", Sense::Address);
 const SCOPE: Word = ("scope", Sense::Signed);
 const STATUS: Word = ("status", Sense::Status);
 
-/// The calls of tokens 1 to 4.
+/// The calls of the tokens, by their places.
 static CALLS: [Call; 4] = [
-    Call { name: "ibm,update-nodes", inputs: &[ADDRESS, SCOPE], outputs: &[STATUS] },
+    Call { inputs: &[ADDRESS, SCOPE], outputs: &[STATUS] },
     Call {
-        name: "ibm,get-indices",
         inputs: &[
             ("flag", Sense::Flag),
             ("type", Sense::Number),
@@ -68,17 +68,9 @@ static CALLS: [Call; 4] = [
         ],
         outputs: &[STATUS, ("Next Starting Number", Sense::Number)],
     },
-    Call {
-        name: "ibm,configure-kernel-dump",
-        inputs: &[("command", Sense::Command), ADDRESS, ("length", Sense::Number)],
-        outputs: &[STATUS],
-    },
-    Call { name: "ibm,update-properties", inputs: &[ADDRESS, SCOPE], outputs: &[STATUS] },
+    Call { inputs: &[("command", Sense::Command), ADDRESS, ("length", Sense::Number)], outputs: &[STATUS] },
+    Call { inputs: &[ADDRESS, SCOPE], outputs: &[STATUS] },
 ];
-
-fn call_of(token: u32) -> Option<&'static Call> {
-    CALLS.get((token as usize).checked_sub(1)?)
-}
 
 /// The big-endian word at a place, where the buffer has all of it.
 pub fn word(buffer: &[u8], at: usize) -> Option<u32> {
@@ -108,19 +100,19 @@ impl fmt::Display for NoStatus {
     }
 }
 
-/// The head of a buffer, by which its call has a status; or why it has none.
+/// The head of a buffer, by which its call has a status; or why it has none: of the two reasons for 10 the one that holds.
 pub fn head(buffer: &[u8]) -> Result<Head, NoStatus> {
-    let refused = |number, why| Err(NoStatus { number, why });
+    let refused = |fault: Fault, why| Err(NoStatus { number: fault as u32, why });
     let words = (word(buffer, 0), word(buffer, 4), word(buffer, 8));
-    let (Some(token), Some(inputs), Some(outputs)) = words else { return refused(10, "under 12 bytes") };
+    let (Some(token), Some(inputs), Some(outputs)) = words else { return refused(Fault::Short, "under 12 bytes") };
     if inputs > 16 || outputs > 16 {
-        return refused(12, "more than 16 inputs or outputs");
+        return refused(Fault::TooMany, Fault::TooMany.words());
     }
     if buffer.len() < 12 + 4 * (inputs + outputs) as usize {
-        return refused(10, "fewer bytes than its inputs and outputs take");
+        return refused(Fault::Short, "fewer bytes than its inputs and outputs take");
     }
     if outputs == 0 {
-        return refused(11, "no output for a status");
+        return refused(Fault::NoOutputs, Fault::NoOutputs.words());
     }
     Ok(Head { token, inputs: inputs as usize, outputs: outputs as usize })
 }
@@ -130,13 +122,13 @@ impl Head {
     pub fn text(&self) -> String {
         let Head { token, inputs, outputs } = *self;
         let (inputs, outputs) = (counted(inputs, "input"), counted(outputs, "output"));
-        let unlike = if call_of(token).is_none() || self.is_own() { "" } else { ", unlike the call's own" };
+        let unlike = if Token::of(token).is_none() || self.is_own() { "" } else { ", unlike the call's own" };
         format!("{}, token {token}, {inputs}, {outputs}{unlike}", self.name())
     }
 
     /// The name of the call by its token.
     pub fn name(&self) -> &'static str {
-        call_of(self.token).map_or("an unknown call", |call| call.name)
+        Token::of(self.token).map_or("an unknown call", Token::words)
     }
 
     /// Whether there is such a call, and the counts are its own.
@@ -146,7 +138,7 @@ impl Head {
 
     /// The call that it asks for, where the counts are its own.
     fn call(&self) -> Option<&'static Call> {
-        let call = call_of(self.token)?;
+        let call = &CALLS[Token::of(self.token)?.place()];
         ((self.inputs, self.outputs) == (call.inputs.len(), call.outputs.len())).then_some(call)
     }
 
@@ -221,29 +213,18 @@ impl fmt::Display for Meaning {
             Sense::Plain | Sense::Number => write!(f, "{word}"),
             Sense::Address => write!(f, "{word:#010x}"),
             Sense::Signed => write!(f, "{}", word as i32),
-            Sense::Token => write!(f, "{word} {}", call_of(word).map_or("of no call", |call| call.name)),
-            Sense::Flag => write!(f, "{word} {}", pick(word, &["indicator", "sensor"], "neither indicator nor sensor")),
-            Sense::Command => {
-                write!(f, "{word} {}", pick(word, &["of none", "register", "unregister", "complete"], "of none"))
-            }
-            Sense::Status => write!(f, "{} {}", word as i32, status(word as i32)),
+            Sense::Token => write!(f, "{word} {}", Token::of(word).map_or("of no call", Token::words)),
+            Sense::Flag => write!(f, "{word} {}", flag(word)),
+            Sense::Command => write!(f, "{word} {}", Command::of(word).map_or("of none", Command::words)),
+            Sense::Status => write!(f, "{} {}", word as i32, Status::of(word as i32).map_or("of no call", Status::words)),
         }
     }
 }
 
-fn pick(word: u32, names: &[&'static str], other: &'static str) -> &'static str {
-    names.get(word as usize).copied().unwrap_or(other)
-}
-
-fn status(status: i32) -> &'static str {
-    match status {
-        0 => "done",
-        1 => "call again",
-        -1 => "journal or inventory malformed",
-        -3 => "parameter",
-        -4 => "inventory changed",
-        -9 => "already registered",
-        -10 => "dump active",
-        _ => "of no call",
+fn flag(word: u32) -> &'static str {
+    match word {
+        0 => "indicator",
+        1 => "sensor",
+        _ => "neither indicator nor sensor",
     }
 }
