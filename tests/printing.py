@@ -2,6 +2,8 @@
 import pathlib
 import subprocess
 
+from texts import words
+
 ROOT = pathlib.Path(__file__).resolve().parent.parent
 
 
@@ -9,12 +11,21 @@ def refusal(number, at):
     return f'refused {number} at {at}\n'
 
 
+def explained(expected):
+    """What is to stand on standard error: of a refusal the same line, with its words."""
+    if not expected.startswith('refused'):
+        return ''
+    line = expected.removesuffix('\n')
+    return f'{line}: {words("REFUSAL", int(line.split()[1]))}\n'
+
+
 def failed(command, name, given, expected):
-    """Whether the text is another than expected, or the exit status, which is 3 for a refusal."""
+    """Whether a text is another than expected, or the exit status, which is 3 for a refusal. What a build says is passed over."""
     run = subprocess.run([ROOT / 'draugsten', command], input=given, capture_output=True)
-    if run.returncode == (3 if expected.startswith('refused') else 0) and run.stdout == expected.encode():
+    said = ''.join(line for line in run.stderr.decode().splitlines(keepends=True) if not line.startswith('draugsten: '))
+    if (run.returncode, run.stdout, said) == (3 if expected.startswith('refused') else 0, expected.encode(), explained(expected)):
         return False
-    print(f'{command}: {name}: exit {run.returncode}, expected {expected[:60]!r}, found {run.stdout[:60]!r}')
+    print(f'{command}: {name}: exit {run.returncode}, expected {expected[:60]!r}, found {run.stdout[:60]!r}, on standard error {said[:200]!r}')
     return True
 
 
