@@ -216,7 +216,9 @@ impl fmt::Display for Meaning {
             Sense::Token => write!(f, "{word} {}", Token::of(word).map_or("of no call", Token::words)),
             Sense::Flag => write!(f, "{word} {}", flag(word)),
             Sense::Command => write!(f, "{word} {}", Command::of(word).map_or("of none", Command::words)),
-            Sense::Status => write!(f, "{} {}", word as i32, Status::of(word as i32).map_or("of no call", Status::words)),
+            Sense::Status => {
+                write!(f, "{} {}", word as i32, Status::of(word as i32).map_or("of no call", Status::words))
+            }
         }
     }
 }
