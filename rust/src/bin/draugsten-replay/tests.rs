@@ -132,7 +132,7 @@ fn a_buffer_that_is_shorter() {
     let lines = told(&call(&before, &after[..22]));
     assert_eq!(lines[7..], ["  recorded: ffff, and ends there", "  ours:     fffffffd status -3 parameter"]);
     let lines = told(&call(&before, &[&after[..], &[9]].concat()));
-    assert_eq!(lines[5], "byte 24 is in bytes 24 to 27: a word behind the outputs");
+    assert_eq!(lines[5], "byte 24 is in bytes 24 to 27: a word after the outputs");
     assert_eq!(lines[6], "  the recorded buffer has 25 bytes, ours 24 bytes");
     assert_eq!(lines[7..], ["  recorded: 09, and ends there", "  ours:     ends before it"]);
 }

@@ -156,7 +156,7 @@ impl Head {
                 let place = place - self.inputs;
                 (Place::Output(place + 1), known(|call| call.outputs, place))
             }
-            Some(_) => return Field { place: None, name: "a word behind the outputs", sense: Sense::Plain },
+            Some(_) => return Field { place: None, name: "a word after the outputs", sense: Sense::Plain },
         };
         Field { place: Some(place), name, sense }
     }

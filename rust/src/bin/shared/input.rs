@@ -69,10 +69,15 @@ pub struct Stream {
     file: File,
 }
 
+/// How a stream is named: by what it is for, and by its file. Without a file it is standard input.
+pub fn name(what: &str, path: Option<&Path>) -> String {
+    path.map_or_else(|| format!("standard input, the {what},"), |path| named(what, path))
+}
+
 impl Stream {
     /// Opens it by what it is for. Without a file it is standard input.
     pub fn open(what: &str, path: Option<&Path>) -> Result<Stream, String> {
-        let name = path.map_or(format!("standard input, the {what},"), |path| named(what, path));
+        let name = name(what, path);
         let file = match path {
             Some(path) => File::open(path),
             None => io::stdin().as_fd().try_clone_to_owned().map(File::from),

@@ -6,7 +6,10 @@ use std::io::{self, Write};
 pub fn write(text: &str) -> Result<(), String> {
     let mut output = io::stdout().lock();
     let written = output.write_all(text.as_bytes()).and_then(|()| output.flush());
-    written.map_err(|error| {
-        format!("standard output cannot be written whole: {error}; make room, or write to another file")
-    })
+    written.map_err(|error| failed(&error))
+}
+
+/// What to say of an error.
+pub fn failed(error: &io::Error) -> String {
+    format!("standard output cannot be written whole: {error}; make room, or write to another file")
 }
