@@ -138,14 +138,14 @@ fn of_a_record() {
 fn of_what_follows_a_32() {
     let after = |rest: &[u8]| {
         let told = flaw(&[&record(32, &[5]), rest].concat());
-        String::from(told.strip_prefix("a 32 without its 33: ").expect(&told))
+        String::from(told.strip_prefix("a 32, and record 4 is not its 33: ").expect(&told))
     };
-    assert_eq!(after(&[]), "the trace ends after it");
-    assert_eq!(after(&[3]), "record 4, at byte 13: cut off by the end, inside its length");
-    assert_eq!(after(&[3, 0, 33, 0]), "record 4, at byte 13: cut off by the end, after 4 of 5 bytes");
-    assert_eq!(after(&record(34, &[0; 5])), "record 4 is a 34");
-    assert_eq!(after(&record(32, &[])), "record 4 is a 32");
-    assert_eq!(after(&record(35, &[])), "record 4, at byte 13: kind 35; a trace has kinds 32 to 34");
+    assert_eq!(flaw(&record(32, &[5])), "a 32, and the trace ends without its 33");
+    assert_eq!(after(&[3]), "cut off by the end, inside its length");
+    assert_eq!(after(&[3, 0, 33, 0]), "cut off by the end, after 4 of 5 bytes");
+    assert_eq!(after(&record(34, &[0; 5])), "kind 34");
+    assert_eq!(after(&record(32, &[])), "kind 32");
+    assert_eq!(after(&record(35, &[])), "kind 35; a trace has kinds 32 to 34");
 }
 
 #[test]
@@ -159,5 +159,5 @@ fn no_record_follows_the_last_number() {
     assert!(first_step(&call, last - 1, 0).is_ok());
     let alone = first_step(&call, last, 7).unwrap_err();
     assert_eq!(alone.record, last);
-    assert!(alone.what.ends_with("record 4294967296, at byte 11: one more than a trace may have, 4294967295"));
+    assert!(alone.what.ends_with("record 4294967296 is not its 33: one more than a trace may have, 4294967295"));
 }

@@ -4,6 +4,10 @@
 mod calls;
 mod difference;
 mod flaw;
+/// Of it, what traces share with journals and inventories.
+#[allow(dead_code)]
+#[path = "../shared/judge.rs"]
+mod judge;
 mod options;
 mod progress;
 #[path = "../shared/mod.rs"]
@@ -11,6 +15,8 @@ mod shared;
 mod sources;
 #[cfg(test)]
 mod tests;
+#[path = "../shared/trace.rs"]
+mod trace;
 
 use draugsten::{Edition, Replay, Report};
 use options::Options;

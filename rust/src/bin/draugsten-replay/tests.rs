@@ -67,8 +67,8 @@ fn a_trace_without_a_call() {
 fn what_goes_astray_before_any_call_is_told_as_ever() {
     for allow_empty in [false, true] {
         let of = |trace: &[u8]| told_over(&mut [0; 16], trace, &Options { allow_empty, ..over(16) });
-        assert_eq!(of(&[7]), ["malformed record 1", "record 1 is cut off by the end, inside its length"]);
-        let alone = "record 1 is a 32 without its 33: the trace ends behind it";
+        assert_eq!(of(&[7]), ["malformed record 1", "record 1: cut off by the end, inside its length"]);
+        let alone = "record 1: a 32, and the trace ends without its 33";
         assert_eq!(of(&record(32, &[])), ["malformed record 1", alone]);
         assert_eq!(of(&call(&[], &[7]))[0], "differs call 1 at 0");
     }
@@ -220,32 +220,32 @@ fn flaw(rest: &[u8]) -> String {
 
 #[test]
 fn flaws_of_a_record() {
-    assert_eq!(flaw(&record(7, &[1])), "record 3 has kind 7; a trace has kinds 32, 33 and 34");
-    assert_eq!(flaw(&[1, 0, 32, 0]), "record 3 has length 1, which does not count its kind");
-    assert_eq!(flaw(&[1, 0, 32]), "record 3 has length 1, which does not count its kind");
-    assert_eq!(flaw(&record(34, &[0; 4101])), "record 3 has a body of 4101 bytes; at most 4100");
-    assert_eq!(flaw(&record(33, &[])), "record 3 is a 33 without a 32 right before it");
-    assert_eq!(flaw(&record(34, &[0; 4])), "record 3 is a 34 with a body of 4 bytes; an address and a byte are 5");
-    assert_eq!(flaw(&record(34, &[15, 0, 0, 0, 7, 7])), "record 3 is a 34 for bytes 15 to 16 of memory, which has 16");
+    assert_eq!(flaw(&record(7, &[1])), "record 3: kind 7; a trace has kinds 32 to 34");
+    assert_eq!(flaw(&[1, 0, 32, 0]), "record 3: length 1, which does not count its kind");
+    assert_eq!(flaw(&[1, 0, 32]), "record 3: length 1, which does not count its kind");
+    assert_eq!(flaw(&record(34, &[0; 4101])), "record 3: length 4103 for kind 34, which has 7 to 4102");
+    assert_eq!(flaw(&record(33, &[])), "record 3: a 33 without a 32 right before it");
+    assert_eq!(flaw(&record(34, &[0; 4])), "record 3: length 6 for kind 34, which has 7 to 4102");
+    assert_eq!(flaw(&record(34, &[15, 0, 0, 0, 7, 7])), "record 3: kind 34 for bytes 15 to 16 of memory, which has 16");
     assert_eq!(
         flaw(&record(34, &[0, 0, 0, 0x80, 7])),
-        "record 3 is a 34 for bytes 2147483648 to 2147483648 of memory, which has 16"
+        "record 3: kind 34 for bytes 2147483648 to 2147483648 of memory, which has 16"
     );
-    assert_eq!(flaw(&[7]), "record 3 is cut off by the end, inside its length");
-    assert_eq!(flaw(&[7, 0, 34]), "record 3 is cut off by the end, behind 3 of 9 bytes");
+    assert_eq!(flaw(&[7]), "record 3: cut off by the end, inside its length");
+    assert_eq!(flaw(&[7, 0, 34]), "record 3: cut off by the end, inside its kind");
 }
 
 #[test]
-fn flaws_behind_a_32() {
-    let behind = |rest: &[u8]| flaw(&[&record(32, &[5]), rest].concat());
-    assert_eq!(behind(&[]), "record 3 is a 32 without its 33: the trace ends behind it");
+fn flaws_after_a_32() {
+    let after = |rest: &[u8]| flaw(&[&record(32, &[5]), rest].concat());
+    assert_eq!(after(&[]), "record 3: a 32, and the trace ends without its 33");
     assert_eq!(
-        behind(&[3, 0, 33, 0]),
-        "record 3 is a 32 without its 33: record 4 is cut off by the end, behind 4 of 5 bytes"
+        after(&[3, 0, 33, 0]),
+        "record 3: a 32, and record 4 is not its 33: cut off by the end, after 4 of 5 bytes"
     );
-    assert_eq!(behind(&record(34, &[0; 5])), "record 3 is a 32 without its 33: record 4 is a 34");
+    assert_eq!(after(&record(34, &[0; 5])), "record 3: a 32, and record 4 is not its 33: kind 34");
     assert_eq!(
-        behind(&record(35, &[])),
-        "record 3 is a 32 without its 33: record 4 has kind 35; a trace has kinds 32, 33 and 34"
+        after(&record(35, &[])),
+        "record 3: a 32, and record 4 is not its 33: kind 35; a trace has kinds 32 to 34"
     );
 }

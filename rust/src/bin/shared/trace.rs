@@ -27,34 +27,33 @@ pub enum Step<'a> {
 /// The step that stands first in bytes which are the rest of a trace from this record and this offset on.
 pub fn first_step(rest: &[u8], record: u64, offset: u64) -> Result<Step<'_>, Flaw> {
     let flaw = |what| Flaw { record, offset, what };
-    let Record { kind, body } = take(rest, record, offset).map_err(flaw)?;
-    match kind {
+    let found = take(rest, record).map_err(flaw)?;
+    match found.kind {
         BEFORE => {
-            let size = 4 + body.len();
-            let after = take_after(&rest[size..], record + 1, offset + size as u64);
-            after.map(|after| Step::Call { before: body, after }).map_err(flaw)
+            let after = take_after(&rest[found.size()..], record + 1).map_err(flaw)?;
+            Ok(Step::Call { before: found.body, after })
         }
         AFTER => Err(flaw(format!("a {AFTER} without a {BEFORE} right before it"))),
-        _ => Ok(Step::Memory { address: word(body, 0), bytes: &body[4..] }),
+        _ => Ok(Step::Memory { address: word(found.body, 0), bytes: &found.body[4..] }),
     }
 }
 
-/// The body of the 33 that has to stand first after a 32; or what is wrong with that one.
-fn take_after(rest: &[u8], record: u64, offset: u64) -> Result<&[u8], String> {
-    let alone = format!("a {BEFORE} without its {AFTER}");
+/// The body of the 33 that has to stand first after a 32; or what is wrong with the 32 if there is none.
+pub fn take_after(rest: &[u8], record: u64) -> Result<&[u8], String> {
     if rest.is_empty() {
-        return Err(format!("{alone}: the trace ends after it"));
+        return Err(format!("a {BEFORE}, and the trace ends without its {AFTER}"));
     }
-    match take(rest, record, offset) {
-        Ok(Record { kind: AFTER, body }) => Ok(body),
-        Ok(Record { kind, .. }) => Err(format!("{alone}: record {record} is a {kind}")),
-        Err(what) => Err(format!("{alone}: record {record}, at byte {offset}: {what}")),
-    }
+    let what = match take(rest, record) {
+        Ok(Record { kind: AFTER, body }) => return Ok(body),
+        Ok(Record { kind, .. }) => format!("kind {kind}"),
+        Err(what) => what,
+    };
+    Err(format!("a {BEFORE}, and record {record} is not its {AFTER}: {what}"))
 }
 
-fn take(rest: &[u8], record: u64, offset: u64) -> Result<Record<'_>, String> {
+fn take(rest: &[u8], record: u64) -> Result<Record<'_>, String> {
     match record > u64::from(RECORDS_LIMIT) {
         true => Err(format!("one more than a trace may have, {RECORDS_LIMIT}")),
-        false => first(&TRACE, rest, offset),
+        false => first(&TRACE, rest, 0),
     }
 }
