@@ -33,15 +33,36 @@ end_as() {
     fail "$1 ended with status $status before it had a result; see what stands above, and that its output can be written"
 }
 
+# Whether the mark of a build is there, and nothing of the crates, nor of more sources that are named, is newer.
+is_marked() {
+    [[ -e $1 && -z $(find crates crates.txt "${@:2}" -newer "$1" -print -quit) ]]
+}
+
 # Whether a built file is there, and nothing of the crates is newer than the beginning of its build.
 is_new() {
-    [[ -e $1 && -e $1.built && -z $(find crates crates.txt -newer "$1.built" -print -quit) ]]
+    [[ -e $1 ]] && is_marked "$1.built"
+}
+
+# Whether all of these crates' archives are there and new.
+are_new() {
+    local crate
+    for crate; do
+        is_new "target/staticlib/lib$crate.a" || return
+    done
+}
+
+# Ends if a folder that a build writes to cannot be written: the folder, or if it is not there the one that it would be made in.
+need_writable() {
+    local folder=$1
+    while [[ ! -e $folder ]]; do
+        folder=$(dirname "$folder")
+    done
+    [[ -w $folder ]] || fail "something has to be built, and $(readlink -f "$folder") cannot be written; build it in a checkout that you may write"
 }
 
 # Runs a command while no other build runs: it waits for the lock, which is on the repository's folder.
 locked() {
     local lock status=0
-    need flock 'install util-linux'
     exec {lock}<.
     flock -n "$lock" || { say 'another build is running; waiting for it' && flock "$lock"; }
     "$@" || status=$?
@@ -68,12 +89,12 @@ tell_proved() {
 }
 
 # Makes a file of a crate by a command of rt. Its mark, FILE.built, has the time of the beginning. `rt check` makes a program
-# that is gone only where it does not know it as proved.
+# that is gone only if it does not know it as proved.
 make_file() {
     local verb=$1 crate=$2 file=$3 log=target/draugsten-build.log count
     is_new "$file" && return
     count=$(count_crates "$crate")
-    say "building $file: $count crates; those that are not proved yet take up to some minutes each"
+    say "building $file once: $count crates are proved, those that are not yet; all of them take up to half an hour, later calls no time"
     mkdir -p target "$(dirname "$file")"
     rm -f "$file.built"
     touch "$file.begun"
@@ -82,10 +103,17 @@ make_file() {
     [[ -e $file ]] && mv "$file.begun" "$file.built"
 }
 
-# Builds a file of a crate by a command of rt, where it is missing or old.
+# Ends if something that rt needs is missing.
+need_rt() {
+    need rt 'install the Rattle kit and add its folder bin to the PATH'
+    need flock 'install util-linux'
+    need_writable target
+}
+
+# Builds a file of a crate by a command of rt, if it is missing or old.
 build() {
     is_new "$3" && return
-    need rt 'install the Rattle kit and add its folder bin to the PATH'
+    need_rt
     locked make_file "$@" && return
     cat target/draugsten-build.log >&2 || true
     fail "$3 could not be built; what rt said stands above, and in target/draugsten-build.log"
@@ -96,4 +124,35 @@ build_archives() {
     for crate; do
         build staticlib "$crate" "target/staticlib/lib$crate.a"
     done
+}
+
+# Whether a program of a folder is there, and newer than its sources.
+is_program_new() {
+    [[ -e $1/target/release/$2 ]] && is_marked "$1/target/built" "$1"/{src,Cargo.toml,Cargo.lock,build.rs} rust/src
+}
+
+# Makes the programs of a folder by cargo. Their mark has the time of the beginning.
+make_programs() {
+    is_program_new "$1" "$2" && return
+    say "building the programs of $1/ once, in up to some minutes"
+    mkdir -p "$1/target"
+    rm -f "$1/target/built"
+    touch "$1/target/begun"
+    cargo build --release --offline --quiet --manifest-path "$1/Cargo.toml" </dev/null || return
+    [[ -e $1/target/release/$2 ]] && mv "$1/target/begun" "$1/target/built"
+}
+
+# Ends if something is missing that building the programs of a folder needs, with the archives of these crates.
+need_programs() {
+    need cargo 'install Rust'
+    need flock 'install util-linux'
+    need_writable "$1/target"
+    are_new "${@:2}" || need_rt
+}
+
+# Builds a program of a folder, and the archives that it links, if it is missing or old.
+build_program() {
+    need_programs "$1" "${static_libraries[@]}"
+    build_archives "${static_libraries[@]}"
+    locked make_programs "$1" "$2" || fail "$1/ could not be built; what cargo said stands above"
 }

@@ -16,6 +16,9 @@ mod options;
 mod random;
 mod replay;
 mod session;
+/// Of it, what a command without files needs.
+#[allow(dead_code)]
+mod shared;
 mod shrink;
 mod subject;
 mod tallies;
@@ -26,26 +29,43 @@ use compare::Sides;
 use coverage::Coverage;
 use draugsten_compare::paper;
 use options::Options;
+use shared::command::{Command, DONE, NOT_GOOD};
 use std::panic::{self, AssertUnwindSafe};
 use std::process::ExitCode;
 use std::time::{Duration, Instant};
 
-/// The exit status where a difference was found.
-const DIFFERENT: u8 = 3;
+/// The exit status if a difference was found.
+const DIFFERENT: u8 = NOT_GOOD;
+
+pub const COMPARE: Command = Command { name: "compare", help: include_str!("../usage.txt") };
 
 fn main() -> ExitCode {
-    let options = match options::parse(std::env::args().skip(1)) {
-        Ok(Some(options)) => options,
-        Ok(None) => {
-            print!("{}", options::USAGE);
-            return ExitCode::SUCCESS;
-        }
-        Err(message) => {
-            eprint!("draugsten-compare: {message}\n{}", options::USAGE);
-            return ExitCode::from(2);
-        }
-    };
+    COMPARE.run(options::judge, |options| Ok(run(options)))
+}
+
+fn run(options: &Options) -> u8 {
     let sides = Sides { paper: &subject::Paper, tested: subject::under_test() };
+    if !options.quiet {
+        tell_sides(sides);
+    }
+    crash::install();
+    if options.fixed && options.only.is_none() && !run_fixed(sides, options.quiet) {
+        return DIFFERENT;
+    }
+    // A panic is told as a difference, with its case.
+    panic::set_hook(Box::new(|_| {}));
+    let different = match options.only {
+        Some(number) => run_only(sides, options, number),
+        None => run_cases(sides, options),
+    };
+    if different {
+        DIFFERENT
+    } else {
+        DONE
+    }
+}
+
+fn tell_sides(sides: Sides) {
     println!("draugsten-compare: document 01 written out ({}) against {}", sides.paper.name(), sides.tested.name());
     println!(
         "compared: every answer, and every byte of the argument buffer, of memory, of the registration, of the reading \
@@ -53,22 +73,11 @@ fn main() -> ExitCode {
         refused, and every figure of a month; every byte, tally and refusal of a journal that is kept or that arrives in bursts, and \
         forecasts; every code that a lookup finds, and every step of a view"
     );
-    crash::install();
-    if options.fixed && options.only.is_none() && !run_fixed(sides) {
-        return ExitCode::from(DIFFERENT);
-    }
-    // A panic is told as a difference, with its case.
-    panic::set_hook(Box::new(|_| {}));
-    let different = match options.only {
-        Some(number) => run_only(sides, options.seed, number),
-        None => run_cases(sides, &options),
-    };
-    ExitCode::from(if different { DIFFERENT } else { 0 })
 }
 
 /// The readings with written-out values, on both sides.
-fn run_fixed(sides: Sides) -> bool {
-    let failures = fixed::run(sides);
+fn run_fixed(sides: Sides, quiet: bool) -> bool {
+    let failures = fixed::run(sides, quiet);
     failures.iter().for_each(|failure| println!("{failure}"));
     failures.is_empty()
 }
@@ -99,8 +108,10 @@ fn generate(seed: u64, number: u64) -> Result<Case, String> {
 
 /// Runs all cases; true where one differs.
 fn run_cases(sides: Sides, options: &Options) -> bool {
-    let Options { cases, seed, .. } = *options;
-    println!("{cases} random cases, seed {seed}");
+    let Options { cases, seed, quiet, .. } = *options;
+    if !quiet {
+        println!("{cases} random cases, seed {seed}");
+    }
     let mut coverage = Coverage::new();
     let begin = Instant::now();
     let mut told = begin;
@@ -108,15 +119,17 @@ fn run_cases(sides: Sides, options: &Options) -> bool {
         if compare_case(sides, seed, number, &mut coverage) {
             return true;
         }
-        if told.elapsed() >= Duration::from_secs(5) {
+        if !quiet && told.elapsed() >= Duration::from_secs(5) {
             told = Instant::now();
             println!("  {} of {cases} cases, {} s", number + 1, begin.elapsed().as_secs());
         }
     }
-    if cases > 0 {
+    if cases > 0 && !quiet {
         coverage.print();
     }
-    println!("{:.1} s", begin.elapsed().as_secs_f64());
+    if !quiet {
+        println!("{:.1} s", begin.elapsed().as_secs_f64());
+    }
     println!("compared {cases} cases, seed {seed}: no difference");
     false
 }
@@ -142,7 +155,7 @@ fn compare_case(sides: Sides, seed: u64, number: u64, coverage: &mut Coverage) -
 /// Prints the difference, then the same case made small.
 fn report(sides: Sides, seed: u64, number: u64, case: Case, text: &str) {
     println!("difference in case {number}, seed {seed}");
-    println!("run it alone with: draugsten-compare --seed {seed} --only {number}");
+    println!("run it alone with: ./draugsten compare --seed {seed} --only {number}");
     println!("{text}");
     let mut unused = Coverage::new();
     let small = shrink::shrink(case, &mut |candidate| difference(sides, candidate, &mut unused).is_some());
@@ -153,9 +166,12 @@ fn report(sides: Sides, seed: u64, number: u64, case: Case, text: &str) {
 }
 
 /// Runs one case alone and prints it; true where it differs.
-fn run_only(sides: Sides, seed: u64, number: u64) -> bool {
-    println!("case {number} alone, seed {seed}");
-    if let Ok(case) = generate(seed, number) {
+fn run_only(sides: Sides, options: &Options, number: u64) -> bool {
+    let Options { seed, quiet, .. } = *options;
+    if !quiet {
+        println!("case {number} alone, seed {seed}");
+    }
+    if let (Ok(case), false) = (generate(seed, number), quiet) {
         println!("{}", case.text());
     }
     let different = compare_case(sides, seed, number, &mut Coverage::new());

@@ -1,64 +1,66 @@
 //! The command line.
 
-pub const USAGE: &str = include_str!("../usage.txt");
+use crate::shared::arguments::Arguments;
+use crate::shared::numbers::number;
 
 pub struct Options {
     pub cases: u64,
     pub seed: u64,
     pub only: Option<u64>,
     pub fixed: bool,
+    /// Whether the result alone is printed.
+    pub quiet: bool,
 }
 
-/// The options, none where help is asked for, or what is wrong with them.
-pub fn parse(arguments: impl Iterator<Item = String>) -> Result<Option<Options>, String> {
-    let mut options = Options { cases: 200_000, seed: 1, only: None, fixed: true };
-    let mut arguments = arguments;
-    while let Some(name) = arguments.next() {
-        match name.as_str() {
-            "--cases" => options.cases = number(&name, arguments.next())?,
-            "--seed" => options.seed = number(&name, arguments.next())?,
-            "--only" => options.only = Some(number(&name, arguments.next())?),
-            "--random-only" => options.fixed = false,
-            "--help" | "-h" => return Ok(None),
-            _ => return Err(format!("unknown argument {name}")),
-        }
-    }
-    Ok(Some(options))
-}
-
-fn number(name: &str, value: Option<String>) -> Result<u64, String> {
-    let value = value.ok_or(format!("{name} needs a number"))?;
-    value.parse().map_err(|_| format!("{name} needs a number from 0 to {}, not {value}", u64::MAX))
+/// The options, or what is wrong with them.
+pub fn judge(given: Arguments) -> Result<Options, String> {
+    let of = |name: &str| given.value(name).map(|text| number(name, text, 0..=u64::MAX)).transpose();
+    Ok(Options {
+        cases: of("--cases")?.unwrap_or(200_000),
+        seed: of("--seed")?.unwrap_or(1),
+        only: of("--only")?,
+        fixed: !given.flag("--random-only"),
+        quiet: given.flag("--quiet"),
+    })
 }
 
 #[cfg(test)]
 mod tests {
-    use super::parse;
+    use super::{judge, Options};
+    use crate::shared::arguments::Arguments;
+    use crate::COMPARE;
+    use std::ffi::OsString;
 
-    fn of(line: &str) -> Result<Option<super::Options>, String> {
-        parse(line.split_whitespace().map(String::from))
+    fn of(line: &str) -> Result<Options, String> {
+        let read = Arguments::read(COMPARE.help, line.split_whitespace().map(OsString::from))?;
+        judge(read.expect("no help is asked for"))
     }
 
     #[test]
     fn options_are_read() {
-        let options = of("--cases 5 --seed 7 --only 3 --random-only").unwrap().unwrap();
-        assert_eq!((options.cases, options.seed, options.only, options.fixed), (5, 7, Some(3), false));
-        assert_eq!(of("").unwrap().unwrap().cases, 200_000);
-    }
-
-    #[test]
-    fn help_stands_in_the_place_of_an_option() {
-        assert!(of("--cases 5 --help").unwrap().is_none());
-        assert!(of("-h --what").unwrap().is_none());
-        assert!(of("--cases --help").is_err());
-        assert!(of("--what -h").is_err());
+        for line in
+            ["--cases 5 --seed 7 --only 3 --random-only --quiet", "--quiet --cases=5 --random-only --seed=7 --only=3"]
+        {
+            let options = of(line).unwrap();
+            assert_eq!((options.cases, options.seed, options.only), (5, 7, Some(3)));
+            assert!(!options.fixed && options.quiet);
+        }
+        let options = of("").unwrap();
+        assert_eq!((options.cases, options.seed, options.only), (200_000, 1, None));
+        assert!(options.fixed && !options.quiet);
     }
 
     #[test]
     fn bad_arguments_are_refused() {
-        assert!(of("--cases").is_err());
-        assert!(of("--cases x").is_err());
-        assert!(of("--cases -1").is_err());
-        assert!(of("--what").is_err());
+        for line in ["--cases", "--cases x", "--cases -1", "--what", "--quiet=1", "5", "--seed 18446744073709551616"] {
+            assert!(of(line).is_err(), "{line}");
+        }
+    }
+
+    #[test]
+    fn the_help_tells_the_defaults() {
+        let options = of("").unwrap();
+        assert!(COMPARE.help.contains(&format!("without it {}\n", options.cases)));
+        assert!(COMPARE.help.contains(&format!("without it {}\n", options.seed)));
     }
 }

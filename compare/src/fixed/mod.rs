@@ -304,17 +304,22 @@ impl Readings {
     }
 }
 
-/// Runs all fixed readings on both sides; gives what was otherwise than written.
-pub fn run(sides: Sides) -> Vec<String> {
+/// Runs all fixed readings on both sides; gives what was otherwise than written. That some are left out is told also if it is to be
+/// quiet.
+pub fn run(sides: Sides, quiet: bool) -> Vec<String> {
     let readings = readings();
     let mut failures: Vec<String> =
         [sides.paper, sides.tested].into_iter().flat_map(|subject| readings.failures(subject)).collect();
-    println!("fixed readings: {} on both sides", readings.text());
+    let tell = |text: String| {
+        if !quiet {
+            println!("{text}");
+        }
+    };
+    tell(format!("fixed readings: {} on both sides", readings.text()));
     match large::run(sides) {
         Some((readings, wrong)) => {
-            println!(
-                "fixed readings in a memory of 4 GiB and 8,192 bytes: {readings} calls, runs and replays on both sides"
-            );
+            let memory = "a memory of 4 GiB and 8,192 bytes";
+            tell(format!("fixed readings in {memory}: {readings} calls, runs and replays on both sides"));
             failures.extend(wrong);
         }
         None => println!("fixed readings in a memory above 4 GiB: left out, there is no room for it"),
@@ -329,6 +334,6 @@ mod tests {
 
     #[test]
     fn the_paper_reads_as_written() {
-        assert_eq!(run(Sides { paper: &Paper, tested: &Paper }), Vec::<String>::new());
+        assert_eq!(run(Sides { paper: &Paper, tested: &Paper }, true), Vec::<String>::new());
     }
 }

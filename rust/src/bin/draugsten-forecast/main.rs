@@ -1,66 +1,31 @@
-//! Tells from the tallies of a journal what update-nodes would answer.
+//! Prints from the tallies of a journal what update-nodes would answer.
 
-#[path = "../shared/numbers.rs"]
-mod numbers;
 mod options;
-#[path = "../shared/output.rs"]
-mod output;
-#[path = "../shared/records.rs"]
-mod records;
+#[path = "../shared/mod.rs"]
+mod shared;
 mod text;
 
 use draugsten::{forecast, recount};
 use options::Options;
-use output::write;
-use std::fmt::Display;
-use std::io::{self, Write};
+use shared::command::{Command, DONE, NOT_GOOD};
+use shared::output::write;
+use shared::records;
 use std::process::ExitCode;
 
-/// The exit statuses beside 0, where it is told.
-const NOT_DONE: u8 = 1;
-const WRONG_USAGE: u8 = 2;
-const MALFORMED: u8 = 3;
-
-/// What is not as it should be: the exit status, and what to say.
-type Fault = (u8, String);
+pub const FORECAST: Command = Command { name: "forecast", help: include_str!("usage.txt") };
 
 fn main() -> ExitCode {
-    match options::parse(std::env::args_os().skip(1)) {
-        Ok(Some(options)) => end(run(&options)),
-        Ok(None) => end(tell(options::USAGE)),
-        Err(message) => {
-            say(format_args!("{message}\n{}", options::USAGE.trim_end()));
-            ExitCode::from(WRONG_USAGE)
-        }
-    }
+    FORECAST.run(options::judge, run)
 }
 
-fn end(done: Result<(), Fault>) -> ExitCode {
-    match done {
-        Ok(()) => ExitCode::SUCCESS,
-        Err((status, message)) => {
-            say(message);
-            ExitCode::from(status)
-        }
-    }
-}
-
-/// Standard error is the last place to say something at: where that fails, it stays unsaid.
-fn say(message: impl Display) {
-    _ = writeln!(io::stderr(), "draugsten-forecast: {message}");
-}
-
-fn tell(text: &str) -> Result<(), Fault> {
-    write(text).map_err(|message| (NOT_DONE, message))
-}
-
-fn run(options: &Options) -> Result<(), Fault> {
+fn run(options: &Options) -> Result<u8, String> {
     let Options { journal: path, scope, state } = options;
-    let journal = records::read_file("journal", path).map_err(|message| (NOT_DONE, message))?;
-    let tallies = recount(&journal).map_err(|_| {
-        let name = records::named("journal", path);
-        (MALFORMED, format!("{name} is malformed: {}", text::flaw(&journal)))
-    })?;
+    let journal = records::read_file("journal", path)?;
+    let Ok(tallies) = recount(&journal) else {
+        FORECAST.say(format_args!("{} is malformed: {}", records::named("journal", path), text::flaw(&journal)));
+        return Ok(NOT_GOOD);
+    };
     let told = forecast(&tallies, *scope, *state);
-    tell(&format!("{}{}", text::tallies(&tallies), text::forecast(&tallies, *scope, *state, told)))
+    write(&format!("{}{}", text::tallies(&tallies), text::forecast(&tallies, *scope, *state, told)))?;
+    Ok(DONE)
 }

@@ -2,7 +2,7 @@
 
 use crate::lines::{Lines, LINE_LIMIT};
 use crate::shared::input::{Memory, Stream, MEMORY_LIMIT};
-use crate::shared::numbers::number;
+use crate::shared::numbers::{is_size, number, size};
 use std::ffi::OsStr;
 use std::fs::File;
 use std::os::unix::ffi::OsStrExt;
@@ -56,8 +56,10 @@ impl List {
             let bytes = self.lines.bytes();
             match line.text {
                 None => return Ok(Some(too_long(line.number, bytes))),
-                Some(text) if text.is_empty() || text[0] == b'#' => {}
-                Some(text) => return Ok(Some(entry(line.number, &text, bytes))),
+                Some(text) => match text.strip_suffix(b"\r").unwrap_or(&text) {
+                    [] | [b'#', ..] => {}
+                    text => return Ok(Some(entry(line.number, text, bytes))),
+                },
             }
         }
     }
@@ -101,15 +103,10 @@ fn path(field: &OsStr) -> Option<PathBuf> {
     Some(PathBuf::from(field)).filter(|path| !path.as_os_str().is_empty())
 }
 
-/// Where the field is all digits, decimal or behind 0x hexadecimal, the size of memory; otherwise its file.
+/// If the field is a size, that of memory; otherwise its file.
 fn memory_of(field: &OsStr) -> Result<Memory, String> {
-    let bytes = field.as_bytes();
-    let digits = match bytes.strip_prefix(b"0x") {
-        Some(digits) => digits.iter().all(u8::is_ascii_hexdigit) && !digits.is_empty(),
-        None => bytes.iter().all(u8::is_ascii_digit) && !bytes.is_empty(),
-    };
     match path(field) {
-        _ if digits => Ok(Memory::Zeros(number("the memory", field, 0..=MEMORY_LIMIT)?)),
+        _ if is_size(field) => Ok(Memory::Zeros(size("the memory", field, MEMORY_LIMIT)?)),
         Some(path) => Ok(Memory::File(path)),
         None => Err(String::from("it names no memory: neither a file nor a size")),
     }
@@ -150,19 +147,20 @@ mod tests {
     }
 
     #[test]
-    fn memory_is_a_size_where_it_is_all_digits() {
-        for name in ["0x", "12k", "./12", "0X1", "-1", "0x1g", "2026/m"] {
+    fn memory_is_a_file_if_it_is_no_size() {
+        for name in ["0x", "12k", "./12", "0X1", "-1", "0x1g", "2026/m", "./12K", "K"] {
             let line = format!("\t\t0\t{name}\tt");
             assert_eq!(of(line.as_bytes()).unwrap().memory, Memory::File(name.into()));
         }
+        assert_eq!(of(b"\t\t0\t12K\tt").unwrap().memory, Memory::Zeros(12288));
     }
 
     #[test]
     fn what_is_wrong_with_a_line_is_told() {
         let fields = "fields; journal, inventory, edition, memory and trace are five, with tabs between them";
-        let edition =
-            "the edition needs a number from 0 to 4294967295, decimal or behind 0x hexadecimal, and was given";
-        let memory = "the memory needs a number from 0 to 4294971392, decimal or behind 0x hexadecimal, and was given";
+        let edition = "the edition needs a number from 0 to 4294967295, decimal or after 0x hexadecimal, and was given";
+        let form = "decimal or after 0x hexadecimal, which K, M or G may follow";
+        let memory = format!("the memory needs a size from 0 to 4294971392 bytes, {form}, and was given");
         let cases = [
             ("j\ti\t0\t1", format!("it has 4 {fields}")),
             ("j\ti\t0\t1\tt\t", format!("it has 6 {fields}")),

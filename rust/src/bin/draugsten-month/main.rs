@@ -17,51 +17,35 @@ use month::{End, Month};
 use options::Options;
 use pool::{Next, Pool};
 use progress::Progress;
-use shared::output::write;
+use shared::command::{Command, DONE, NOT_DONE, NOT_GOOD};
 use std::fmt::Display;
-use std::io::{self, Write};
 use std::process::ExitCode;
 use std::thread;
 
-/// The exit statuses beside 0, where all was added.
-const NOT_DONE: u8 = 1;
-const WRONG_USAGE: u8 = 2;
-const REFUSED: u8 = 3;
+pub const MONTH: Command = Command { name: "month", help: include_str!("usage.txt") };
 
 fn main() -> ExitCode {
-    let asked = options::parse(std::env::args_os().skip(1));
-    match asked.and_then(|options| options.map(options::check).transpose()) {
-        Ok(Some(options)) => end(run(&options)),
-        Ok(None) => end(write(options::USAGE).map(|()| End::Added)),
-        Err(message) => {
-            say(format_args!("{message}\n{}", options::USAGE.trim_end()));
-            ExitCode::from(WRONG_USAGE)
-        }
+    MONTH.run(|given| options::judge(given).and_then(options::check), |options| run(options).map(status))
+}
+
+/// The exit status of what a month came to.
+fn status(end: End) -> u8 {
+    match end {
+        End::Added => DONE,
+        End::Refused | End::Empty => NOT_GOOD,
+        End::Unread => NOT_DONE,
     }
 }
 
-/// The exit status of what was done, and what to say where it was not.
-fn end(done: Result<End, String>) -> ExitCode {
-    match done {
-        Ok(End::Added) => ExitCode::SUCCESS,
-        Ok(End::Refused | End::Empty) => ExitCode::from(REFUSED),
-        Ok(End::Unread) => ExitCode::from(NOT_DONE),
-        Err(message) => {
-            say(message);
-            ExitCode::from(NOT_DONE)
-        }
-    }
-}
-
-/// Standard error is the last place to say something at: where that fails, it stays unsaid.
 fn say(message: impl Display) {
-    _ = writeln!(io::stderr(), "draugsten-month: {message}");
+    MONTH.say(message);
 }
 
 /// What the month came to; or what could not be done, and what helps. Tables are added first, then the sessions in the
 /// list's order, so that it does not depend on the threads which of them is refused.
 fn run(options: &Options) -> Result<End, String> {
     let list = List::open(options.list.as_deref())?;
+    MONTH.say_waiting("list", options.list.as_deref());
     let mut month = Month::new(options, Progress::new(list.size()));
     for path in &options.tables {
         month.merge(path)?;

@@ -2,6 +2,7 @@
 
 use crate::list::Session;
 use crate::shared::input::{self, Memory, Stream};
+use crate::shared::names::shown;
 use draugsten::{Counted, CountingReplay, Edition};
 use std::fs;
 use std::io::Read;
@@ -52,7 +53,7 @@ fn check(session: &Session) -> Result<(), String> {
         ("trace", Some(&session.trace)),
     ];
     match files.into_iter().find(|(_, path)| path.is_some_and(is_pipe)) {
-        Some((what, Some(path))) => Err(format!("the {what} {} is a pipe; name a file", path.display())),
+        Some((what, Some(path))) => Err(format!("the {what} {} is a pipe; name a file", shown(path))),
         _ => Ok(()),
     }
 }

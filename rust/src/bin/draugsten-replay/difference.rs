@@ -1,7 +1,7 @@
 //! What a support engineer has to know of a call that differs.
 
-use crate::calls::{self, counted, Field};
 use crate::options::Options;
+use crate::shared::calls::{self, counted, Field};
 use crate::shared::input;
 use draugsten::{Difference, Edition, Fault, Replay};
 

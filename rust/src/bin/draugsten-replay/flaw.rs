@@ -1,6 +1,6 @@
 //! What is wrong with a malformed record.
 
-use crate::trace::{first_step, take_after, Step};
+use crate::shared::trace::{first_step, take_after, Step};
 use draugsten::Replay;
 
 /// One line on the record that the verdict names. A 32 that is named has been taken, and what follows it is wrong.

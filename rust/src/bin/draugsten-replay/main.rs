@@ -1,13 +1,7 @@
 //! Replays a recorded session, and tells the first call that went astray.
 
-#[path = "../shared/calls.rs"]
-mod calls;
 mod difference;
 mod flaw;
-/// Of it, what traces share with journals and inventories.
-#[allow(dead_code)]
-#[path = "../shared/judge.rs"]
-mod judge;
 mod options;
 mod progress;
 #[path = "../shared/mod.rs"]
@@ -15,22 +9,15 @@ mod shared;
 mod sources;
 #[cfg(test)]
 mod tests;
-#[path = "../shared/trace.rs"]
-mod trace;
 
 use draugsten::{Edition, Replay, Report};
 use options::Options;
 use progress::Progress;
+use shared::command::{Command, DONE, NOT_GOOD};
 use shared::input::{self, Stream};
 use shared::output::write;
-use std::fmt::Display;
-use std::io::{self, Read, Write};
+use std::io::Read;
 use std::process::ExitCode;
-
-/// The exit statuses beside 0, where all calls agreed.
-const NOT_DONE: u8 = 1;
-const WRONG_USAGE: u8 = 2;
-const ASTRAY: u8 = 3;
 
 /// What the agreement of calls is about: a trace has no bytes of memory after a call.
 const COMPARED: &str = "compared: argument buffers; work areas are not part of a trace";
@@ -38,45 +25,23 @@ const COMPARED: &str = "compared: argument buffers; work areas are not part of a
 /// The bytes of a trace between two looks at the progress.
 const PART: u64 = 262_144;
 
+pub const REPLAY: Command = Command { name: "replay", help: include_str!("usage.txt") };
+
 fn main() -> ExitCode {
-    let asked = options::parse(std::env::args_os().skip(1));
-    match asked.and_then(|options| options.map(sources::check).transpose()) {
-        Ok(Some(options)) => end(run(&options)),
-        Ok(None) => end(write(options::USAGE).map(|()| true)),
-        Err(message) => {
-            say(format_args!("{message}\n{}", options::USAGE.trim_end()));
-            ExitCode::from(WRONG_USAGE)
-        }
-    }
+    REPLAY.run(|given| options::judge(given).and_then(sources::check), run)
 }
 
-/// The exit status of what was done, and what to say where it was not.
-fn end(done: Result<bool, String>) -> ExitCode {
-    match done {
-        Ok(true) => ExitCode::SUCCESS,
-        Ok(false) => ExitCode::from(ASTRAY),
-        Err(message) => {
-            say(message);
-            ExitCode::from(NOT_DONE)
-        }
-    }
-}
-
-/// Standard error is the last place to say something at: where that fails, it stays unsaid.
-fn say(message: impl Display) {
-    _ = writeln!(io::stderr(), "draugsten-replay: {message}");
-}
-
-/// Whether all calls agreed, and there was one if there has to be; or what could not be done, and what helps.
-fn run(options: &Options) -> Result<bool, String> {
+/// Done, if all calls agreed, and there was one if there has to be; or what could not be done, and what helps.
+fn run(options: &Options) -> Result<u8, String> {
     let journal = input::read_records("journal", options.journal.as_deref())?;
     let inventory = input::read_records("inventory", options.inventory.as_deref())?;
     let mut memory = input::read_memory(&options.memory)?;
     let mut trace = Stream::open("trace", options.trace.as_deref())?;
+    REPLAY.say_waiting("trace", options.trace.as_deref());
     let mut replay = Replay::new(&mut memory, &journal, &inventory, Edition(options.edition));
     let report = play(&mut replay, &mut trace)?;
     write(&tell(report, &replay, options))?;
-    Ok(report.is_agreed() && !lacks_calls(report, options))
+    Ok(if report.is_agreed() && !lacks_calls(report, options) { DONE } else { NOT_GOOD })
 }
 
 /// Replays a trace to its end, or to where it stops.

@@ -1,6 +1,6 @@
 //! The argument buffer of a call before and after it, word by word.
 
-use crate::calls::{self, head_field, Field, Head, Meaning, NoStatus, Sense};
+use crate::shared::calls::{self, head_field, Field, Head, Meaning, NoStatus, Sense};
 use std::ops::Range;
 
 /// Both buffers, and the head of the one before the call. By that head the words of both are named.

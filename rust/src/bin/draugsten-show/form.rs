@@ -2,7 +2,7 @@
 
 use crate::buffers::Buffers;
 use crate::items::{File, Item, Place};
-use crate::judge::Flaw;
+use crate::shared::judge::Flaw;
 use crate::walk::Counts;
 use std::fmt;
 use std::io::{self, Write};

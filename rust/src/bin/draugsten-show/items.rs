@@ -1,7 +1,7 @@
 //! What a file of records holds, one item after another.
 
-use crate::judge::{self, Change, Flaw, Listed, Sort, INVENTORY, JOURNAL};
-use crate::trace::{first_step, Step, TRACE};
+use crate::shared::judge::{self, Change, Flaw, Listed, Sort, INVENTORY, JOURNAL};
+use crate::shared::trace::{first_step, Step, TRACE};
 
 /// What a file is.
 #[derive(Clone, Copy, PartialEq, Eq, Debug)]

@@ -3,9 +3,9 @@
 use crate::buffers::{Buffers, Word};
 use crate::form::{Digits, Form};
 use crate::items::{self, flag_name, node_type_name, File, Item, Place, AFTER};
-use crate::judge::{Change, Flaw, Listed};
 use crate::object::Object;
-use crate::trace::Step;
+use crate::shared::judge::{Change, Flaw, Listed};
+use crate::shared::trace::Step;
 use crate::walk::Counts;
 use std::io::{self, Write};
 

@@ -1,28 +1,16 @@
 //! Shows the records of a journal, an inventory or a trace.
 
 mod buffers;
-#[path = "../shared/calls.rs"]
-mod calls;
 mod form;
 mod items;
 mod json;
-/// Of it, all but the judges of a whole buffer.
-#[allow(dead_code)]
-#[path = "../shared/judge.rs"]
-mod judge;
 mod object;
 mod options;
 mod rest;
-/// Of it, streams, numbers and standard output.
-#[allow(dead_code)]
 #[path = "../shared/mod.rs"]
 mod shared;
 mod show;
 mod text;
-#[path = "../shared/trace.rs"]
-mod trace;
-#[path = "../shared/visible.rs"]
-mod visible;
 mod walk;
 
 use options::Options;

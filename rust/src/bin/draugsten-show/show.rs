@@ -8,8 +8,8 @@ use crate::options::Options;
 use crate::rest::Rest;
 use crate::shared::input::{self, Stream};
 use crate::shared::output;
+use crate::shared::trace::Step;
 use crate::text::Text;
-use crate::trace::Step;
 use crate::walk::{recognise, walk, Ended, Failed};
 use std::io::{self, ErrorKind, Read, Write};
 

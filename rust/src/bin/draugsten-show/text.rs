@@ -1,12 +1,12 @@
 //! Lines of text.
 
 use crate::buffers::{Buffers, Word};
-use crate::calls::counted;
 use crate::form::{Digits, Form};
 use crate::items::{self, flag_name, node_type_name, File, Item, Place, AFTER};
-use crate::judge::{Change, Flaw, Listed};
-use crate::trace::Step;
-use crate::visible::visible;
+use crate::shared::calls::counted;
+use crate::shared::judge::{Change, Flaw, Listed};
+use crate::shared::trace::Step;
+use crate::shared::visible::visible;
 use crate::walk::Counts;
 use std::io::{self, Write};
 

@@ -1,8 +1,8 @@
 //! The way through a file, from its first record to its end or its first flaw.
 
 use crate::items::{first_item, File, Item, Place};
-use crate::judge::Flaw;
 use crate::rest::Rest;
+use crate::shared::judge::Flaw;
 use std::io::{self, Read};
 
 /// How a way through a file ended.

@@ -1,6 +1,6 @@
 //! The two files.
 
-use crate::records::{failed, named};
+use crate::shared::records::{failed, named};
 use std::fs::File;
 use std::io::{self, Read};
 use std::path::Path;

@@ -1,9 +1,17 @@
-//! What the command-line programs share. The replay and the month use all files that are named here. A program that uses
-//! fewer, or a file that is not named here, gives the file's path.
+//! What the command-line programs share. Each uses a part of it.
 
+#![allow(dead_code)]
+
+pub mod arguments;
+pub mod calls;
+pub mod command;
 pub mod input;
+pub mod judge;
 pub mod line;
+pub mod names;
 pub mod numbers;
 pub mod output;
 pub mod records;
 pub mod sources;
+pub mod trace;
+pub mod visible;

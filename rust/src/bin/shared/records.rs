@@ -1,5 +1,6 @@
 //! Files of records, and how it is told that a file cannot be read.
 
+use super::names::shown;
 use std::fs::File;
 use std::io::{self, ErrorKind, Read};
 use std::path::Path;
@@ -19,7 +20,7 @@ fn read(path: &Path) -> io::Result<Vec<u8>> {
 }
 
 pub fn named(what: &str, path: &Path) -> String {
-    format!("the {what} {}", path.display())
+    format!("the {what} {}", shown(path))
 }
 
 /// What cannot be read, why, and what helps.
