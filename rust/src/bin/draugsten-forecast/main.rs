@@ -8,8 +8,8 @@ mod text;
 use draugsten::{forecast, recount};
 use options::Options;
 use shared::command::{Command, DONE, NOT_GOOD};
+use shared::input::{self, Inputs};
 use shared::output::write;
-use shared::records;
 use std::process::ExitCode;
 
 pub const FORECAST: Command = Command { name: "forecast", help: include_str!("usage.txt") };
@@ -20,11 +20,12 @@ fn main() -> ExitCode {
 
 fn run(options: &Options) -> Result<u8, String> {
     let Options { journal: path, scope, state } = options;
-    let journal = records::read_file("journal", path)?;
-    let Ok(tallies) = recount(&journal) else {
-        FORECAST.say(format_args!("{} is malformed: {}", records::named("journal", path), text::flaw(&journal)));
+    let Inputs { journal, flaws, .. } = input::read_inputs(Some(path), None)?;
+    if let Some(flaw) = flaws.journal {
+        FORECAST.say(flaw);
         return Ok(NOT_GOOD);
-    };
+    }
+    let tallies = recount(&journal).expect("a journal without a flaw is well formed");
     let told = forecast(&tallies, *scope, *state);
     write(&format!("{}{}", text::tallies(&tallies), text::forecast(&tallies, *scope, *state, told)))?;
     Ok(DONE)

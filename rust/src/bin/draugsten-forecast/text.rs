@@ -1,6 +1,6 @@
 //! What is told of a journal and of a call over it.
 
-use draugsten::{recount, Forecast, Tallies, Tally};
+use draugsten::{Forecast, Tallies, Tally};
 
 /// The tallies: a line for each scope, and a column for each opcode.
 pub fn tallies(tallies: &Tallies) -> String {
@@ -37,33 +37,10 @@ fn refusal(tallies: &Tallies, scope: i32) -> String {
     }
 }
 
-/// A journal has at most so many bytes.
-const JOURNAL_LIMIT: usize = 1_048_576;
-
-/// Where a malformed journal is wrong: its length, or its first record that is none.
-pub fn flaw(journal: &[u8]) -> String {
-    if journal.len() > JOURNAL_LIMIT {
-        return format!("it has more than {JOURNAL_LIMIT} bytes");
-    }
-    let (mut at, mut number) = (0, 1);
-    while at < journal.len() {
-        let rest = &journal[at..];
-        let length = rest.get(..2).map(|bytes| 2 + usize::from(u16::from_le_bytes([bytes[0], bytes[1]])));
-        match length.and_then(|length| rest.get(..length)).filter(|record| recount(record).is_ok()) {
-            Some(record) => at += record.len(),
-            None => return format!("record {number}, at byte {at}, is none of a journal"),
-        }
-        number += 1;
-    }
-    unreachable!("a journal whose records are all good is well formed")
-}
-
 #[cfg(test)]
 mod tests {
-    use super::{flaw, forecast, tallies};
+    use super::{forecast, tallies};
     use draugsten::{Forecast, Tallies, Tally};
-
-    const DELETE: [u8; 10] = [8, 0, 1, 0, 11, 0, 0x2a, 0, 0, 0];
 
     fn some() -> Tallies {
         let tally = |deletes| Tally { deletes, updates: 104_857, additions: 2 };
@@ -94,15 +71,5 @@ negative            1   104857          2
         assert_eq!(refused(0), "scope 0, state 7: status -3: there is no such scope\n");
         let unit = "a forecast knows no unit; the call itself answers in scope 3";
         assert_eq!(refused(3), format!("scope 3, state 7: status -3: {unit}\n"));
-    }
-
-    #[test]
-    fn a_flaw_is_told_by_its_record() {
-        let two = DELETE.repeat(2);
-        assert_eq!(flaw(&[&two[..], &[8]].concat()), "record 3, at byte 20, is none of a journal");
-        assert_eq!(flaw(&two[..19]), "record 2, at byte 10, is none of a journal");
-        assert_eq!(flaw(&[0, 0]), "record 1, at byte 0, is none of a journal");
-        assert_eq!(flaw(&[2, 0, 9, 0]), "record 1, at byte 0, is none of a journal");
-        assert_eq!(flaw(&DELETE.repeat(104_858)), "it has more than 1048576 bytes");
     }
 }

@@ -15,9 +15,10 @@ mod table;
 use list::List;
 use month::{End, Month};
 use options::Options;
-use pool::{Next, Pool};
+use pool::{Next, Played, Pool};
 use progress::Progress;
 use shared::command::{Command, DONE, NOT_DONE, NOT_GOOD};
+use shared::flaws::Flaws;
 use std::fmt::Display;
 use std::process::ExitCode;
 use std::thread;
@@ -52,19 +53,29 @@ fn run(options: &Options) -> Result<End, String> {
     }
     let cores = || thread::available_parallelism().map_or(1, usize::from);
     let pool = Pool::start(list, options.threads.unwrap_or_else(cores))?;
-    let mut bytes = 0;
+    let (mut bytes, mut malformed) = (0, false);
     loop {
         match pool.next() {
             Next::Played(played) => {
                 bytes = played.bytes;
+                malformed |= tell_flaws(&mut month, &played);
                 month.add(played)?;
             }
             Next::Nothing => {}
             Next::End(end) => {
                 end?;
-                return month.write();
+                return month.write().map(|end| if malformed && end == End::Added { End::Refused } else { end });
             }
         }
         month.progress.tell(month.sessions(), bytes, pool.bytes());
     }
+}
+
+/// Says what is wrong with the journal and the inventory of a session, and whether something is. Its calls count also then.
+fn tell_flaws(month: &mut Month<'_>, played: &Played) -> bool {
+    for flaw in played.flaws.all() {
+        month.progress.clear();
+        say(format_args!("line {} of the list: {flaw}", played.line));
+    }
+    played.flaws != Flaws::default()
 }

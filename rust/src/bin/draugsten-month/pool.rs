@@ -2,6 +2,7 @@
 
 use crate::list::{Entry, List};
 use crate::session;
+use crate::shared::flaws::Flaws;
 use crate::shared::line::PAUSE;
 use draugsten::Counted;
 use std::collections::VecDeque;
@@ -19,6 +20,8 @@ pub struct Played {
     pub line: u64,
     pub trace: Option<PathBuf>,
     pub counted: Result<Box<Counted>, String>,
+    /// What is wrong with its journal and inventory.
+    pub flaws: Flaws,
     /// The bytes of the list up to its end.
     pub bytes: u64,
 }
@@ -91,8 +94,11 @@ impl Pool {
         while let Some((number, entry)) = self.take() {
             let Entry { line, trace, session, bytes } = entry;
             let pass = |size| _ = self.bytes.fetch_add(size, Ordering::Relaxed);
-            let counted = session.and_then(|session| session::play(&session, pass)).map(Box::new);
-            self.put(number, Played { line, trace, counted, bytes });
+            let (counted, flaws) = match session {
+                Ok(session) => session::play(&session, pass),
+                Err(wrong) => (Err(wrong), Flaws::default()),
+            };
+            self.put(number, Played { line, trace, counted: counted.map(Box::new), flaws, bytes });
         }
     }
 

@@ -1,7 +1,8 @@
 //! One session of a list.
 
 use crate::list::Session;
-use crate::shared::input::{self, Memory, Stream};
+use crate::shared::flaws::Flaws;
+use crate::shared::input::{self, Inputs, Memory, Stream};
 use crate::shared::names::shown;
 use draugsten::{Counted, CountingReplay, Edition};
 use std::fs;
@@ -12,14 +13,22 @@ use std::path::Path;
 /// The bytes of a trace between two looks at the progress.
 const PART: u64 = 262_144;
 
-/// What the calls of a session count, or why its files cannot be read. `pass` is told the bytes that were replayed.
-pub fn play(session: &Session, pass: impl Fn(u64)) -> Result<Counted, String> {
-    check(session)?;
-    let journal = input::read_records("journal", session.journal.as_deref())?;
-    let inventory = input::read_records("inventory", session.inventory.as_deref())?;
+/// What the calls of a session count, or why its files cannot be read, and what is wrong with its journal and inventory.
+/// `pass` is told the bytes that were replayed.
+pub fn play(session: &Session, pass: impl Fn(u64)) -> (Result<Counted, String>, Flaws) {
+    let read =
+        check(session).and_then(|()| input::read_inputs(session.journal.as_deref(), session.inventory.as_deref()));
+    match read {
+        Ok(inputs) => (play_over(session, &inputs, pass), inputs.flaws),
+        Err(why) => (Err(why), Flaws::default()),
+    }
+}
+
+fn play_over(session: &Session, inputs: &Inputs, pass: impl Fn(u64)) -> Result<Counted, String> {
     let mut memory = input::read_memory(&session.memory)?;
     let mut trace = Stream::open("trace", Some(&session.trace))?;
-    let mut replay = CountingReplay::new(&mut memory, &journal, &inventory, Edition(session.edition));
+    let edition = Edition(session.edition);
+    let mut replay = CountingReplay::new(&mut memory, &inputs.journal, &inputs.inventory, edition);
     read(&mut replay, &mut trace, pass)?;
     Ok(replay.counted())
 }

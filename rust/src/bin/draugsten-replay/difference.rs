@@ -2,11 +2,12 @@
 
 use crate::options::Options;
 use crate::shared::calls::{self, counted, Field};
+use crate::shared::flaws::Flaws;
 use crate::shared::input;
 use draugsten::{Difference, Edition, Fault, Replay};
 
 /// The lines below the verdict: which call it is, what it was asked, and the word that differs on both sides.
-pub fn tell(replay: &Replay<'_>, call: u32, offset: u32, options: &Options) -> Vec<String> {
+pub fn tell(replay: &Replay<'_>, call: u32, offset: u32, options: &Options, flaws: &Flaws) -> Vec<String> {
     let Some(buffers) = replay.difference() else { return vec![] };
     let record = replay.records();
     let mut lines =
@@ -14,6 +15,7 @@ pub fn tell(replay: &Replay<'_>, call: u32, offset: u32, options: &Options) -> V
     lines.extend(tell_call(buffers.before));
     lines.extend(tell_word(&buffers, offset as usize));
     lines.extend(tell_missing(buffers.before, replay, options));
+    lines.extend(tell_malformed(&buffers, flaws));
     lines
 }
 
@@ -88,6 +90,14 @@ fn tell_missing(before: &[u8], replay: &Replay<'_>, options: &Options) -> Option
     };
     let missing = path.is_none() && looks_at_records(before, replay, Edition(options.edition));
     missing.then(|| format!("no --{what} was given: our call had an empty {what}"))
+}
+
+/// If our call gave -1, which file it found malformed.
+fn tell_malformed(buffers: &Difference<'_>, flaws: &Flaws) -> Option<String> {
+    let head = calls::head(buffers.before).ok()?;
+    let status = calls::word(buffers.ours, 4 * (3 + head.inputs))? as i32;
+    let flaw = if head.token == 2 { &flaws.inventory } else { &flaws.journal };
+    flaw.as_ref().filter(|_| status == Fault::Malformed as i32).map(|flaw| format!("our call gave -1: {flaw}"))
 }
 
 /// Whether the call gets as far as its journal or its inventory: whether it finds a malformed one. What it checks before

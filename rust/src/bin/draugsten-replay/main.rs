@@ -14,6 +14,7 @@ use draugsten::{Edition, Replay, Report};
 use options::Options;
 use progress::Progress;
 use shared::command::{Command, DONE, NOT_GOOD};
+use shared::flaws::Flaws;
 use shared::input::{self, Stream};
 use shared::output::write;
 use std::io::Read;
@@ -31,17 +32,18 @@ fn main() -> ExitCode {
     REPLAY.run(|given| options::judge(given).and_then(sources::check), run)
 }
 
-/// Done, if all calls agreed, and there was one if there has to be; or what could not be done, and what helps.
+/// Done, if all calls agreed over a well-formed journal and inventory, and there was one if there has to be; or what could not be done, and what helps.
 fn run(options: &Options) -> Result<u8, String> {
-    let journal = input::read_records("journal", options.journal.as_deref())?;
-    let inventory = input::read_records("inventory", options.inventory.as_deref())?;
+    let inputs = input::read_inputs(options.journal.as_deref(), options.inventory.as_deref())?;
+    inputs.flaws.all().for_each(|flaw| REPLAY.say(flaw));
     let mut memory = input::read_memory(&options.memory)?;
     let mut trace = Stream::open("trace", options.trace.as_deref())?;
     REPLAY.say_waiting("trace", options.trace.as_deref());
-    let mut replay = Replay::new(&mut memory, &journal, &inventory, Edition(options.edition));
+    let mut replay = Replay::new(&mut memory, &inputs.journal, &inputs.inventory, Edition(options.edition));
     let report = play(&mut replay, &mut trace)?;
-    write(&tell(report, &replay, options))?;
-    Ok(if report.is_agreed() && !lacks_calls(report, options) { DONE } else { NOT_GOOD })
+    write(&tell(report, &replay, options, &inputs.flaws))?;
+    let good = report.is_agreed() && !lacks_calls(report, options) && inputs.flaws == Flaws::default();
+    Ok(if good { DONE } else { NOT_GOOD })
 }
 
 /// Replays a trace to its end, or to where it stops.
@@ -65,7 +67,7 @@ fn lacks_calls(report: Report, options: &Options) -> bool {
 }
 
 /// The verdict, and below it what was compared, or what the call or the record is that it names.
-fn tell(report: Report, replay: &Replay<'_>, options: &Options) -> String {
+fn tell(report: Report, replay: &Replay<'_>, options: &Options, flaws: &Flaws) -> String {
     if lacks_calls(report, options) {
         return tell_no_call(replay.records());
     }
@@ -73,8 +75,8 @@ fn tell(report: Report, replay: &Replay<'_>, options: &Options) -> String {
     match report {
         Report::Agreed { calls: 0 } => {}
         Report::Agreed { .. } => lines.push(String::from(COMPARED)),
-        Report::Differs { call, offset } => lines.extend(difference::tell(replay, call, offset, options)),
-        Report::Malformed { record } => lines.push(flaw::tell(replay, record)),
+        Report::Differs { call, offset } => lines.extend(difference::tell(replay, call, offset, options, flaws)),
+        Report::Malformed { record } => lines.push(flaw::tell(replay, record, &options.memory)),
     }
     lines.join("\n") + "\n"
 }

@@ -1,6 +1,7 @@
 //! What is told of traces that do not agree.
 
 use crate::options::Options;
+use crate::shared::flaws::Flaws;
 use crate::shared::input::Memory;
 use crate::tell;
 use draugsten::args::{self, Flag, IndexRequest};
@@ -35,7 +36,31 @@ fn told(trace: &[u8]) -> Vec<String> {
 fn told_over(memory: &mut [u8], trace: &[u8], options: &Options) -> Vec<String> {
     let mut replay = Replay::new(memory, &[], &[], Edition(0));
     replay.feed(trace);
-    tell(replay.end(), &replay, options).lines().map(String::from).collect()
+    tell(replay.end(), &replay, options, &Flaws::default()).lines().map(String::from).collect()
+}
+
+/// The last line of a call over a journal and an inventory that are malformed, which was recorded with another status.
+fn told_of_malformed(before: &[u8]) -> String {
+    let mut after = before.to_vec();
+    *after.last_mut().unwrap() = 7;
+    let mut memory = [0; 4096];
+    let mut replay = Replay::new(&mut memory, &[0], &[0], Edition(0));
+    replay.feed(&call(before, &after));
+    let flaws = Flaws { journal: Some(String::from("J")), inventory: Some(String::from("I")) };
+    tell(replay.end(), &replay, &over(4096), &flaws).lines().last().unwrap().into()
+}
+
+#[test]
+fn a_malformed_file_is_named_if_it_made_our_status() {
+    assert_eq!(told_of_malformed(&args::update_nodes(0, 1)), "our call gave -1: J");
+    assert_eq!(told_of_malformed(&args::update_properties(0, 1)), "our call gave -1: J");
+    let request = IndexRequest { flag: Flag::Sensor, type_number: 9006, address: 0, size: 64, starting_number: 1 };
+    let mut indices = args::get_indices(&request);
+    *indices.last_mut().unwrap() = 9;
+    assert_eq!(told_of_malformed(&indices), "our call gave -1: I");
+    // A call that does not look at it, and one without a status.
+    assert_eq!(told_of_malformed(&args::update_nodes(4, 1)), "  ours:     fffffffd status -3 parameter");
+    assert_eq!(told_of_malformed(&buffer(&[1, 1, 0, 5])), "  ours:     00000005");
 }
 
 #[test]
@@ -226,13 +251,24 @@ fn flaws_of_a_record() {
     assert_eq!(flaw(&record(34, &[0; 4101])), "record 3: length 4103 for kind 34, which has 7 to 4102");
     assert_eq!(flaw(&record(33, &[])), "record 3: a 33 without a 32 right before it");
     assert_eq!(flaw(&record(34, &[0; 4])), "record 3: length 6 for kind 34, which has 7 to 4102");
-    assert_eq!(flaw(&record(34, &[15, 0, 0, 0, 7, 7])), "record 3: kind 34 for bytes 15 to 16 of memory, which has 16");
+    assert_eq!(
+        flaw(&record(34, &[15, 0, 0, 0, 7, 7])),
+        "record 3: kind 34 for bytes 15 to 16 of memory, which has 16; give --memory-size 17 or more"
+    );
     assert_eq!(
         flaw(&record(34, &[0, 0, 0, 0x80, 7])),
-        "record 3: kind 34 for bytes 2147483648 to 2147483648 of memory, which has 16"
+        "record 3: kind 34 for bytes 2147483648 to 2147483648 of memory, which has 16; give --memory-size 2147483649 or more"
     );
     assert_eq!(flaw(&[7]), "record 3: cut off by the end, inside its length");
     assert_eq!(flaw(&[7, 0, 34]), "record 3: cut off by the end, inside its kind");
+}
+
+#[test]
+fn a_memory_file_that_is_too_small() {
+    let options = Options { memory: Memory::File("a\nb".into()), ..over(16) };
+    let lines = told_over(&mut [0; 16], &record(34, &[14, 0, 0, 0, 7, 7, 7]), &options);
+    let help = "give in the place of a\\x0ab a file of 17 bytes or more";
+    assert_eq!(lines[1], format!("record 1: kind 34 for bytes 14 to 16 of memory, which has 16; {help}"));
 }
 
 #[test]

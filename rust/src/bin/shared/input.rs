@@ -1,5 +1,6 @@
 //! The files that replays go over.
 
+use super::flaws::{flaw, Flaws, Records};
 use super::records::{failed, named, read_file};
 use std::fs::File;
 use std::hint::black_box;
@@ -18,9 +19,23 @@ pub enum Memory {
     Zeros(u64),
 }
 
-/// A journal or an inventory; an empty one, where there is no file.
-pub fn read_records(what: &str, path: Option<&Path>) -> Result<Vec<u8>, String> {
-    path.map_or(Ok(vec![]), |path| read_file(what, path))
+/// A journal and an inventory, and what is wrong with them. One that has no file is empty.
+pub struct Inputs {
+    pub journal: Vec<u8>,
+    pub inventory: Vec<u8>,
+    pub flaws: Flaws,
+}
+
+pub fn read_inputs(journal: Option<&Path>, inventory: Option<&Path>) -> Result<Inputs, String> {
+    let (journal, journal_flaw) = read_records(Records::Journal, journal)?;
+    let (inventory, inventory_flaw) = read_records(Records::Inventory, inventory)?;
+    Ok(Inputs { journal, inventory, flaws: Flaws { journal: journal_flaw, inventory: inventory_flaw } })
+}
+
+fn read_records(what: Records, path: Option<&Path>) -> Result<(Vec<u8>, Option<String>), String> {
+    let bytes = path.map_or(Ok(vec![]), |path| read_file(what.name(), path))?;
+    let flaw = flaw(what, path, &bytes);
+    Ok((bytes, flaw))
 }
 
 pub fn read_memory(memory: &Memory) -> Result<Vec<u8>, String> {
@@ -107,7 +122,7 @@ impl Stream {
 
 #[cfg(test)]
 mod tests {
-    use super::{read_image, read_records};
+    use super::{read_image, read_inputs};
     use std::path::Path;
 
     #[test]
@@ -126,7 +141,25 @@ mod tests {
 
     #[test]
     fn without_a_file_records_are_empty() {
-        assert_eq!(read_records("journal", None), Ok(vec![]));
-        assert_eq!(read_records("journal", Some(Path::new("/dev/null"))), Ok(vec![]));
+        let nothing = Some(Path::new("/dev/null"));
+        for (journal, inventory) in [(None, None), (nothing, None), (None, nothing)] {
+            let inputs = read_inputs(journal, inventory).unwrap();
+            assert!(inputs.journal.is_empty() && inputs.inventory.is_empty() && inputs.flaws.all().next().is_none());
+        }
+    }
+
+    #[test]
+    fn records_are_judged() {
+        let zeros = Some(Path::new("/dev/zero"));
+        let flaws = read_inputs(zeros, None).unwrap().flaws;
+        assert_eq!(
+            flaws.all().collect::<Vec<_>>(),
+            ["the journal /dev/zero is malformed: record 1, at byte 0: length 0, which does not count its kind"]
+        );
+        let flaws = read_inputs(zeros, zeros).unwrap().flaws;
+        assert_eq!(
+            flaws.inventory.unwrap(),
+            "the inventory /dev/zero is malformed: record 1, at byte 0: length 0, which does not count its kind"
+        );
     }
 }

@@ -5,7 +5,7 @@ use std::fmt;
 use std::ops::RangeInclusive;
 
 /// A journal and an inventory have at most so many bytes.
-const RECORDS_LIMIT: u64 = 1_048_576;
+pub const RECORDS_LIMIT: u64 = 1_048_576;
 
 /// The first record of a file that is malformed.
 #[derive(Clone, PartialEq, Eq, Debug)]

@@ -5,6 +5,7 @@
 pub mod arguments;
 pub mod calls;
 pub mod command;
+pub mod flaws;
 pub mod input;
 pub mod judge;
 pub mod line;

@@ -1,12 +1,10 @@
 //! Files of records, and how it is told that a file cannot be read.
 
+use super::judge::RECORDS_LIMIT;
 use super::names::shown;
 use std::fs::File;
 use std::io::{self, ErrorKind, Read};
 use std::path::Path;
-
-/// A journal and an inventory have at most so many bytes. Longer ones are malformed, whatever they hold.
-const RECORDS_LIMIT: u64 = 1_048_576;
 
 /// A journal or an inventory. Of a file that is too long, enough to be too long.
 pub fn read_file(what: &str, path: &Path) -> Result<Vec<u8>, String> {
