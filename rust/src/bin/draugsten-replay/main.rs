@@ -9,7 +9,11 @@ mod shared;
 mod sources;
 #[cfg(test)]
 mod tests;
+mod watch;
+#[cfg(test)]
+mod watching;
 
+use draugsten::trace::RECORD_LIMIT;
 use draugsten::{Edition, Replay, Report};
 use options::Options;
 use progress::Progress;
@@ -17,14 +21,15 @@ use shared::command::{Command, DONE, NOT_GOOD};
 use shared::flaws::Flaws;
 use shared::input::{self, Stream};
 use shared::output::write;
-use std::io::Read;
+use std::io::{self, ErrorKind, Read};
 use std::process::ExitCode;
+use watch::Watch;
 
 /// What the agreement of calls is about: a trace has no bytes of memory after a call.
 const COMPARED: &str = "compared: argument buffers; work areas are not part of a trace";
 
-/// The bytes of a trace between two looks at the progress.
-const PART: u64 = 262_144;
+/// The bytes of a trace that are read at a time.
+const BURST: usize = 65_536;
 
 pub const REPLAY: Command = Command { name: "replay", help: include_str!("usage.txt") };
 
@@ -40,23 +45,39 @@ fn run(options: &Options) -> Result<u8, String> {
     let mut trace = Stream::open("trace", options.trace.as_deref())?;
     REPLAY.say_waiting("trace", options.trace.as_deref());
     let mut replay = Replay::new(&mut memory, &inputs.journal, &inputs.inventory, Edition(options.edition));
-    let report = play(&mut replay, &mut trace)?;
-    write(&tell(report, &replay, options, &inputs.flaws))?;
+    let mut watch = Watch::default();
+    let report = play(&mut replay, &mut watch, &mut trace)?;
+    let open = watch.open(&replay);
+    write(&tell(report, &replay, options, &inputs.flaws, &open))?;
     let good = report.is_agreed() && !lacks_calls(report, options) && inputs.flaws == Flaws::default();
     Ok(if good { DONE } else { NOT_GOOD })
 }
 
-/// Replays a trace to its end, or to where it stops.
-fn play(replay: &mut Replay<'_>, trace: &mut Stream) -> Result<Report, String> {
+/// Replays a trace to its end, or to where it stops. What the watch leaves, at most two records, waits for more.
+fn play(replay: &mut Replay<'_>, watch: &mut Watch, trace: &mut Stream) -> Result<Report, String> {
     let mut progress = Progress::new(trace.size());
+    let (mut buffer, mut held) = (vec![0; 2 * RECORD_LIMIT + BURST], 0);
     loop {
-        let mut part = trace.file().take(PART);
-        let report = replay.read(&mut part);
-        let size = PART - part.limit();
-        progress.pass(size, replay.records());
-        let report = report.map_err(|error| trace.failed(&error, progress.bytes()))?;
-        if replay.is_stopped() || size < PART {
-            return Ok(report);
+        let size = read(trace, &mut buffer[held..]).map_err(|error| trace.failed(&error, progress.bytes()))?;
+        let bytes = &buffer[..held + size];
+        let taken = watch.feed(replay, bytes);
+        progress.pass(size as u64, replay.records());
+        if size == 0 {
+            replay.feed(&bytes[taken..]);
+        }
+        if size == 0 || replay.is_stopped() {
+            return Ok(replay.end());
+        }
+        held = bytes.len() - taken;
+        buffer.copy_within(taken..taken + held, 0);
+    }
+}
+
+fn read(trace: &mut Stream, buffer: &mut [u8]) -> io::Result<usize> {
+    loop {
+        match trace.file().read(buffer) {
+            Err(error) if error.kind() == ErrorKind::Interrupted => {}
+            done => return done,
         }
     }
 }
@@ -66,15 +87,18 @@ fn lacks_calls(report: Report, options: &Options) -> bool {
     report == Report::Agreed { calls: 0 } && !options.allow_empty
 }
 
-/// The verdict, and below it what was compared, or what the call or the record is that it names.
-fn tell(report: Report, replay: &Replay<'_>, options: &Options, flaws: &Flaws) -> String {
+/// The verdict, and below it what was compared and what is open at the end, or what the call or the record is that it names.
+fn tell(report: Report, replay: &Replay<'_>, options: &Options, flaws: &Flaws, open: &[String]) -> String {
     if lacks_calls(report, options) {
         return tell_no_call(replay.records());
     }
     let mut lines = vec![report.to_string()];
     match report {
         Report::Agreed { calls: 0 } => {}
-        Report::Agreed { .. } => lines.push(String::from(COMPARED)),
+        Report::Agreed { .. } => {
+            lines.push(String::from(COMPARED));
+            lines.extend_from_slice(open);
+        }
         Report::Differs { call, offset } => lines.extend(difference::tell(replay, call, offset, options, flaws)),
         Report::Malformed { record } => lines.push(flaw::tell(replay, record, &options.memory)),
     }

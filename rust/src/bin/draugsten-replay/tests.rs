@@ -36,7 +36,7 @@ fn told(trace: &[u8]) -> Vec<String> {
 fn told_over(memory: &mut [u8], trace: &[u8], options: &Options) -> Vec<String> {
     let mut replay = Replay::new(memory, &[], &[], Edition(0));
     replay.feed(trace);
-    tell(replay.end(), &replay, options, &Flaws::default()).lines().map(String::from).collect()
+    tell(replay.end(), &replay, options, &Flaws::default(), &[]).lines().map(String::from).collect()
 }
 
 /// The last line of a call over a journal and an inventory that are malformed, which was recorded with another status.
@@ -47,7 +47,7 @@ fn told_of_malformed(before: &[u8]) -> String {
     let mut replay = Replay::new(&mut memory, &[0], &[0], Edition(0));
     replay.feed(&call(before, &after));
     let flaws = Flaws { journal: Some(String::from("J")), inventory: Some(String::from("I")) };
-    tell(replay.end(), &replay, &over(4096), &flaws).lines().last().unwrap().into()
+    tell(replay.end(), &replay, &over(4096), &flaws, &[]).lines().last().unwrap().into()
 }
 
 #[test]
