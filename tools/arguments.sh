@@ -84,15 +84,21 @@ give() {
     [[ $2 == - && $1 != --* ]] || files+=("$1" "$2")
 }
 
+# Whether one of some items is given, which stand as `--memory FILE | --memory-size BYTES`.
+has_one() {
+    local item
+    while IFS= read -r item; do
+        [[ ! -v given[${item%% *}] ]] || return 0
+    done <<<"${1// | /$'\n'}"
+    return 1
+}
+
 # Ends if a needed item is not given.
 check_needed() {
-    local group item one
+    local group
     while IFS= read -r group; do
-        one=
-        while IFS= read -r item; do
-            [[ ! -v given[${item%% *}] ]] || one=1
-        done < <(tr -d '()' <<<"$group" | sed 's/ | /\n/g')
-        [[ $one ]] || wrong "$(tr -d '()' <<<"$group" | sed 's/ | / or /g') has to be given"
+        group=${group//[()]/}
+        has_one "$group" || wrong "${group// | / or } has to be given"
     done < <(needed "$1")
 }
 
@@ -114,16 +120,22 @@ check_files() {
     done
 }
 
+# Reads the items of a help: of each what its value is, into `values`, and the names of the operands.
+read_items() {
+    local name kind
+    while read -r name kind; do
+        values[$name]=${kind//[()]/}
+        [[ $name == --* ]] || operands+=("$name")
+    done < <(section "$1" OPTIONS | grep -E '^(--[a-z-]+|[A-Z]+)( |$)')
+}
+
 # Reads the arguments of the command into `given`. Ends if help is asked for, which it prints, if they are
 # wrong, or if a file is missing.
 read_arguments() {
-    local help name kind used ended='' files=() operands=()
+    local help used ended='' files=() operands=()
     local -A values=()
     help=$(help_of "$command")
-    while read -r name kind; do
-        [[ ! $name =~ ^(--[a-z-]+|[A-Z]+)$ ]] || values[$name]=${kind//[()]/}
-        [[ ! $name =~ ^[A-Z]+$ ]] || operands+=("$name")
-    done < <(section "$help" OPTIONS | grep -E '^(--[a-z]|[A-Z]+( |$))')
+    read_items "$help"
     while [[ $# -gt 0 ]]; do
         used=1
         case $ended$1 in

@@ -60,9 +60,14 @@ need_writable() {
     [[ -w $folder ]] || fail "something has to be built, and $(readlink -f "$folder") cannot be written; build it in a checkout that you may write"
 }
 
+need_lock() {
+    need flock 'install util-linux'
+}
+
 # Runs a command while no other build runs: it waits for the lock, which is on the repository's folder.
 locked() {
     local lock status=0
+    need_lock
     exec {lock}<.
     flock -n "$lock" || { say 'another build is running; waiting for it' && flock "$lock"; }
     "$@" || status=$?
@@ -106,7 +111,7 @@ make_file() {
 # Ends if something that rt needs is missing.
 need_rt() {
     need rt 'install the Rattle kit and add its folder bin to the PATH'
-    need flock 'install util-linux'
+    need_lock
     need_writable target
 }
 
@@ -145,7 +150,7 @@ make_programs() {
 # Ends if something is missing that building the programs of a folder needs, with the archives of these crates.
 need_programs() {
     need cargo 'install Rust'
-    need flock 'install util-linux'
+    need_lock
     need_writable "$1/target"
     are_new "${@:2}" || need_rt
 }
