@@ -4,6 +4,7 @@ use crate::csv::{self, NoTable};
 use crate::options::Options;
 use crate::pool::Played;
 use crate::progress::Progress;
+use crate::shared::names::shown;
 use crate::shared::output::write;
 use crate::{say, table};
 use draugsten::Totals;
@@ -46,7 +47,7 @@ pub enum End {
 impl<'a> Month<'a> {
     pub fn new(options: &'a Options, progress: Progress) -> Month<'a> {
         let path = options.list.as_deref();
-        let list = path.map_or(String::from("standard input"), |path| format!("the list {}", path.display()));
+        let list = path.map_or(String::from("standard input"), |path| format!("the list {}", shown(path)));
         let (totals, tables, sessions) = (Totals::none(), Count::default(), Count::default());
         Month { options, list, totals, tables, sessions, unread: 0, progress }
     }
@@ -58,7 +59,7 @@ impl<'a> Month<'a> {
 
     /// Adds the totals of a table, or refuses it.
     pub fn merge(&mut self, path: &Path) -> Result<(), String> {
-        let place = format!("the table {}", path.display());
+        let place = format!("the table {}", shown(path));
         let (place, refusal) = match csv::read(path) {
             Ok(figures) => match self.totals.merge(&figures) {
                 Ok(()) => {
@@ -87,7 +88,7 @@ impl<'a> Month<'a> {
             Err(why) => Refusal::Unread(why),
         };
         self.sessions.refused += 1;
-        let trace = played.trace.map_or(String::new(), |trace| format!(", trace {}", trace.display()));
+        let trace = played.trace.map_or(String::new(), |trace| format!(", trace {}", shown(trace)));
         self.refuse(&format!("{}, line {}{trace}", self.list, played.line), refusal)
     }
 
