@@ -133,7 +133,7 @@ build_archives() {
 
 # Whether a program of a folder is there, and newer than its sources.
 is_program_new() {
-    [[ -e $1/target/release/$2 ]] && is_marked "$1/target/built" "$1"/{src,Cargo.toml,Cargo.lock,build.rs} rust/src
+    [[ -e $1/target/release/$2 ]] && is_marked "$1/target/built" "$1"/{src,Cargo.toml,Cargo.lock,build.rs} rust/src include tools/archives.rs
 }
 
 # Makes the programs of a folder by cargo. Their mark has the time of the beginning.

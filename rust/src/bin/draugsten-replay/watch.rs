@@ -4,7 +4,7 @@
 //! An answered call with status 1 leaves it open, with the state that stands at the head of its area; an answered call with
 //! status 0 ends it. The state rises from call to call: one that does not is of a session that began anew.
 
-use crate::calls::word;
+use crate::shared::calls::word;
 use draugsten::trace::{Kind, RECORD_LIMIT};
 use draugsten::{ReadingRecord, Replay};
 use std::collections::BTreeMap;

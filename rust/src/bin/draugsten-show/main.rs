@@ -14,50 +14,29 @@ mod text;
 mod walk;
 
 use options::Options;
-use shared::output;
+use shared::command::{Command, DONE, NOT_DONE, NOT_GOOD};
 use show::{show, Stop};
-use std::fmt::Display;
 use std::io::{self, BufWriter, Write};
 use std::process::ExitCode;
-
-/// The exit statuses beside 0, if the file is shown to its end.
-const NOT_DONE: u8 = 1;
-const WRONG_USAGE: u8 = 2;
-const ASTRAY: u8 = 3;
 
 /// The bytes that are written at a time.
 const PART: usize = 262_144;
 
+pub const SHOW: Command = Command { name: "show", help: include_str!("usage.txt") };
+
 fn main() -> ExitCode {
-    match options::parse(std::env::args_os().skip(1)) {
-        Ok(Some(options)) => end(run(&options)),
-        Ok(None) => end(output::write(options::USAGE).map(|()| true).map_err(Stop::Said)),
-        Err(message) => {
-            say(format_args!("{message}\nusage:\n{}\n./draugsten show --help says more", options::synopsis()));
-            ExitCode::from(WRONG_USAGE)
-        }
-    }
+    SHOW.run(options::judge, run)
 }
 
-fn end(done: Result<bool, Stop>) -> ExitCode {
-    match done {
-        Ok(true) => return ExitCode::SUCCESS,
-        Ok(false) => return ExitCode::from(ASTRAY),
-        Err(Stop::Said(message)) => say(message),
-        Err(Stop::Closed) => {}
-    }
-    ExitCode::from(NOT_DONE)
-}
-
-/// Standard error is the last place to say something at: if that fails, it stays unsaid.
-fn say(message: impl Display) {
-    _ = writeln!(io::stderr(), "draugsten-show: {message}");
-}
-
-/// Whether all that was asked for is shown. What comes before a failure is written too.
-fn run(options: &Options) -> Result<bool, Stop> {
+/// Done, if all that was asked for is shown. What comes before a failure is written too.
+fn run(options: &Options) -> Result<u8, String> {
     let mut out = BufWriter::with_capacity(PART, io::stdout().lock());
     let shown = show(options, &mut out);
     let written = out.flush().map_err(Stop::of_writing);
-    shown.and_then(|shown| written.map(|()| shown))
+    match shown.and_then(|shown| written.map(|()| shown)) {
+        Ok(true) => Ok(DONE),
+        Ok(false) => Ok(NOT_GOOD),
+        Err(Stop::Said(message)) => Err(message),
+        Err(Stop::Closed) => Ok(NOT_DONE),
+    }
 }

@@ -11,6 +11,7 @@ use crate::shared::output;
 use crate::shared::trace::Step;
 use crate::text::Text;
 use crate::walk::{recognise, walk, Ended, Failed};
+use crate::SHOW;
 use std::io::{self, ErrorKind, Read, Write};
 
 /// Why a file is not shown to its end, though nothing of it is wrong.
@@ -35,6 +36,7 @@ pub fn show(options: &Options, out: &mut dyn Write) -> Result<bool, Stop> {
     let what = options.file.map_or("file", File::name);
     let name = input::name(what, options.path.as_deref());
     let mut stream = Stream::open(what, options.path.as_deref()).map_err(Stop::Said)?;
+    SHOW.say_waiting("records", options.path.as_deref());
     let mut rest = Rest::new(stream.file());
     let shown = show_rest(options, &name, &mut rest, out);
     let read = rest.read();
