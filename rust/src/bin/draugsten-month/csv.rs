@@ -1,129 +1,131 @@
-//! The table for machines: how it is written, and how it is read back.
+//! The table for machines: its text written, and read back.
 
-use crate::lines::{Line, Lines};
-use crate::shared::input::Stream;
 use draugsten::{Figures, Status, Token};
-use std::path::Path;
 
 const HEADER: &str = "token,status,count";
 
-/// A figure of the totals, which has a row of its own.
+/// Which session one is: `digest.rs` says of what.
+pub type Digest = [u8; 32];
+
+/// The figures of a month, the sessions that were added, refused and unread, and the calls of those that were added.
+#[derive(Clone, Copy, PartialEq, Eq, Debug, Default)]
+pub struct Table {
+    pub figures: Figures,
+    pub added: u64,
+    pub refused: u64,
+    pub unread: u64,
+    pub agreed: u64,
+}
+
+/// The first line of a text, counted from 1, that no table has there.
+#[derive(Clone, Copy, PartialEq, Eq, Debug)]
+pub struct NoTable {
+    pub line: u64,
+}
+
+/// A number that has a row of its own.
 #[derive(Clone, Copy)]
-enum Figure {
+enum Row {
     Calls(Token, Status),
     TokenCalls(Token),
     Operations,
     Used,
     Available,
+    Added,
+    Refused,
+    Unread,
+    Agreed,
 }
 
-impl Figure {
+const LAST: [Row; 7] = [Row::Operations, Row::Used, Row::Available, Row::Added, Row::Refused, Row::Unread, Row::Agreed];
+
+impl Row {
     /// All of them, in the order in which they are written.
-    fn all() -> Vec<Figure> {
+    fn all() -> impl Iterator<Item = Row> {
         let of_token = |token| {
-            let calls = Status::ALL.into_iter().map(move |status| Figure::Calls(token, status));
-            calls.chain([Figure::TokenCalls(token)])
+            let calls = Status::ALL.into_iter().map(move |status| Row::Calls(token, status));
+            calls.chain([Row::TokenCalls(token)])
         };
-        let of_tokens = Token::ALL.into_iter().flat_map(of_token);
-        of_tokens.chain([Figure::Operations, Figure::Used, Figure::Available]).collect()
+        Token::ALL.into_iter().flat_map(of_token).chain(LAST)
     }
 
-    /// Its row without the count.
-    fn row(self) -> String {
+    /// What stands before its number.
+    fn label(self) -> String {
         match self {
-            Figure::Calls(token, status) => format!("{},{}", token as u32, status as i32),
-            Figure::TokenCalls(token) => format!("{},all", token as u32),
-            Figure::Operations => String::from("operations,"),
-            Figure::Used => String::from("used,"),
-            Figure::Available => String::from("available,"),
+            Row::Calls(token, status) => format!("{},{},", token as u32, status as i32),
+            Row::TokenCalls(token) => format!("{},all,", token as u32),
+            Row::Operations => String::from("operations,,"),
+            Row::Used => String::from("used,,"),
+            Row::Available => String::from("available,,"),
+            Row::Added => String::from("sessions,added,"),
+            Row::Refused => String::from("sessions,refused,"),
+            Row::Unread => String::from("sessions,unread,"),
+            Row::Agreed => String::from("calls,agreed,"),
         }
     }
 
-    /// The place of its count.
-    fn of(self, figures: &mut Figures) -> &mut u64 {
+    /// The place of its number.
+    fn of(self, table: &mut Table) -> &mut u64 {
         match self {
-            Figure::Calls(token, status) => &mut figures.calls[token.place()][status.place()],
-            Figure::TokenCalls(token) => &mut figures.token_calls[token.place()],
-            Figure::Operations => &mut figures.operations,
-            Figure::Used => &mut figures.used,
-            Figure::Available => &mut figures.available,
+            Row::Calls(token, status) => &mut table.figures.calls[token.place()][status.place()],
+            Row::TokenCalls(token) => &mut table.figures.token_calls[token.place()],
+            Row::Operations => &mut table.figures.operations,
+            Row::Used => &mut table.figures.used,
+            Row::Available => &mut table.figures.available,
+            Row::Added => &mut table.added,
+            Row::Refused => &mut table.refused,
+            Row::Unread => &mut table.unread,
+            Row::Agreed => &mut table.agreed,
         }
     }
 }
 
-pub fn write(mut figures: Figures) -> String {
-    let mut text = format!("{HEADER}\n");
-    for figure in Figure::all() {
-        text += &format!("{},{}\n", figure.row(), figure.of(&mut figures));
+/// The text of a table, and a row for each session that was added.
+pub fn write(table: &Table, sessions: &[Digest]) -> Vec<u8> {
+    let (mut table, mut text) = (*table, format!("{HEADER}\n"));
+    for row in Row::all() {
+        text += &format!("{}{}\n", row.label(), row.of(&mut table));
     }
-    text
+    text.extend(sessions.iter().map(|digest| format!("session,{},1\n", digits(digest))));
+    text.into_bytes()
 }
 
-/// Why a table gives no figures.
-#[derive(PartialEq, Eq, Debug)]
-pub enum NoTable {
-    /// It cannot be read.
-    Unread(String),
-    /// What is wrong, and at which line.
-    Wrong(u64, String),
-}
-
-/// The figures of a file.
-pub fn read(path: &Path) -> Result<Figures, NoTable> {
-    let mut stream = Stream::open("table", Some(path)).map_err(NoTable::Unread)?;
-    let file = stream.file().try_clone().map_err(|error| NoTable::Unread(stream.failed(&error, 0)))?;
-    let mut lines = Lines::new(file);
-    parse(|| lines.next().map_err(|error| NoTable::Unread(stream.failed(&error, lines.bytes()))))
-}
-
-/// The figures of lines. Each row stands once, so no more lines are read than there are rows, and one.
-fn parse(mut next: impl FnMut() -> Result<Option<Line>, NoTable>) -> Result<Figures, NoTable> {
-    match next()? {
-        Some(Line { text: Some(text), .. }) if text == HEADER.as_bytes() => {}
-        _ => return Err(NoTable::Wrong(1, format!("it is not {HEADER}, so this is no table of --csv"))),
+/// The table of a text that is exactly one of `write`, and its sessions.
+pub fn read(text: &[u8]) -> Result<(Table, Vec<Digest>), NoTable> {
+    let mut lines = text.split_inclusive(|byte| *byte == b'\n').zip(1..);
+    let is_header = |(line, _): (&[u8], u64)| line.strip_suffix(b"\n") == Some(HEADER.as_bytes());
+    if !lines.next().is_some_and(is_header) {
+        return Err(NoTable { line: 1 });
     }
-    let (mut missing, mut figures, mut last) = (Figure::all(), Figures::default(), 1);
-    while let Some(line) = next()? {
-        last = line.number;
-        take(line.text, &mut missing, &mut figures).map_err(|what| NoTable::Wrong(last, what))?;
+    let mut table = Table::default();
+    for (row, line) in Row::all().zip(2..) {
+        let (text, _) = lines.next().ok_or(NoTable { line })?;
+        *row.of(&mut table) = number(text, &row.label()).ok_or(NoTable { line })?;
     }
-    match missing.first() {
-        Some(figure) => {
-            Err(NoTable::Wrong(last, format!("the table ends there, and the row {} is missing", figure.row())))
-        }
-        None => Ok(figures),
+    let sessions: Result<_, _> = lines.map(|(text, line)| session(text).ok_or(NoTable { line })).collect();
+    Ok((table, sessions?))
+}
+
+/// The number after a label: decimal, without a zero before it.
+fn number(line: &[u8], label: &str) -> Option<u64> {
+    let digits = line.strip_prefix(label.as_bytes())?.strip_suffix(b"\n")?;
+    let value: u64 = std::str::from_utf8(digits).ok()?.parse().ok()?;
+    (value.to_string().as_bytes() == digits).then_some(value)
+}
+
+/// The digest of a session's row.
+fn session(line: &[u8]) -> Option<Digest> {
+    let text = line.strip_prefix(b"session,")?.strip_suffix(b",1\n")?;
+    let mut digest = [0; 32];
+    for (byte, pair) in digest.iter_mut().zip(text.as_chunks::<2>().0) {
+        *byte = u8::from_str_radix(std::str::from_utf8(pair).ok()?, 16).ok()?;
     }
+    (digits(&digest).as_bytes() == text).then_some(digest)
 }
 
-/// Takes the row of a figure that is still missing; or says what is wrong with it.
-fn take(text: Option<Vec<u8>>, missing: &mut Vec<Figure>, figures: &mut Figures) -> Result<(), String> {
-    let (row, count) = cells(text).ok_or("it is no row of token, status and count")?;
-    let place = missing.iter().position(|figure| figure.row() == row).ok_or_else(|| no_row(&row))?;
-    let figure = missing.remove(place);
-    *figure.of(figures) = number(&count).ok_or_else(|| {
-        format!("the count of row {row} is a number from 0 to {}, decimal, and not {count}", u64::MAX)
-    })?;
-    Ok(())
-}
-
-/// Why a row is none of those that are missing.
-fn no_row(row: &str) -> String {
-    if Figure::all().into_iter().any(|figure| figure.row() == row) {
-        format!("the row {row} stands there twice")
-    } else {
-        format!("there is no row {row}")
-    }
-}
-
-/// The row and its count, of a line that has three cells.
-fn cells(text: Option<Vec<u8>>) -> Option<(String, String)> {
-    let text = String::from_utf8(text?).ok()?;
-    let (name, count) = text.rsplit_once(',')?;
-    (name.matches(',').count() == 1).then(|| (String::from(name), String::from(count)))
-}
-
-fn number(text: &str) -> Option<u64> {
-    text.parse().ok().filter(|_| text.bytes().all(|digit| digit.is_ascii_digit()))
+/// A digest in hexadecimal digits.
+pub fn digits(digest: &Digest) -> String {
+    digest.iter().map(|byte| format!("{byte:02x}")).collect()
 }
 
 #[cfg(test)]

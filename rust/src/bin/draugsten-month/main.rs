@@ -1,8 +1,11 @@
 //! Replays the sessions of a list, and writes the totals over their calls.
 
+mod account;
 mod csv;
+mod digest;
 mod lines;
 mod list;
+mod merging;
 mod month;
 mod options;
 mod pool;

@@ -1,37 +1,53 @@
-//! The totals of a month, and what is refused on the way to them.
+//! The totals of a month, and what is left out on the way to them.
 
-use crate::csv::{self, NoTable};
+use crate::account::{Account, NotTaken, Place};
+use crate::csv::{self, Table};
+use crate::merging::{self, TableError};
 use crate::options::Options;
 use crate::pool::Played;
 use crate::progress::Progress;
 use crate::shared::names::shown;
 use crate::shared::output::write;
 use crate::{say, table};
-use draugsten::Totals;
 use std::path::Path;
 
 pub struct Month<'a> {
     options: &'a Options,
-    /// The list, as refusals name it.
+    /// The list, as lines name it.
     list: String,
-    totals: Totals,
+    account: Account,
     tables: Count,
     sessions: Count,
-    unread: u64,
+    /// Whether a table was added whose month left out sessions.
+    partial: bool,
     pub progress: Progress,
 }
 
-/// How many of something were added, and how many refused.
+/// How many of something were added, refused, and not read.
 #[derive(Default)]
 struct Count {
     added: u64,
     refused: u64,
+    unread: u64,
 }
 
-/// Why something is refused: it cannot be read, or it is read and not added.
-enum Refusal {
+impl Count {
+    fn all(&self) -> u64 {
+        self.added + self.refused + self.unread
+    }
+
+    fn leave_out(&mut self, left_out: &LeftOut) {
+        match left_out {
+            LeftOut::Refused(_) => self.refused += 1,
+            LeftOut::Unread(_) => self.unread += 1,
+        }
+    }
+}
+
+/// Why something is left out: it is read and not added, or it cannot be read.
+enum LeftOut {
+    Refused(String),
     Unread(String),
-    Verdict(String),
 }
 
 /// What a month came to.
@@ -48,77 +64,110 @@ impl<'a> Month<'a> {
     pub fn new(options: &'a Options, progress: Progress) -> Month<'a> {
         let path = options.list.as_deref();
         let list = path.map_or(String::from("standard input"), |path| format!("the list {}", shown(path)));
-        let (totals, tables, sessions) = (Totals::none(), Count::default(), Count::default());
-        Month { options, list, totals, tables, sessions, unread: 0, progress }
+        let (account, tables, sessions) = (Account::new(options.allow_repeats), Count::default(), Count::default());
+        Month { options, list, account, tables, sessions, partial: false, progress }
     }
 
-    /// The sessions that were added or refused.
+    /// The sessions of the list so far.
     pub fn sessions(&self) -> u64 {
-        self.sessions.added + self.sessions.refused
+        self.sessions.all()
     }
 
-    /// Adds the totals of a table, or refuses it.
+    /// Adds a table, or leaves it out.
     pub fn merge(&mut self, path: &Path) -> Result<(), String> {
-        let place = format!("the table {}", shown(path));
-        let (place, refusal) = match csv::read(path) {
-            Ok(figures) => match self.totals.merge(&figures) {
+        let (number, place) = (self.tables.all() as u32, format!("the table {}", shown(path)));
+        let (place, left_out) = match merging::read(path) {
+            Ok((table, sessions)) => match self.account.merge(number, &table, &sessions) {
                 Ok(()) => {
                     self.tables.added += 1;
-                    return Ok(());
+                    return self.tell_partial(&place, &table);
                 }
-                Err(refusal) => (place, Refusal::Verdict(refusal.to_string())),
+                Err(NotTaken::Repeat { place, first }) => (self.name(place), self.repeats(first)),
+                Err(NotTaken::Verdict(reason)) => (place, LeftOut::Refused(reason)),
             },
-            Err(NoTable::Unread(why)) => (String::from("--merge"), Refusal::Unread(why)),
-            Err(NoTable::Wrong(line, what)) => (format!("{place}, line {line}"), Refusal::Verdict(what)),
+            Err(TableError::Unread(why)) => (String::from("--merge"), LeftOut::Unread(why)),
+            Err(TableError::Line(line, what)) => (format!("{place}, line {line}"), LeftOut::Refused(what)),
+            Err(TableError::Whole(what)) => (place, LeftOut::Refused(what)),
         };
-        self.tables.refused += 1;
-        self.refuse(&place, refusal)
+        self.tables.leave_out(&left_out);
+        self.tell_left_out(&place, left_out)
     }
 
-    /// Adds the counts of a session, or refuses it.
+    /// Adds a session, or leaves it out.
     pub fn add(&mut self, played: Played) -> Result<(), String> {
-        let refusal = match played.counted {
-            Ok(counted) => match self.totals.add(&counted) {
-                Ok(_) => {
+        let left_out = match played.counted {
+            Ok(session) => match self.account.add(&session, played.line) {
+                Ok(()) => {
                     self.sessions.added += 1;
                     return Ok(());
                 }
-                Err(refusal) => Refusal::Verdict(refusal.to_string()),
+                Err(NotTaken::Repeat { first, .. }) => self.repeats(first),
+                Err(NotTaken::Verdict(reason)) => LeftOut::Refused(reason),
             },
-            Err(why) => Refusal::Unread(why),
+            Err(why) => LeftOut::Unread(why),
         };
-        self.sessions.refused += 1;
+        self.sessions.leave_out(&left_out);
+        match &left_out {
+            LeftOut::Refused(_) => self.account.refuse()?,
+            LeftOut::Unread(_) => self.account.pass_unread()?,
+        }
         let trace = played.trace.map_or(String::new(), |trace| format!(", trace {}", shown(trace)));
-        self.refuse(&format!("{}, line {}{trace}", self.list, played.line), refusal)
+        self.tell_left_out(&format!("{}, line {}{trace}", self.list, played.line), left_out)
     }
 
-    /// Tells at once what is refused, so that nothing of it has to be kept.
-    fn refuse(&mut self, place: &str, refusal: Refusal) -> Result<(), String> {
-        let reason = match refusal {
-            Refusal::Verdict(reason) => reason,
-            Refusal::Unread(reason) => {
-                self.unread += 1;
-                reason
+    fn repeats(&self, first: Place) -> LeftOut {
+        let first = self.name(first);
+        LeftOut::Refused(format!("the session is that of {first}; if that is meant, give --allow-repeats"))
+    }
+
+    fn name(&self, place: Place) -> String {
+        match place.table {
+            Some(number) => {
+                format!("the table {}, line {}", shown(&self.options.tables[number as usize]), place.line)
             }
-        };
-        self.progress.clear();
-        let text = format!("refused: {place}: {reason}");
-        if self.options.csv {
-            say(text);
+            None => format!("{}, line {}", self.list, place.line),
+        }
+    }
+
+    /// Tells of a table that is added whether its month left out sessions.
+    fn tell_partial(&mut self, place: &str, table: &Table) -> Result<(), String> {
+        let Table { refused, unread, .. } = *table;
+        if (refused, unread) == (0, 0) {
             return Ok(());
         }
-        write(&(text + "\n"))
+        self.partial = true;
+        self.tell(&format!(
+            "partial: {place}: it is added, and its month left out sessions: {refused} refused, {unread} unread"
+        ))
+    }
+
+    fn tell_left_out(&mut self, place: &str, left_out: LeftOut) -> Result<(), String> {
+        self.tell(&match left_out {
+            LeftOut::Refused(reason) => format!("refused: {place}: {reason}"),
+            LeftOut::Unread(reason) => format!("unread: {place}: {reason}"),
+        })
+    }
+
+    /// Tells a line at once, so that nothing of it has to be kept.
+    fn tell(&mut self, line: &str) -> Result<(), String> {
+        self.progress.clear();
+        if self.options.csv {
+            say(line);
+            return Ok(());
+        }
+        write(&format!("{line}\n"))
     }
 
     /// Writes the totals.
     pub fn write(&mut self) -> Result<End, String> {
         self.progress.clear();
-        write(&if self.options.csv { csv::write(self.totals.figures()) } else { self.text() })?;
-        if self.unread > 0 && !self.options.csv {
-            say(format_args!(
-                "{} of those that are refused could not be read; the lines above the totals say why",
-                self.unread
-            ));
+        match self.options.csv {
+            true => write(&csv::write(&self.account.table(), self.account.sessions()))?,
+            false => write(&self.text())?,
+        }
+        let unread = self.tables.unread + self.sessions.unread;
+        if unread > 0 && !self.options.csv {
+            say(format_args!("{unread} could not be read; the lines above the totals say why"));
         }
         if self.is_empty() {
             let what = "has no session, and no --merge is given; if that is meant, give --allow-empty";
@@ -128,11 +177,13 @@ impl<'a> Month<'a> {
     }
 
     fn end(&self) -> End {
-        match (self.unread, self.sessions.refused + self.tables.refused) {
-            (0, 0) if self.is_empty() => End::Empty,
-            (0, 0) => End::Added,
-            (0, _) => End::Refused,
-            _ => End::Unread,
+        let is_read = self.tables.unread + self.sessions.unread == 0;
+        let is_whole = self.tables.refused + self.sessions.refused == 0 && !self.partial;
+        match (is_read, is_whole) {
+            (false, _) => End::Unread,
+            (true, false) => End::Refused,
+            (true, true) if self.is_empty() => End::Empty,
+            (true, true) => End::Added,
         }
     }
 
@@ -142,11 +193,13 @@ impl<'a> Month<'a> {
     }
 
     fn text(&self) -> String {
-        let line = |what, count: &Count| format!("{what}: {} added, {} refused\n", count.added, count.refused);
+        let line = |what, Count { added, refused, unread }: &Count| {
+            format!("{what}: {added} added, {refused} refused, {unread} unread\n")
+        };
         let mut text = line("sessions", &self.sessions);
         if !self.options.tables.is_empty() {
             text += &line("tables", &self.tables);
         }
-        format!("{text}\n{}", table::write(&self.totals))
+        format!("{text}\n{}", table::write(&self.account))
     }
 }

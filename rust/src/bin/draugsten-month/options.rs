@@ -13,6 +13,8 @@ pub struct Options {
     pub csv: bool,
     /// Whether a list without a session is taken, if no table is given either.
     pub allow_empty: bool,
+    /// Whether a session that was added is added again if it comes again.
+    pub allow_repeats: bool,
     pub tables: Vec<PathBuf>,
     /// As many as there are cores, if there is none.
     pub threads: Option<usize>,
@@ -26,6 +28,7 @@ pub fn judge(given: Arguments) -> Result<Options, String> {
     Ok(Options {
         csv: given.flag("--csv"),
         allow_empty: given.flag("--allow-empty"),
+        allow_repeats: given.flag("--allow-repeats"),
         tables: given.values("--merge").into_iter().map(PathBuf::from).collect(),
         threads: threads.map(|threads| threads as usize),
         list: given.value("LIST").filter(|name| *name != "-").map(PathBuf::from),
@@ -62,11 +65,15 @@ mod tests {
         let expected = Options {
             csv: true,
             allow_empty: true,
+            allow_repeats: true,
             tables: vec!["a".into(), "--csv".into(), "a".into()],
             threads: Some(16),
             list: Some("l".into()),
         };
-        assert_eq!(of("--merge a l --csv --merge --csv --threads 0x10 --allow-empty --merge=a"), Ok(expected));
+        assert_eq!(
+            of("--merge a l --csv --merge --csv --threads 0x10 --allow-empty --allow-repeats --merge=a"),
+            Ok(expected)
+        );
         assert_eq!(of("--allow-empty"), Ok(Options { allow_empty: true, ..Options::default() }));
         assert!(!of("--merge --allow-empty").unwrap().allow_empty);
     }

@@ -1,10 +1,9 @@
 //! Sessions that are replayed side by side, and handed out in the order of their list.
 
 use crate::list::{Entry, List};
-use crate::session;
+use crate::session::{self, CountedSession};
 use crate::shared::flaws::Flaws;
 use crate::shared::line::PAUSE;
-use draugsten::Counted;
 use std::collections::VecDeque;
 use std::path::PathBuf;
 use std::sync::atomic::{AtomicU64, Ordering};
@@ -19,7 +18,7 @@ const WINDOW: usize = 1024;
 pub struct Played {
     pub line: u64,
     pub trace: Option<PathBuf>,
-    pub counted: Result<Box<Counted>, String>,
+    pub counted: Result<Box<CountedSession>, String>,
     /// What is wrong with its journal and inventory.
     pub flaws: Flaws,
     /// The bytes of the list up to its end.

@@ -1,5 +1,7 @@
 //! One session of a list.
 
+use crate::csv::Digest;
+use crate::digest::SessionHash;
 use crate::list::Session;
 use crate::shared::flaws::Flaws;
 use crate::shared::input::{self, Inputs, Memory, Stream};
@@ -13,9 +15,15 @@ use std::path::Path;
 /// The bytes of a trace between two looks at the progress.
 const PART: u64 = 262_144;
 
+/// What the calls of a session count, and which session it is, if its trace was replayed to its end.
+pub struct CountedSession {
+    pub counts: Counted,
+    pub digest: Digest,
+}
+
 /// What the calls of a session count, or why its files cannot be read, and what is wrong with its journal and inventory.
 /// `pass` is told the bytes that were replayed.
-pub fn play(session: &Session, pass: impl Fn(u64)) -> (Result<Counted, String>, Flaws) {
+pub fn play(session: &Session, pass: impl Fn(u64)) -> (Result<CountedSession, String>, Flaws) {
     let read =
         check(session).and_then(|()| input::read_inputs(session.journal.as_deref(), session.inventory.as_deref()));
     match read {
@@ -24,21 +32,35 @@ pub fn play(session: &Session, pass: impl Fn(u64)) -> (Result<Counted, String>, 
     }
 }
 
-fn play_over(session: &Session, inputs: &Inputs, pass: impl Fn(u64)) -> Result<Counted, String> {
+fn play_over(session: &Session, inputs: &Inputs, pass: impl Fn(u64)) -> Result<CountedSession, String> {
     let mut memory = input::read_memory(&session.memory)?;
     let mut trace = Stream::open("trace", Some(&session.trace))?;
-    let edition = Edition(session.edition);
-    let mut replay = CountingReplay::new(&mut memory, &inputs.journal, &inputs.inventory, edition);
-    read(&mut replay, &mut trace, pass)?;
-    Ok(replay.counted())
+    let Inputs { journal, inventory, .. } = inputs;
+    let mut hash = SessionHash::new(journal, inventory, session.edition, memory.len(), given(session, &memory));
+    let mut replay = CountingReplay::new(&mut memory, journal, inventory, Edition(session.edition));
+    read(&mut replay, &mut trace, &mut hash, pass)?;
+    Ok(CountedSession { counts: replay.counted(), digest: hash.digest() })
 }
 
-/// Replays a trace to its end, or to where it stops.
-fn read(replay: &mut CountingReplay<'_>, trace: &mut Stream, pass: impl Fn(u64)) -> Result<(), String> {
+/// The bytes of memory that its file gave. Zeros that are given by a size are not looked at, so that they cost nothing.
+fn given<'a>(session: &Session, memory: &'a [u8]) -> &'a [u8] {
+    match session.memory {
+        Memory::File(_) => memory,
+        Memory::Zeros(_) => &[],
+    }
+}
+
+/// Replays a trace to its end, or to where it stops, and hashes it on the way.
+fn read(
+    replay: &mut CountingReplay<'_>,
+    trace: &mut Stream,
+    hash: &mut SessionHash,
+    pass: impl Fn(u64),
+) -> Result<(), String> {
     let mut bytes = 0;
     loop {
         let mut part = trace.file().take(PART);
-        let read = replay.read(&mut part);
+        let read = replay.read(hash.over(&mut part));
         let size = PART - part.limit();
         bytes += size;
         pass(size);

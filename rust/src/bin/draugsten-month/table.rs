@@ -1,5 +1,7 @@
 //! The table for people.
 
+use crate::account::Account;
+use crate::csv::{digits, Table};
 use draugsten::{Share, Status, Token, Totals};
 
 /// A status by its number and its name.
@@ -7,15 +9,21 @@ fn status_name(status: Status) -> String {
     format!("{:>3} {status}", status as i32)
 }
 
-/// The calls, a column for each token and a line for each status; then what update-nodes handed out.
-pub fn write(totals: &Totals) -> String {
+/// The calls, a column for each token and a line for each status; then what update-nodes handed out, and the sessions.
+pub fn write(account: &Account) -> String {
+    let (totals, table) = (account.totals(), account.table());
+    let sessions = account.sessions().iter().map(|digest| line("session", &digits(digest)));
+    format!("{}\n{}{}{}", calls(totals), words(totals), counts(&table), sessions.collect::<String>())
+}
+
+fn calls(totals: &Totals) -> String {
     let names = Token::ALL.map(|token| token.to_string());
     let mut lines = vec![(String::new(), names)];
     for status in Status::ALL {
         lines.push((status_name(status), Token::ALL.map(|token| totals.calls(token, status).to_string())));
     }
     lines.push((String::from("    all calls"), Token::ALL.map(|token| totals.token_calls(token).to_string())));
-    format!("{}\n{}", columns(&lines), words(totals))
+    columns(&lines)
 }
 
 /// Lines of a name and four cells, each cell at the right of its column.
@@ -35,13 +43,27 @@ fn columns(lines: &[(String, [String; 4])]) -> String {
 
 fn words(totals: &Totals) -> String {
     let share = totals.share();
+    [
+        line("operations handed out", &totals.operations().to_string()),
+        line("words used", &totals.used().to_string()),
+        line("words available", &totals.available().to_string()),
+        line("share used", &format!("{share}, {}", percent(share))),
+    ]
+    .concat()
+}
+
+fn counts(table: &Table) -> String {
     let lines = [
-        ("operations handed out", totals.operations().to_string()),
-        ("words used", totals.used().to_string()),
-        ("words available", totals.available().to_string()),
-        ("share used", format!("{share}, {}", percent(share))),
+        ("sessions added", table.added),
+        ("sessions refused", table.refused),
+        ("sessions unread", table.unread),
+        ("calls agreed", table.agreed),
     ];
-    lines.map(|(name, value)| format!("{name:<21}  {value}\n")).concat()
+    lines.map(|(name, count)| line(name, &count.to_string())).concat()
+}
+
+fn line(name: &str, value: &str) -> String {
+    format!("{name:<21}  {value}\n")
 }
 
 /// A share in percent, rounded down to four decimals where it does not come out even.
@@ -55,7 +77,9 @@ fn percent(share: Share) -> String {
 #[cfg(test)]
 mod tests {
     use super::{percent, write};
-    use draugsten::{Figures, Share, Totals};
+    use crate::account::Account;
+    use crate::csv::Table;
+    use draugsten::{Figures, Share};
 
     #[test]
     fn percent_is_rounded_down() {
@@ -76,8 +100,9 @@ mod tests {
         figures.token_calls[0] = 2;
         figures.calls[1][3] = u64::MAX;
         figures.token_calls[1] = u64::MAX;
-        let mut totals = Totals::none();
-        totals.merge(&figures).unwrap();
+        let mut account = Account::new(false);
+        let table = Table { figures, added: 2, refused: 3, unread: 4, agreed: u64::MAX };
+        account.merge(0, &table, &[[0; 32], [0xa9; 32]]).unwrap();
         let expected = "
                                     ibm,update-nodes       ibm,get-indices  ibm,configure-kernel-dump  ibm,update-properties
   0 done                                           0                     0                          0                      0
@@ -93,7 +118,13 @@ operations handed out  1
 words used             2
 words available        2038
 share used             1/1019, 0.0981 % rounded down
+sessions added         2
+sessions refused       3
+sessions unread        4
+calls agreed           18446744073709551615
+session                0000000000000000000000000000000000000000000000000000000000000000
+session                a9a9a9a9a9a9a9a9a9a9a9a9a9a9a9a9a9a9a9a9a9a9a9a9a9a9a9a9a9a9a9a9
 ";
-        assert_eq!(format!("\n{}", write(&totals)), expected);
+        assert_eq!(format!("\n{}", write(&account)), expected);
     }
 }

@@ -13,6 +13,7 @@ pub mod names;
 pub mod numbers;
 pub mod output;
 pub mod records;
+pub mod sha256;
 pub mod sources;
 pub mod trace;
 pub mod visible;

@@ -3,9 +3,9 @@
 use std::io::{self, Write};
 
 /// Writes a text, or says why it cannot be written, and what helps.
-pub fn write(text: &str) -> Result<(), String> {
+pub fn write(text: &(impl AsRef<[u8]> + ?Sized)) -> Result<(), String> {
     let mut output = io::stdout().lock();
-    let written = output.write_all(text.as_bytes()).and_then(|()| output.flush());
+    let written = output.write_all(text.as_ref()).and_then(|()| output.flush());
     written.map_err(|error| failed(&error))
 }
 
