@@ -1,5 +1,5 @@
 -- The text of an input, from what a check tells of it, and that it fits its buffer.
-use mathlib.Core.Path.{_≡_, refl, sym, ap, _∙_}
+use mathlib.Core.Path.{_≡_, refl, sym, _∙_}
 use mathlib.Core.Bool.{Bool, true, false, cond, not}
 use mathlib.Core.List.{List, [], _∷_, _++_}
 use Prim.Native.Nat.{ℕ, zero, suc, _+_, _*_, _-_, _≤_}
@@ -27,7 +27,7 @@ use Rattle.words.proofs.Claims.{numbers-exactly, zeros-exactly}
 use Rattle.node_area.proofs.ReaderClaims.{node-reader-exactly}
 use Rattle.printing.proofs.Digits.{digits-exactly}
 use Rattle.printing.proofs.Sizes.{length-hexDigits, length-ended, length-operand, length-refusal, inside-buffer}
-use Rattle.print_nodes.specs.Text.{update-, add-, unit-, line, lines, unitLine, text, textOf}
+use Rattle.print_nodes.specs.Text.{update-, add-, unit-, line, lines, unitLine, text}
 use Rattle.print_nodes.specs.Claims.{TextExactly, LongInput, PrintNodesPromise}
 
 length-line : (o : Operation) → length (line o) ≤ 22

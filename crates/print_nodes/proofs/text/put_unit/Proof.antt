@@ -1,10 +1,8 @@
 -- `text::put_unit` meets its contract.
-use mathlib.Core.List.{List, _++_}
-use Prim.Native.Nat.{_≤_, _<_, _^_}
+use mathlib.Core.List.{_++_}
 use native.Mathlib.Omega.{arith}
 use borrow.Author.Needs.{needs}
 use denote.Ref.{now}
-use Rattle.node_area.specs.Head.{unitIn}
 use Rattle.printing.specs.Put.{Fits}
 use Rattle.printing.specs.Text.{hexDigits, newline}
 use Rattle.printing.proofs.Puts.{put-length, fits-first, fits-then, put-none, put-then}
