@@ -190,5 +190,5 @@ each-counts records waits c = record {
 }
 
 pub trace-count-claims : TraceCountClaims
-unfolding sumOf sumOver
-trace-count-claims = record { sums-over = λ f. (refl, λ x xs. refl); sums = ((λ ns. refl), (λ k. refl), (λ k n ns. refl)); each-counts = each-counts; every-call-made = every-call-made; counts-of-calls = counts-of-calls; all-counts-came = all-counts-came; each-month = each-month; each-made = each-made; trace-count-readings = trace-count-readings }
+unfolding sumOf sumOver countStep countedAll
+trace-count-claims = record { goes-on = λ p x r. refl; none-made = λ c. refl; one-made = λ c x xs. refl; one-more = λ c row more. refl; sums-over = λ f. (refl, λ x xs. refl); sums = ((λ ns. refl), (λ k. refl), (λ k n ns. refl)); each-counts = each-counts; every-call-made = every-call-made; counts-of-calls = counts-of-calls; all-counts-came = all-counts-came; each-month = each-month; each-made = each-made; trace-count-readings = trace-count-readings }

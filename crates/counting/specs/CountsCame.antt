@@ -5,18 +5,20 @@ use mathlib.Core.Path.{_≡_}
 use mathlib.Core.Bool.{Bool, true, _&&_}
 use mathlib.Core.List.{List, [], _∷_}
 use lib.Dec.{leb}
+use lib.ListN.{getD, set}
 use Rattle.words.specs.Exactly.{Exactly}
 use Rattle.records.specs.Cutting.{start, fedAll}
 use Rattle.calls.specs.Buffer.{Left}
 use Rattle.trace.specs.declared.report.Report.{Report}
 use Rattle.trace.specs.declared.report.Report.the-variants.{Agreed, Differs, Malformed}
-use Rattle.trace.specs.Playing.{Platform, begin}
+use Rattle.trace.specs.Playing.{Platform, begin, step}
 use Rattle.trace.specs.Came.{waitingNumber, waitsIn}
 use Rattle.counting.specs.declared.counts.Counts.{Counts}
-use Rattle.counting.specs.Counts.{noCounts}
+use Rattle.counting.specs.declared.area.Tally.{Tally}
+use Rattle.counting.specs.Counts.{noCounts, countedIn, counted}
 use Rattle.counting.specs.Figures.{sumOf}
 use Rattle.counting.specs.TraceCounts.{TraceCountReadings}
-use Rattle.counting.specs.OfTrace.{Counting, counter, EveryCallMade, CountsOfCalls}
+use Rattle.counting.specs.OfTrace.{made, countedAll, Counting, counter, EveryCallMade, CountsOfCalls}
 use Rattle.counting.specs.MonthClaims.{sumOver, EachMonth, EachMade}
 
 -- so many calls can have been made: a call is two records, and a 32 that waits is one
@@ -53,6 +55,13 @@ pub record TraceCountClaims : Type 0 where
   pub sums : ((ns : List ℕ) → sumOf 0 ns ≡ 0) × ((k : ℕ) → sumOf (suc k) [] ≡ 0) × ((k n : ℕ) (ns : List ℕ) → sumOf (suc k) (n ∷ ns) ≡ n + sumOf k ns)
   pub each-counts : EachCounts
   pub sums-over : (f : Left → ℕ) → (sumOver f [] ≡ 0) × ((x : Left) (xs : List Left) → sumOver f (x ∷ xs) ≡ f x + sumOver f xs)
+  -- a record counts the calls that it makes, whatever was counted before, each in its row
+  pub goes-on : (p : Platform) (x : Counting) (r : List ℕ)
+      → counter p .step x r ≡ record { state = step p (x .state) r; counts = countedAll (x .counts) (made p (x .state) r) }
+  pub none-made : (c : Counts) → countedAll c [] ≡ c
+  pub one-made : (c : Counts) (x : Left) (xs : List Left) → countedAll c (x ∷ xs) ≡ countedAll (counted c (x .number) (x .args) (x .memory)) xs
+  pub one-more : (c : Counts) (row : ℕ) (more : Tally)
+      → countedIn c row more ≡ record { rows = set (c .rows) row (getD (c .rows) row 0 + 1); operations = c .operations + more .operations; used = c .used + more .words }
   pub every-call-made : EveryCallMade
   pub counts-of-calls : CountsOfCalls
   pub all-counts-came : AllCountsCame

@@ -4,7 +4,7 @@ use mathlib.Core.Path.{_≡_}
 use mathlib.Core.Bool.{true, false, cond, _&&_}
 use mathlib.Core.List.{List, [], _∷_, _++_}
 use lib.Dec.{eqb}
-use lib.ListN.{length, drop, getD, replicate}
+use lib.ListN.{length, take, drop, getD, replicate}
 use Rattle.words.specs.Numbers.{be32}
 use Rattle.calls.specs.Buffer.{input, statusAt, isNodes}
 use Rattle.counting.specs.declared.counts.Counts.{Counts}
@@ -16,7 +16,7 @@ use Rattle.totals.specs.Adding.{noTotals, addedTo}
 use Rattle.totals.specs.Claims.{reordered, EachFits, TotalsClaims}
 use Rattle.totals.specs.Consistent.{consistent, ConsistentClaims}
 use Rattle.shares.specs.Share.{shareOf, Lowest, ShareClaims}
-use Rattle.trace.specs.declared.report.Report.the-variants.{Agreed}
+use Rattle.trace.specs.declared.report.Report.the-variants.{Agreed, Differs, Malformed}
 use Rattle.trace.specs.Playing.{isOver, replayOf}
 use Rattle.trace.specs.Came.{waitsIn}
 use Rattle.counting.specs.OfTrace.{counter, countsOf}
@@ -25,7 +25,7 @@ use Rattle.replay_states.specs.declared.state.FlatReplay.{FlatReplay}
 use Rattle.records.specs.Cutting.{fed}
 use Rattle.replay.specs.Feeding.{endOf}
 use Rattle.replay_states.specs.States.{flatReportOf, reportOf, waits, isState, areCounts, judged}
-use Rattle.draugsten_replay.specs.Feeding.{platform, FlatFeeds, flatStart}
+use Rattle.draugsten_replay.specs.Feeding.{platform, standingIn, FlatFeeds, flatStart}
 use Rattle.draugsten_replay.specs.declared.month.FlatCounting.{FlatCounting}
 use Rattle.draugsten_replay.specs.declared.month.FlatCounted.{FlatCounted}
 use Rattle.draugsten_replay.specs.WholeTrace.{begun}
@@ -177,6 +177,13 @@ pub record SessionsExactly : Type 0 where
   pub not-taken : (t : Totals) (f : FlatCounting) → isCounting f ≡ false → monthAdded t f ≡ record { number = 14; report = record { verdict = 2; offset = 0; number = 0 }; totals = t }
   pub taken : (t : Totals) (f : FlatCounting) → isCounting f ≡ true
       → monthAdded t f ≡ addedBy t (endOf (reportOf (f .replay .report)) (f .replay .records) (waits (f .replay)) (f .replay .held)) (figuresOf (f .counts))
+  pub adds : (t figures : Totals) (n k : ℕ)
+      → (addedBy t (Agreed n) figures ≡ record { number = cond (addedTo t figures .taken) 0 17; report = record { verdict = 0; offset = 0; number = n }; totals = addedTo t figures .totals })
+      × (addedBy t (Differs n k) figures ≡ record { number = 16; report = record { verdict = 1; offset = k; number = n }; totals = t })
+      × (addedBy t (Malformed n) figures ≡ record { number = 16; report = record { verdict = 2; offset = 0; number = n }; totals = t })
+  -- a feed goes on from the counts that it is given
+  pub counted-from : (held args memory : List ℕ) (f : FlatCounting) → countingIn held args memory f
+      ≡ record { state = record { state = standingIn held args memory (f .replay) .state; counts = f .counts }; held = take (f .replay .held) held }
   pub none : (t : Totals) → monthOf t [] ≡ t
   pub next : (t : Totals) (s : Session) (ss : List Session) → monthOf t (s ∷ ss) ≡ monthOf (sessionAdded t s .totals) ss
   -- a counting feed does to buffers, memory and replay what draugsten_replay_feed does; refused, it changes nothing
