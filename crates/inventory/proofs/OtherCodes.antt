@@ -1,15 +1,16 @@
 -- Two inventories that differ only in the codes of other flags and types: the search goes the same way in both.
 use mathlib.Core.Path.{_≡_, refl}
-use mathlib.Core.Bool.{true}
+use mathlib.Core.Bool.{true, false, and-true}
 use mathlib.Core.List.{List, [], _∷_}
 use Prim.Native.Nat.{ℕ, zero, suc, _+_}
 use native.Mathlib.Nat.{zero-add, add-zero, add-assoc}
 use native.Mathlib.Omega.{arith}
-use lib.Dec.{ltb}
+use lib.Dec.{ltb, eqb}
 use lib.ListN.{length, drop}
-use borrow.Author.Tests.{ltb-true, ltb-false}
+use borrow.Author.Tests.{ltb-true, ltb-false, eqb-true, ne-eqb}
 use Rattle.words.specs.Numbers.{le}
 use Rattle.words.proofs.Choice.{decide}
+use Rattle.words.proofs.Exactly.{equal, at-most, both}
 use Rattle.words.proofs.Numbers.{le-take}
 use Rattle.records.specs.Records.{lengthOf, kindOf, sizeOf, recordsFrom, records, whole, allGood, wellFormedBy}
 use Rattle.records.specs.Choosing.{chosenBy}
@@ -17,7 +18,7 @@ use Rattle.records.proofs.Steps.{records-step, records-end}
 use Rattle.inventory.specs.Inventory.{codeLimit, headSize, flagOf, typeOf, codeOf, nonZero, goodHead, goodCode, goodRecord, wellFormed}
 use Rattle.inventory.specs.Listing.{matches, chosen, listed}
 use Rattle.inventory.specs.Scanning.{ahead, GoodFrom}
-use Rattle.inventory.specs.Search.{nextPlace, goodFor, placeOf, Alike, AllAlike, OtherCodes, SearchAgrees, SearchWitness}
+use Rattle.inventory.specs.Search.{nextPlace, goodFor, placeOf, Alike, AllAlike, OtherCodes, SearchAgrees, SearchWitness, OthersUnjudged}
 use Rattle.inventory.proofs.RecordLaws.{record-size}
 use Rattle.inventory.proofs.Search.{readable-here, behind}
 
@@ -124,3 +125,16 @@ search-witness =
       first = refl;
       second = refl;
     }
+
+-- of another flag or type
+other-type : (flag type : ℕ) (r : List ℕ) → (le 2 r 4 ≡ flag → le 4 r 6 ≡ type → ⊥) → matches flag type r ≡ false
+unfolding matches flagOf typeOf
+other-type flag type r n =
+    decide (eqb (le 2 r 4) flag)
+    (λ e. rw e (ne-eqb (le 4 r 6) type (n (eqb-true (le 2 r 4) flag e))))
+    (λ e. rw e)
+
+pub others-unjudged : OthersUnjudged
+unfolding goodFor goodHead flagOf kindOf codeLimit
+others-unjudged flag type r w n =
+    rw (other-type flag type r n) (simp and-true (both (at-most 15 (sizeOf r)) (both (at-most (sizeOf r) 1037) (both (equal (le 2 r 2) 16) (at-most (le 2 r 4) 1)))))

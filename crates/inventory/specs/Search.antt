@@ -4,7 +4,9 @@ use mathlib.Core.Path.{_≡_}
 use mathlib.Core.Bool.{Bool, true, false, cond, _&&_, _||_, not}
 use mathlib.Core.List.{List, [], _∷_, _++_}
 use lib.ListN.{length, take, drop}
-use Rattle.records.specs.Records.{records, allGood, sizeLimit}
+use Rattle.words.specs.Numbers.{le}
+use Rattle.words.specs.Exactly.{Exactly}
+use Rattle.records.specs.Records.{sizeOf, records, whole, allGood, sizeLimit}
 use Rattle.inventory.specs.Inventory.{headSize, codeOf, goodHead, goodCode, wellFormed}
 use Rattle.inventory.specs.Listing.{matches}
 
@@ -74,3 +76,8 @@ pub record SearchWitness : Type 0 where
   pub refused : wellFormed withNul ≡ false
   pub first : nextPlace 1 9 0 (records withoutNul) ≡ 34
   pub second : nextPlace 1 9 0 (records withNul) ≡ 34
+
+-- 02: "the search moves on by the record's length": of a record of another flag or type nothing is asked but its head, whatever its code holds, "NULs allowed".
+abbrev pub OthersUnjudged : Type 0
+OthersUnjudged = (flag type : ℕ) (r : List ℕ) → whole r ≡ true → (le 2 r 4 ≡ flag → le 4 r 6 ≡ type → ⊥)
+    → Exactly (goodFor flag type r ≡ true) ((15 ≤ sizeOf r) × ((sizeOf r ≤ 1037) × ((le 2 r 2 ≡ 16) × (le 2 r 4 ≤ 1))))

@@ -75,10 +75,10 @@ impl Sha256 {
 /// Takes a block into the words of a digest.
 fn compress(words: &mut [u32; 8], block: &[u8; BLOCK]) {
     let [mut a, mut b, mut c, mut d, mut e, mut f, mut g, mut h] = *words;
-    for (word, round) in schedule(block).into_iter().zip(ROUNDS) {
-        let chosen = (e & f) ^ (!e & g);
+    for (word, round) in schedule(block).iter().zip(&ROUNDS) {
+        let chosen = g ^ (e & (f ^ g));
         let turned = e.rotate_right(6) ^ e.rotate_right(11) ^ e.rotate_right(25);
-        let first = h.wrapping_add(turned).wrapping_add(chosen).wrapping_add(round).wrapping_add(word);
+        let first = h.wrapping_add(turned).wrapping_add(chosen).wrapping_add(*round).wrapping_add(*word);
         let major = (a & b) ^ (a & c) ^ (b & c);
         let second = (a.rotate_right(2) ^ a.rotate_right(13) ^ a.rotate_right(22)).wrapping_add(major);
         (h, g, f, e) = (g, f, e, d.wrapping_add(first));

@@ -8,7 +8,7 @@ use borrow.Author.Tests.{not-true, not-false}
 use denote.Ref.{now}
 use Rattle.records.specs.Records.{sizeOf}
 use Rattle.records.specs.declared.framing.Frame.{Frame}
-use Rattle.inventory.proofs.OtherCodes.{search-agrees, search-witness}
+use Rattle.inventory.proofs.OtherCodes.{search-agrees, search-witness, others-unjudged}
 use Rattle.inventory.proofs.Search.{Sought, sought-start, record-sought, sought-step, sought-place}
 use Rattle.inventory.proofs.searching.next_entry.Statement.{statement}
 use Rattle.inventory.proofs.searching.next_entry.Tie as tie
@@ -36,7 +36,7 @@ loop-again : tie.Need-loop-again Inv-loop μ-loop
 loop-again c = sought-step (c .before .before .before .before .loop .inv) _ (size-is c) (sym (c .before .before .before .has-type .ensures) ∙ not-true _ (c .before .before .if1 .taken))
 
 returns : tie.Need-returns Inv-loop μ-loop
-returns c = (sought-place (c .before .before .loop .inv) (sym (c .before .has-type .ensures) ∙ not-false _ (c .if1 .left)), (search-agrees, search-witness))
+returns c = (sought-place (c .before .before .loop .inv) (sym (c .before .has-type .ensures) ∙ not-false _ (c .if1 .left)), (search-agrees, search-witness, others-unjudged))
 
 pub next-entry-spec : {M : Type 1} → statement M
 next-entry-spec =

@@ -1,0 +1,11 @@
+pub mod Begins
+pub mod Digits
+pub mod Places
+pub mod Sessions
+pub mod Rows
+pub mod Whole
+pub mod Claims
+pub mod Parts
+pub mod Sizes
+pub mod Words
+pub mod Answering
