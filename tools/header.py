@@ -131,14 +131,14 @@ def constants_of(body):
 def numbers(path=PATH):
     """The names that stand for a number, with it, by what they are: of an enum by its name, of others by the first word of theirs.
 
-    The limits, which are the header's first part, are none of them.
+    The limits, which are the header's first part, are none of them, and neither are the second names of statuses, as signed numbers.
     """
     limits, calls, text = path.read_text().partition('/* ---- calls */')
     if not calls or '/* ---- limits */' not in limits:
         raise Unknown('a header that does not begin with its limits')
     text = uncommented(text)
     kinds = {name.removeprefix('draugsten_').upper(): constants_of(body) for name, body in ENUM.findall(text)}
-    for line in re.findall('^#define .*$', text, re.MULTILINE):
+    for line in re.findall(r'^#define (?!\w+_SIGNED ).*$', text, re.MULTILINE):
         found = DEFINE.match(line)
         if not found:
             raise Unknown(f'the line {line!r}')
