@@ -79,7 +79,7 @@ pub enum ViewStep<'a> {
     Entry(Entry<'a>),
     /// All entries were given. Every further step gives this again.
     End,
-    /// The area is refused behind the entries that were given. Every further step gives this again.
+    /// The area is refused after the entries that were given. Every further step gives this again.
     Refused(Refusal),
 }
 
@@ -116,7 +116,7 @@ impl<'a> IndexView<'a> {
         IndexView { area, cursor: ffi::view_start(area) }
     }
 
-    /// The next entry; behind the last one the end or the refusal, again and again.
+    /// The next entry; after the last one the end or the refusal, again and again.
     pub fn step(&mut self) -> ViewStep<'a> {
         let step = ffi::view_step(self.area, self.cursor);
         self.cursor = step.cursor;

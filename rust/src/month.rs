@@ -143,7 +143,7 @@ impl<'a> CountingReplay<'a> {
         self.report()
     }
 
-    /// Reads a trace to its end, or to where the replay stops. Where reading fails, the replay stands behind the last
+    /// Reads a trace to its end, or to where the replay stops. If reading fails, the replay stands after the last
     /// byte that was read, and can go on.
     pub fn read(&mut self, trace: impl Read) -> io::Result<()> {
         if self.is_stopped() {

@@ -57,7 +57,7 @@ impl Registration {
         self.flat.length
     }
 
-    /// The whole copy; behind the structure it has zero bytes, but where `restore` was given others.
+    /// The whole copy; after the structure it has zero bytes, unless `restore` was given others.
     pub fn copy(&self) -> &[u8; STRUCTURE_LIMIT] {
         &self.flat.copy
     }

@@ -159,8 +159,8 @@ impl<'a> Replay<'a> {
         self.report()
     }
 
-    /// Reads a trace to its end, or to where the replay stops, and gives the report of a trace that ends there. Where
-    /// reading fails, the replay stands behind the last byte that was read, and can go on.
+    /// Reads a trace to its end, or to where the replay stops, and gives the report of a trace that ends there. If
+    /// reading fails, the replay stands after the last byte that was read, and can go on.
     pub fn read(&mut self, trace: impl Read) -> io::Result<Report> {
         if !self.is_stopped() {
             read_bursts(trace, |burst| self.feed(burst).is_agreed())?;
@@ -243,7 +243,7 @@ struct Standing {
 }
 
 impl Standing {
-    /// Finds the record of a burst that stopped the replay: the last one taken, or a malformed one behind it.
+    /// Finds the record of a burst that stopped the replay: the last one taken, or a malformed one after it.
     fn stop(self, bytes: &[u8], state: &ffi::Replay) -> Stop {
         let stream = Stream { held: &self.held, bytes };
         let taken = state.records - self.records;
@@ -278,7 +278,7 @@ impl Stream<'_> {
         u16::from_le_bytes([self.byte(at), self.byte(at + 1)])
     }
 
-    /// The place behind the record at a place; behind length and kind alone, where these are wrong.
+    /// The place after the record at a place; after length and kind alone, if these are wrong.
     fn next(&self, at: usize) -> usize {
         let (length, kind) = (self.number(at) as usize, self.number(at + 2));
         let is_kind = (Kind::Before as u16..=Kind::Memory as u16).contains(&kind);

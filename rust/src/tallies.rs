@@ -100,7 +100,7 @@ impl std::error::Error for NotKept {}
 
 /// A journal in a lent buffer, with its tallies beside it. It is changed by appends, joins and clears alone, and by the bursts
 /// of an [`Intake`](crate::Intake), so the bytes in use are always a well-formed journal, and the tallies those of
-/// [`recount`]. What is refused changes nothing, not even a byte of the buffer behind the use.
+/// [`recount`]. What is refused changes nothing, not even a byte of the buffer after the use.
 ///
 /// ```
 /// use draugsten::{recount, Forecast, NotKept, TalliedJournal};
@@ -202,7 +202,7 @@ pub fn recount(journal: &[u8]) -> Result<Tallies, NotKept> {
 /// What update-nodes would answer.
 #[derive(Clone, Copy, PartialEq, Eq, Debug)]
 pub enum Forecast {
-    /// Status 0: nothing remains behind the call.
+    /// Status 0: nothing remains after the call.
     Done,
     /// Status 1: more remains.
     CallAgain {

@@ -20,7 +20,7 @@ pub enum Kind {
     Memory = 34,
 }
 
-/// Puts a record behind the bytes of a trace. Its body, of at most `BODY_LIMIT` bytes, comes in two parts.
+/// Puts a record after the bytes of a trace. Its body, of at most `BODY_LIMIT` bytes, comes in two parts.
 pub(crate) fn put(trace: &mut Vec<u8>, kind: Kind, front: &[u8], rest: &[u8]) {
     let length = 2 + front.len() + rest.len();
     trace.extend((length as u16).to_le_bytes());

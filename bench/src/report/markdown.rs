@@ -74,7 +74,7 @@ fn tallies_section(tallies: &[Kept]) -> Vec<String> {
     lines.push(String::from(
         "A journal of records of kinds 1 to 4 that is kept with its tallies, beside another way to the same; the two take \
         turns. An append does not depend on the bytes in use: a hundred at 1,000,000 bytes stand beside the same hundred at \
-        1,000. Rust that recounts goes over the whole journal behind each append.\n",
+        1,000. Rust that recounts goes over the whole journal after each append.\n",
     ));
     let names = ["", "beside", "bytes", "its time", library::SIDE.name, "ratio", "over the runs"];
     lines.extend(heading(&names, 2));
@@ -149,7 +149,7 @@ fn replay_section(measured: &Measured) -> Vec<String> {
     ));
     lines.extend(replays(&measured.replays));
     lines.push(String::from(
-        "\nA trace of records that set 4,096 bytes of memory each, one page behind the other, beside memcpy of these bytes \
+        "\nA trace of records that set 4,096 bytes of memory each, one page after the other, beside memcpy of these bytes \
         to the same places, a page at a time.\n",
     ));
     lines.extend(settings(&measured.settings));

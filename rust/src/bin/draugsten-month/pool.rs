@@ -135,7 +135,7 @@ impl Pool {
 }
 
 impl Queue {
-    /// Whether the first session is replayed, or the list ended behind the last that was handed out.
+    /// Whether the first session is replayed, or the list ended after the last that was handed out.
     fn is_ready(&self) -> bool {
         self.results.front().map_or(self.end.is_some(), Option::is_some)
     }

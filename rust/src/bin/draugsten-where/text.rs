@@ -10,7 +10,7 @@ pub fn not_found(index: u32, fixed: &[u8]) -> String {
         None if fixed.is_empty() => String::from("the fixed list is empty"),
         None => format!("the last entry of the fixed list is {}", entries.len() - 1),
         Some(&[0]) => format!("entry {index} of the fixed list is empty"),
-        Some(_) => format!("entry {index} of the fixed list, its last, has no NUL behind it"),
+        Some(_) => format!("entry {index} of the fixed list, its last, has no NUL after it"),
     };
     format!("index {index} is not found: the area does not list it, and {why}")
 }
@@ -26,7 +26,7 @@ mod tests {
         assert_eq!(told(0, b""), format!("{} the fixed list is empty", front(0)));
         assert_eq!(told(2, b"a\0b\0"), format!("{} the last entry of the fixed list is 1", front(2)));
         assert_eq!(told(1, b"a\0\0b\0"), format!("{} entry 1 of the fixed list is empty", front(1)));
-        let last = "entry 1 of the fixed list, its last, has no NUL behind it";
+        let last = "entry 1 of the fixed list, its last, has no NUL after it";
         assert_eq!(told(1, b"a\0bc"), format!("{} {last}", front(1)));
         let never = "index 4294967295 is never found; its entries are told apart by their codes";
         assert_eq!(told(u32::MAX, b"a\0"), never);

@@ -9,7 +9,7 @@ use std::os::fd::AsFd;
 use std::path::{Path, PathBuf};
 
 /// Memory has at most so many bytes here. An address is below 2^32; a record sets up to 4,096 bytes from it on, a dump
-/// structure has up to 512, and the areas of the other calls end at 2^32. What stands behind changes no report.
+/// structure has up to 512, and the areas of the other calls end at 2^32. The bytes after these change no report.
 pub const MEMORY_LIMIT: u64 = (1 << 32) + 4096;
 
 /// What memory is before the first record.
@@ -52,7 +52,7 @@ fn read_image(path: &Path, most: u64) -> Result<Vec<u8>, String> {
     let name = named("memory", path);
     let image = read_within(path, most).map_err(|error| failed(&name, &error))?;
     image.ok_or(format!(
-        "{name} has more than {most} bytes; give its first {most}, behind which no call and no record reaches"
+        "{name} has more than {most} bytes; give its first {most}; no call and no record reaches past them"
     ))
 }
 
@@ -113,9 +113,9 @@ impl Stream {
         length.checked_sub(self.file.stream_position().ok()?)
     }
 
-    /// Why it cannot be read, behind so many bytes.
+    /// Why it cannot be read any further, after so many bytes.
     pub fn failed(&self, error: &io::Error, bytes: u64) -> String {
-        let place = if bytes == 0 { String::new() } else { format!(" behind byte {bytes}") };
+        let place = if bytes == 0 { String::new() } else { format!(" after byte {bytes}") };
         failed(&format!("{}{place}", self.name), error)
     }
 }
@@ -134,7 +134,8 @@ mod tests {
         assert_eq!(read_image(file, size + 1).as_ref(), Ok(&bytes));
         assert!(read_image(file, size - 1).unwrap_err().contains(&format!("has more than {} bytes", size - 1)));
         // A device tells no size.
-        let message = "the memory /dev/zero has more than 99 bytes; give its first 99, behind which no call and no record reaches";
+        let message =
+            "the memory /dev/zero has more than 99 bytes; give its first 99; no call and no record reaches past them";
         assert_eq!(read_image(Path::new("/dev/zero"), 99), Err(String::from(message)));
         assert_eq!(read_image(Path::new("/dev/null"), 0), Ok(vec![]));
     }
