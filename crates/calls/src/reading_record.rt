@@ -2,7 +2,7 @@
 use inventory::{Edition, StartingNumber};
 
 // The flag and type that are read, the number of the entry due, and the edition over which the reading began. Every value is a record.
-#[derive(Drop)]
+#[derive(Clone, Copy)]
 pub struct ReadingRecord {
     pub flag: u32,
     pub item_type: u32,

@@ -3,7 +3,7 @@ ghost use Rattle.std.specs.Prelude.{◌≡◌};
 ghost use Rattle.calls.specs.Status.{is_given, status_word};
 
 // What the head of an argument buffer gives: a status is in the buffer, or why none is.
-#[derive(Drop)]
+#[derive(Clone, Copy)]
 pub enum Number {
     Given,
     Short,
@@ -11,7 +11,7 @@ pub enum Number {
     TooMany,
 }
 
-#[derive(Drop)]
+#[derive(Clone, Copy)]
 pub enum Status {
     Done,
     Again,

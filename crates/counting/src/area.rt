@@ -7,7 +7,7 @@ ghost use Rattle.counting.specs.Area.{no_tally, words_used, tally_of};
 use node_area::Check;
 
 // How many operations an area hands out, and how many words they take, operators and operands.
-#[derive(Drop)]
+#[derive(Clone, Copy)]
 pub struct Tally {
     pub operations: u64,
     pub words: u64,

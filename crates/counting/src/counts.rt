@@ -16,7 +16,7 @@ pub const ROWS: usize = 28;
 
 // For each token 1 to 4 the calls with each status, in the order 0, 1, -1, -3, -4, -9, -10; of update-nodes the operations handed out and the words used.
 #[repr(C)]
-#[derive(Drop)]
+#[derive(Clone, Copy)]
 pub struct Counts {
     pub rows: [u64; ROWS],
     pub operations: u64,

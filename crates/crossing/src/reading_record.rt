@@ -8,7 +8,7 @@ use inventory::{Edition, StartingNumber};
 
 // A reading record: flag, type, the number of the entry due, and the edition. Every value is one.
 #[repr(C)]
-#[derive(Drop)]
+#[derive(Clone, Copy)]
 pub struct FlatReading {
     pub flag: u32,
     pub item_type: u32,

@@ -7,7 +7,7 @@ use dump::{COPY_SIZE, Phase, Registration};
 
 // A registration: its phase (0 none, 1 registered, 2 active), and the copied structure, which is the first `length` bytes of `copy`.
 #[repr(C)]
-#[derive(Drop)]
+#[derive(Clone, Copy)]
 pub struct FlatRegistration {
     pub phase: u32,
     pub length: usize,

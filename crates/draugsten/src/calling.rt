@@ -12,7 +12,7 @@ use inventory::Edition;
 
 // What a call answers: its number, and the registration and the reading record afterwards.
 #[repr(C)]
-#[derive(Drop)]
+#[derive(Clone, Copy)]
 pub struct FlatAnswer {
     pub number: u32,
     pub registration: FlatRegistration,

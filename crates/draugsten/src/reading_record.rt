@@ -9,7 +9,7 @@ use inventory::{Edit, Edition};
 
 // What comes of an edit: whether it is taken (1 or 0), and the edition afterwards.
 #[repr(C)]
-#[derive(Drop)]
+#[derive(Clone, Copy)]
 pub struct FlatEdit {
     pub taken: u32,
     pub edition: u32,

@@ -10,7 +10,7 @@ use dump::Verdict;
 
 // What a run answers: its number, its status, and the registration afterwards.
 #[repr(C)]
-#[derive(Drop)]
+#[derive(Clone, Copy)]
 pub struct FlatRun {
     pub number: u32,
     pub status: u32,

@@ -9,7 +9,7 @@ use locations::Location;
 // What a lookup answers: 0 where the code was found, 34 where it was not, or the number of the area's refusal, 30 to 33; with 0 the buffer, 1 the
 // area and 2 the fixed list, and the offset and the length of the code in it; with a refusal its byte offset in the area.
 #[repr(C)]
-#[derive(Drop)]
+#[derive(Clone, Copy)]
 pub struct FlatLocation {
     pub number: u32,
     pub buffer: u32,

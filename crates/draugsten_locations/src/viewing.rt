@@ -10,7 +10,7 @@ use locations::{Advance, Given};
 
 // Where a view stands: so many sets are still to come from byte `at` on.
 #[repr(C)]
-#[derive(Drop)]
+#[derive(Clone, Copy)]
 pub struct FlatCursor {
     pub at: usize,
     pub left: usize,
@@ -19,7 +19,7 @@ pub struct FlatCursor {
 // What a step answers: 0 with an entry, its index and where its code stands in the area; 35 at the end; or the number of the area's refusal, 30 to
 // 33, with its byte offset. And the cursor behind it.
 #[repr(C)]
-#[derive(Drop)]
+#[derive(Clone, Copy)]
 pub struct FlatStep {
     pub number: u32,
     pub index: u32,

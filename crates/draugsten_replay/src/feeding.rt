@@ -10,7 +10,7 @@ use replay_states::{
 
 // What a burst gives: 0 where it was fed, or the number of its refusal, and the replay afterwards.
 #[repr(C)]
-#[derive(Drop)]
+#[derive(Clone, Copy)]
 pub struct FlatFed {
     pub number: u32,
     pub replay: FlatReplay,
@@ -18,7 +18,7 @@ pub struct FlatFed {
 
 // What an end gives: 0, or the number of its refusal, and the report.
 #[repr(C)]
-#[derive(Drop)]
+#[derive(Clone, Copy)]
 pub struct FlatEnded {
     pub number: u32,
     pub report: FlatReport,

@@ -19,7 +19,7 @@ use totals::Totals;
 
 // A replay, and what its calls counted so far.
 #[repr(C)]
-#[derive(Drop)]
+#[derive(Clone, Copy)]
 pub struct FlatCounting {
     pub replay: FlatReplay,
     pub counts: Counts,
@@ -27,7 +27,7 @@ pub struct FlatCounting {
 
 // What a burst gives: 0 where it was fed, or the number of its refusal, and the replay with its counts afterwards.
 #[repr(C)]
-#[derive(Drop)]
+#[derive(Clone, Copy)]
 pub struct FlatCounted {
     pub number: u32,
     pub counting: FlatCounting,
@@ -35,7 +35,7 @@ pub struct FlatCounted {
 
 // What adding a trace gives: 0 where its counts were added, or the number of the refusal, the report of the trace, and the totals.
 #[repr(C)]
-#[derive(Drop)]
+#[derive(Clone, Copy)]
 pub struct FlatAdded {
     pub number: u32,
     pub report: FlatReport,
@@ -44,7 +44,7 @@ pub struct FlatAdded {
 
 // What adding other totals gives: 0 where they were added, or the number of the refusal, and the totals.
 #[repr(C)]
-#[derive(Drop)]
+#[derive(Clone, Copy)]
 pub struct FlatMerged {
     pub number: u32,
     pub totals: Totals,

@@ -12,7 +12,7 @@ use Rattle.words.proofs.Choice.{decide}
 use Rattle.records.specs.Cutting.{due, ripe, Standing}
 use Rattle.tallies.specs.Keeping.{is_done, one_record}
 use Rattle.tallies.proofs.Outcomes.{attach_judged}
-use Rattle.tallies.proofs.Kept.{counted_fits}
+use Rattle.tallies.proofs.KeptLaws.{counted_fits}
 use Rattle.intake.specs.Taking.{good_front, Taking}
 use Rattle.intake.specs.Bursts.{Ready, end_of}
 use Rattle.intake.proofs.Fronts.{due_size, due_four}

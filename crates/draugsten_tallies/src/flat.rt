@@ -7,7 +7,7 @@ use tallies::{Tallied, Tallies};
 
 // How many operations of each opcode a row holds.
 #[repr(C)]
-#[derive(Drop)]
+#[derive(Clone, Copy)]
 pub struct FlatCounts {
     pub deletes: u64,
     pub updates: u64,
@@ -16,7 +16,7 @@ pub struct FlatCounts {
 
 // The rows of negative scopes, of scopes 1 and 2, and of scope 3 over all units.
 #[repr(C)]
-#[derive(Drop)]
+#[derive(Clone, Copy)]
 pub struct FlatTallies {
     pub negative: FlatCounts,
     pub first: FlatCounts,
@@ -26,7 +26,7 @@ pub struct FlatTallies {
 
 // How many bytes of a journal's buffer are in use, and its tallies.
 #[repr(C)]
-#[derive(Drop)]
+#[derive(Clone, Copy)]
 pub struct FlatTallied {
     pub used: usize,
     pub tallies: FlatTallies,

@@ -10,7 +10,7 @@ use node_area::StateVariable;
 
 // What update-nodes would answer: its status as a word, and the state that it would leave.
 #[repr(C)]
-#[derive(Drop)]
+#[derive(Clone, Copy)]
 pub struct FlatForecast {
     pub status: u32,
     pub next: u64,

@@ -17,7 +17,7 @@ const STORE_SIZE: usize = 32_808;
 // Where an intake stands between bursts: its journal's use and tallies, the number of the record that it is inside or comes to, how many bytes of a
 // record its store holds, and the fault that it met, 50 malformed or 51 no room, 0 where it met none.
 #[repr(C)]
-#[derive(Drop)]
+#[derive(Clone, Copy)]
 pub struct FlatIntake {
     pub journal: FlatTallied,
     pub number: u64,
@@ -27,7 +27,7 @@ pub struct FlatIntake {
 
 // What a burst answers: 0 or the number of a refusal, the number of the record that was refused, and where the intake stands now.
 #[repr(C)]
-#[derive(Drop)]
+#[derive(Clone, Copy)]
 pub struct FlatBurst {
     pub number: u32,
     pub in_record: u64,
@@ -36,7 +36,7 @@ pub struct FlatBurst {
 
 // What an end answers: 0, or the number of a refusal and the number of the record.
 #[repr(C)]
-#[derive(Drop)]
+#[derive(Clone, Copy)]
 pub struct FlatEnd {
     pub number: u32,
     pub in_record: u64,

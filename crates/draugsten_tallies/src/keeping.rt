@@ -10,7 +10,7 @@ use tallies::{Kept, Outcome};
 
 // What an operation answers: 0 or the number of its refusal, and the journal's use and tallies afterwards.
 #[repr(C)]
-#[derive(Drop)]
+#[derive(Clone, Copy)]
 pub struct FlatKept {
     pub number: u32,
     pub journal: FlatTallied,
@@ -18,7 +18,7 @@ pub struct FlatKept {
 
 // What a count of a whole journal answers: 0 or 50, malformed, and its tallies.
 #[repr(C)]
-#[derive(Drop)]
+#[derive(Clone, Copy)]
 pub struct FlatRecount {
     pub number: u32,
     pub tallies: FlatTallies,

@@ -1,4 +1,6 @@
 // The kernel dump structure and its registration.
+#![tactic(auto)]
+
 mod registration;
 mod structure;
 

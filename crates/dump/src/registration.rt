@@ -7,7 +7,7 @@ use crate::structure::{HEADER_SIZE, is_structure};
 // The bytes of a copy.
 pub const COPY_SIZE: usize = 512;
 
-#[derive(Drop)]
+#[derive(Clone, Copy)]
 pub enum Phase {
     Unregistered,
     Registered,
@@ -15,7 +15,7 @@ pub enum Phase {
 }
 
 // The structure's copy is the first `len` bytes of `copy`.
-#[derive(Drop)]
+#[derive(Clone, Copy)]
 pub struct Registration {
     pub phase: Phase,
     pub len: usize,
@@ -23,7 +23,7 @@ pub struct Registration {
 }
 
 // What comes of a command.
-#[derive(Drop)]
+#[derive(Clone, Copy)]
 pub enum Verdict {
     Done,
     Parameter,
@@ -32,7 +32,7 @@ pub enum Verdict {
 }
 
 // What a command hands back: the next registration, and what came of it.
-#[derive(Drop)]
+#[derive(Clone, Copy)]
 pub struct Configured {
     pub next: Registration,
     pub verdict: Verdict,

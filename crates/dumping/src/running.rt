@@ -17,7 +17,7 @@ const RUN: u16 = 32_768;
 const SECTION_ERROR: u16 = 8192;
 
 // What a section came to: its error flags, and how many bytes were copied.
-#[derive(Drop)]
+#[derive(Clone, Copy)]
 struct Copied {
     errors: u16,
     actual: u64,

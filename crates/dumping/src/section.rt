@@ -4,7 +4,7 @@ ghost use Rattle.dumping.specs.Section.{has, error_flags, actual_length};
 ghost use Rattle.dumping.specs.Claims.Dumping.{SectionClaims};
 
 // A section of a structure: its request flags and type, where it begins to read, how many bytes it asks for, and where they go.
-#[derive(Drop)]
+#[derive(Clone, Copy)]
 pub struct Section {
     pub request: u32,
     pub kind: u16,

@@ -13,7 +13,7 @@ use tallies::Tallies;
 const FINISHED: u64 = 0;
 
 // What a call would answer: its status, and the State Variable that it would leave, in 64 bits, since tallies that no journal has can pass 32.
-#[derive(Drop)]
+#[derive(Clone, Copy)]
 pub struct Forecast {
     pub status: Status,
     pub next: u64,

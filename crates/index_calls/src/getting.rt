@@ -10,7 +10,7 @@ use calls::{ReadingRecord, Request, Status};
 use inventory::{Edition, Judgement, StartingNumber};
 
 // What a call answers: its status, and the Next Starting Number; for a refused call the number that was asked for.
-#[derive(Drop)]
+#[derive(Clone, Copy)]
 pub struct Listed {
     pub status: Status,
     pub next: StartingNumber,

@@ -15,7 +15,7 @@ use Rattle.inventory.specs.Listing.{Entry, listed}
 use Rattle.inventory.specs.Claims.Scanning.{ahead, GoodFrom}
 use Rattle.inventory.specs.declared.locating.Located.{Located}
 use Rattle.inventory.specs.Inner.Located.{located_at, entry_in}
-use Rattle.inventory.proofs.Located.{code_sized, located_entry, located_inside}
+use Rattle.inventory.proofs.LocatedLaws.{code_sized, located_entry, located_inside}
 use Rattle.inventory.proofs.Search.{NextMatch}
 use Rattle.indices.specs.Area.{filled, entry_size, code_field, entry_bytes, entries_bytes, fitting, run, answer, written, area_after}
 use Rattle.indices.specs.Claims.Writing.{DueEntries}

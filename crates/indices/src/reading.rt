@@ -14,7 +14,7 @@ use inventory::CODE_LIMIT;
 const FIELD_LIMIT: u32 = 4 * (CODE_LIMIT as u32 / 4 + 1);
 
 // Why an area is refused.
-#[derive(Drop)]
+#[derive(Clone, Copy)]
 pub enum Refusal {
     Short,
     Past,
@@ -23,14 +23,14 @@ pub enum Refusal {
 }
 
 // What is found of a set.
-#[derive(Drop)]
+#[derive(Clone, Copy)]
 pub enum Fault {
     Fine,
     Bad(Refusal),
 }
 
 // What a check of an area finds: the number of its entries, or a refusal with its byte offset.
-#[derive(Drop)]
+#[derive(Clone, Copy)]
 pub enum Check {
     Entries(usize),
     Refused(Refusal, usize),
@@ -146,14 +146,14 @@ pub fn check_area(area: &[u8]) -> Check
 }
 
 // Where a reader stands: so many sets are still to come from byte `at` on.
-#[derive(Drop)]
+#[derive(Clone, Copy)]
 pub struct Cursor {
     pub at: usize,
     pub left: usize,
 }
 
 // A set: its index, and where its code stands in the area, without its NULs.
-#[derive(Drop)]
+#[derive(Clone, Copy)]
 pub struct Set {
     pub index: u32,
     pub start: usize,
@@ -161,7 +161,7 @@ pub struct Set {
 }
 
 // What a step gives: a set with the cursor behind it, or the end.
-#[derive(Drop)]
+#[derive(Clone, Copy)]
 pub enum Next {
     Found(Set, Cursor),
     End,

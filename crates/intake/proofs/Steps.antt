@@ -23,7 +23,7 @@ use Rattle.tallies.specs.Sessions as sessions
 use Rattle.tallies.specs.Claims.Sessions as sessions-claims
 use Rattle.tallies.proofs.Outcomes.{attach_judged, done_room, by_outcome}
 use Rattle.tallies.proofs.Recounts.{Few, EachFew, tallies_few, recount_few}
-use Rattle.tallies.proofs.Kept.{append_keeps}
+use Rattle.tallies.proofs.KeptLaws.{append_keeps}
 use Rattle.tallies.proofs.Claims.{tally_claims}
 use Rattle.intake.specs.Taking.{Taking, taking_of, stopped, capped, step, reader}
 use Rattle.intake.specs.Inner.Terms.{Sound}

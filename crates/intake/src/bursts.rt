@@ -13,14 +13,14 @@ use records::fill;
 use tallies::{Outcome, Tallied};
 
 // Where an intake stands between bursts: between records as its place says, and how many bytes of an unfinished record are held.
-#[derive(Drop)]
+#[derive(Clone, Copy)]
 pub struct Intake {
     pub place: Place,
     pub held: usize,
 }
 
 // What is held after the held record was looked to, and the place that the burst was used up to.
-#[derive(Drop)]
+#[derive(Clone, Copy)]
 struct Finished {
     place: Place,
     held: usize,
@@ -152,7 +152,7 @@ pub fn burst(buffer: &mut [u8], store: &mut [u8], from: Intake, bytes: &[u8]) ->
 }
 
 // What an end says: nothing, that the stream ends inside the record of this number, or the refusal of the record of this number.
-#[derive(Drop)]
+#[derive(Clone, Copy)]
 pub enum Ending {
     Nothing,
     Unfinished(u64),

@@ -14,14 +14,14 @@ use stretch::Stretch;
 const NODE_LIMIT: usize = 18;
 
 // Where an intake stands behind the records that were taken, and the place of the burst behind them.
-#[derive(Drop)]
+#[derive(Clone, Copy)]
 pub struct Passed {
     pub place: Place,
     pub at: usize,
 }
 
 // The intake after a sweep, and the place of the burst behind what was taken.
-#[derive(Drop)]
+#[derive(Clone, Copy)]
 pub struct Swept {
     pub intake: Intake,
     pub at: usize,

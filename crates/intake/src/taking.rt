@@ -7,7 +7,7 @@ use tallies::{Outcome, Tallied};
 
 // Where an intake stands between records: the use and the tallies of its journal, the number of the record that it is inside or comes to, and the
 // fault that it met; Done is none.
-#[derive(Drop)]
+#[derive(Clone, Copy)]
 pub struct Place {
     pub journal: Tallied,
     pub number: u64,

@@ -1,7 +1,7 @@
 pub mod Editions
 pub mod Codes
 pub mod RecordLaws
-pub mod Located
+pub mod LocatedLaws
 pub mod Entries
 pub mod Listed
 pub mod Search

@@ -4,11 +4,11 @@ ghost use Rattle.inventory.specs.Edition.{edit_of};
 ghost use Rattle.inventory.specs.Claims.Edition.{EditionRises};
 
 // The edition of an inventory: it rises by one with each edit.
-#[derive(Drop)]
+#[derive(Clone, Copy)]
 pub struct Edition(pub u32);
 
 // What comes of an edit: it is taken, and this is the edition afterwards; or it is not taken.
-#[derive(Drop)]
+#[derive(Clone, Copy)]
 pub enum Edit {
     Taken(Edition),
     AtTop,

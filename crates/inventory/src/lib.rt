@@ -1,4 +1,6 @@
 // The inventory: its records, and the entries of a flag and type.
+#![tactic(auto)]
+
 mod edition;
 mod judging;
 mod locating;

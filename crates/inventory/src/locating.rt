@@ -6,7 +6,7 @@ ghost use Rattle.inventory.specs.Inner.Located.{located_at};
 use crate::judging::HEAD_SIZE;
 
 // A record by its parts: the bytes that it takes, its index, and where its code stands in the inventory.
-#[derive(Drop)]
+#[derive(Clone, Copy)]
 pub struct Located {
     pub size: usize,
     pub index: u32,

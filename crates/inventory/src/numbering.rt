@@ -5,7 +5,7 @@ ghost use Rattle.records.specs.Records.{size_limit};
 ghost use Rattle.words.specs.Numbers.{be32, be_bytes};
 
 // The Starting Number: the number of the entry due. It counts from 1.
-#[derive(Drop)]
+#[derive(Clone, Copy)]
 pub struct StartingNumber(pub u32);
 
 impl StartingNumber {

@@ -7,7 +7,7 @@ use crate::numbering::StartingNumber;
 
 // What a scan finds: the number of entries, and a place from which on the list holds the entries from the one due on, which means
 // nothing where there is no entry due.
-#[derive(Drop)]
+#[derive(Clone, Copy)]
 pub enum Judgement {
     Malformed,
     Counted(usize, usize),

@@ -8,7 +8,7 @@ ghost use Rattle.records.specs.Records.{size_of};
 use records::Frame;
 
 // What a record tells of itself before its operands.
-#[derive(Drop)]
+#[derive(Clone, Copy)]
 pub struct Shape {
     pub size: usize,
     pub kind: usize,
@@ -16,7 +16,7 @@ pub struct Shape {
 }
 
 // What stands at a place: no good record, or one of this shape.
-#[derive(Drop)]
+#[derive(Clone, Copy)]
 pub enum Verdict {
     Bad,
     Good(Shape),

@@ -1,4 +1,6 @@
 // The journal: its records, the scope table, the reportable list, and the walk over a journal that was judged. The scan stands above it.
+#![tactic(auto)]
+
 mod counts;
 mod judging;
 mod marks;

@@ -10,7 +10,7 @@ pub const COUNT_LIMIT: u64 = 2_097_152;
 pub const LARGEST_WEIGHT: u64 = 4_398_046_511_104;
 
 // A place of the journal, and how many operations of an opcode are passed over from there.
-#[derive(Drop)]
+#[derive(Clone, Copy)]
 pub struct Place {
     pub at: usize,
     pub skip: usize,

@@ -1,5 +1,5 @@
 // An operation: an opcode with its operands.
-#[derive(Drop)]
+#[derive(Clone, Copy)]
 pub enum Operation {
     // The phandle.
     Delete(u32),

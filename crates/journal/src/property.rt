@@ -20,7 +20,7 @@ const LEAST_SIZE: usize = NAME_AT + 2;
 const MOST_BARE: usize = NAME_AT + NAME_LIMIT + 1;
 
 // A record of a property: the bytes that it takes, its phandle, whether it is a deletion, and the length of the name.
-#[derive(Drop)]
+#[derive(Clone, Copy)]
 pub struct PropertyRecord {
     pub size: usize,
     pub phandle: u32,
@@ -29,7 +29,7 @@ pub struct PropertyRecord {
 }
 
 // What stands at a place: a good record of a property, or something else.
-#[derive(Drop)]
+#[derive(Clone, Copy)]
 pub enum Held {
     Other,
     Property(PropertyRecord),

@@ -15,14 +15,14 @@ const ROWS: [[u8; 17]; 4] = [
 ];
 
 // The units that a selection asks for: all of them, or the one of this address.
-#[derive(Drop)]
+#[derive(Clone, Copy)]
 pub enum Units {
     All,
     One(u64),
 }
 
 // A scope's row; a scope with none is not valid, and reports nothing.
-#[derive(Drop)]
+#[derive(Clone, Copy)]
 pub struct Row {
     pub valid: bool,
     pub sets: [u8; 17],

@@ -52,7 +52,7 @@ pub fn read_operand(j: &[u8], at: usize) -> u32
 }
 
 // A record that a walk visits: its size, and 1 where the row reports it under the opcode, else 0.
-#[derive(Drop)]
+#[derive(Clone, Copy)]
 pub struct Visited {
     pub size: usize,
     pub reported: usize,

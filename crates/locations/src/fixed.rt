@@ -10,7 +10,7 @@ use crate::listed::Part;
 const BLOCK: usize = 64;
 
 // How many entries are still to be passed from a place on.
-#[derive(Drop)]
+#[derive(Clone, Copy)]
 struct Place {
     at: usize,
     left: usize,

@@ -6,14 +6,14 @@ ghost use Rattle.locations.specs.Inner.Terms.{Sets, listing_of};
 use indices::{Fault, Refusal};
 
 // Where a code stands in its buffer, without its NULs.
-#[derive(Drop)]
+#[derive(Clone, Copy)]
 pub struct Part {
     pub start: usize,
     pub length: usize,
 }
 
 // What an area tells of an index: why it is refused, or the byte offset of the first set that lists the index, 0 where none does.
-#[derive(Drop)]
+#[derive(Clone, Copy)]
 pub enum Listing {
     Refused(Refusal, usize),
     First(usize),

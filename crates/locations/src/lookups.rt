@@ -12,7 +12,7 @@ use indices::Refusal;
 const NO_INDEX: u32 = 0xffff_ffff;
 
 // Where the code of an index stands: in the area or in the fixed list; or that it is not found, or why the area is refused.
-#[derive(Drop)]
+#[derive(Clone, Copy)]
 pub enum Location {
     Refused(Refusal, usize),
     NotFound,
@@ -21,7 +21,7 @@ pub enum Location {
 }
 
 // What the check of a lookup tells.
-#[derive(Drop)]
+#[derive(Clone, Copy)]
 pub enum Answer {
     Refused(Refusal, usize),
     NotFound,
@@ -29,7 +29,7 @@ pub enum Answer {
 }
 
 // A part by its bounds: of the fixed list or of the area, from one place up to another.
-#[derive(Drop)]
+#[derive(Clone, Copy)]
 struct Bounds {
     fixed: bool,
     start: usize,

@@ -11,7 +11,7 @@ use crate::listed::{Part, part_at};
 use indices::{Cursor, Fault, Refusal};
 
 // What a step gives: an entry, its index and where its code stands in the area; the end; or the refusal of the area with its byte offset.
-#[derive(Drop)]
+#[derive(Clone, Copy)]
 pub enum Given {
     Entry(u32, Part),
     End,
@@ -19,21 +19,21 @@ pub enum Given {
 }
 
 // What a step gives, and the cursor behind it. At the end and at a refusal the cursor stays.
-#[derive(Drop)]
+#[derive(Clone, Copy)]
 pub struct Advance {
     pub given: Given,
     pub cursor: Cursor,
 }
 
 // The area, and where the view stands.
-#[derive(Drop)]
+#[derive(Clone, Copy)]
 pub struct View<'a> {
     pub area: &'a [u8],
     pub cursor: Cursor,
 }
 
 // What a step gives, beside the view behind it.
-#[derive(Drop)]
+#[derive(Clone, Copy)]
 pub struct Stepped<'a> {
     pub given: Given,
     pub view: View<'a>,

@@ -6,14 +6,14 @@ ghost use Rattle.month_reading.specs.Inner.Terms.{count_of, no_row, row_in};
 use month_table::{put_label, put_row, put_session};
 
 // A count, if it is below 2^64.
-#[derive(Drop)]
+#[derive(Clone, Copy)]
 pub struct Count {
     pub fits: bool,
     pub value: u64,
 }
 
 // A row that begins a text, its count and its length; zeros if none begins it.
-#[derive(Drop)]
+#[derive(Clone, Copy)]
 pub struct Row {
     pub taken: bool,
     pub count: u64,

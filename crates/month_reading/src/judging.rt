@@ -6,7 +6,7 @@ use crate::finding::{begins_with, is_session, read_row};
 use month_table::{FIGURES, place_of};
 
 // What the rows of the figures give: the number of the first line that is wrong, or 0, the figures, and the place after them.
-#[derive(Drop)]
+#[derive(Clone, Copy)]
 pub struct Rows {
     pub wrong: u64,
     pub at: usize,
@@ -14,14 +14,14 @@ pub struct Rows {
 }
 
 // What the rows of the sessions give: the number of the first line that is wrong, or 0, and how many there are.
-#[derive(Drop)]
+#[derive(Clone, Copy)]
 pub struct Sessions {
     pub wrong: u64,
     pub count: usize,
 }
 
 // What a text gives: the number of the first line that is wrong, or 0, the figures, and how many sessions there are from a place on.
-#[derive(Drop)]
+#[derive(Clone, Copy)]
 pub struct Judged {
     pub wrong: u64,
     pub at: usize,

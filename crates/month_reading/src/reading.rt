@@ -14,7 +14,7 @@ use printing::put_bytes;
 // What reading gives: 0, the number of sessions and the figures; 71 and the line that is not written so; or 70 and the number of sessions,
 // whose digests the buffer cannot hold.
 #[repr(C)]
-#[derive(Drop)]
+#[derive(Clone, Copy)]
 pub struct Read {
     pub number: u32,
     pub line: u64,

@@ -11,7 +11,7 @@ use printing::{put_bytes, put_ended, put_value_bytes};
 pub const FIGURES: usize = 39;
 
 #[repr(C)]
-#[derive(Drop)]
+#[derive(Clone, Copy)]
 pub struct Table {
     pub figures: [u64; FIGURES],
 }

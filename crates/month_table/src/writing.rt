@@ -9,7 +9,7 @@ use printing::put_bytes;
 
 // What writing gives: 0 and the length of the text, or the number of the refusal; 70 gives the length that is needed.
 #[repr(C)]
-#[derive(Drop)]
+#[derive(Clone, Copy)]
 pub struct Written {
     pub number: u32,
     pub length: usize,

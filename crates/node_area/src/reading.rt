@@ -12,7 +12,7 @@ use crate::head::{AREA_SIZE, HEAD_SIZE, is_reserved, reserved_from};
 use journal::Operation;
 
 // Why an area is refused.
-#[derive(Drop)]
+#[derive(Clone, Copy)]
 pub enum Refusal {
     Size,
     Reserved,
@@ -23,14 +23,14 @@ pub enum Refusal {
     Unterminated,
 }
 
-#[derive(Drop)]
+#[derive(Clone, Copy)]
 pub enum Fault {
     Fine,
     Bad(Refusal),
 }
 
 // What a check of an area finds: the number of its operations, or a refusal with its byte offset.
-#[derive(Drop)]
+#[derive(Clone, Copy)]
 pub enum Check {
     Entries(usize),
     Refused(Refusal, usize),
@@ -137,7 +137,7 @@ pub fn check_area(scope: u32, area: &[u8]) -> Check
 }
 
 // Where a reader stands: `left` operand words of an opcode are still to come from byte `at` on.
-#[derive(Drop)]
+#[derive(Clone, Copy)]
 pub struct Cursor {
     pub at: usize,
     pub code: u32,
@@ -145,7 +145,7 @@ pub struct Cursor {
 }
 
 // What a step gives: an operation with the cursor behind it, or the end.
-#[derive(Drop)]
+#[derive(Clone, Copy)]
 pub enum Next {
     Entry(Operation, Cursor),
     End,

@@ -8,7 +8,7 @@ ghost use Rattle.node_area.specs.State.{total, is_within, passed_of, remaining_o
 use journal::Counts;
 
 // The State Variable: how many operations were reported before. It counts from 0.
-#[derive(Drop)]
+#[derive(Clone, Copy)]
 pub struct StateVariable(pub u32);
 
 impl StateVariable {

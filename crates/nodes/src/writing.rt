@@ -40,7 +40,7 @@ fn store_operands(area: &mut [u8], to: usize, j: &[u8], end: usize, code: usize)
 }
 
 // Operations of one opcode: so many from a number on, of those that the journal has, and where their part of the area begins.
-#[derive(Drop)]
+#[derive(Clone, Copy)]
 struct Part {
     code: usize,
     first: usize,
@@ -115,7 +115,7 @@ fn write_part(
 }
 
 // What each opcode has passed, and how many operations of it the run has.
-#[derive(Drop)]
+#[derive(Clone, Copy)]
 struct Handing {
     passed: Counts,
     run: Counts,
@@ -163,7 +163,7 @@ fn write_body(
 }
 
 // How many operations the journal has, and how many of them were reported before.
-#[derive(Drop)]
+#[derive(Clone, Copy)]
 pub struct Progress {
     pub counts: Counts,
     pub state: StateVariable,

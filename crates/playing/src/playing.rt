@@ -14,7 +14,7 @@ use inventory::Edition;
 use trace::Report;
 
 // How many records were taken, what the replay came to so far, whether a 32 waits and the size of its body, the edition, and what the calls left.
-#[derive(Drop)]
+#[derive(Clone, Copy)]
 pub struct Playing {
     pub records: u64,
     pub report: Report,

@@ -2,7 +2,7 @@
 ghost use Rattle.printing.specs.Put.{Given};
 
 // What reading gives: so many bytes, or an input that could not be read.
-#[derive(Drop)]
+#[derive(Clone, Copy)]
 pub enum Input {
     Bytes(usize),
     Unread,

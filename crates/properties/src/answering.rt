@@ -13,7 +13,7 @@ use crate::following::{Followed, follow};
 use crate::writing::write_due;
 
 // What a call comes to: the journal is malformed, what the area carries is refused, or an answer after which nothing or more is due.
-#[derive(Drop)]
+#[derive(Clone, Copy)]
 pub enum Outcome {
     Malformed,
     Refused,

@@ -6,7 +6,7 @@ use crate::walk::{AREA_ROOM, Extent, Walk, walk_over};
 use journal::{Held, PropertyRecord};
 
 // What a pass finds: the journal is malformed, the node's session does not carry the state, or it goes on from the record at this place.
-#[derive(Drop)]
+#[derive(Clone, Copy)]
 pub enum Followed {
     Malformed,
     Unknown,

@@ -8,7 +8,7 @@ ghost use Rattle.properties.specs.Inner.Following.{walked_over};
 pub const AREA_ROOM: usize = 4076;
 
 // Where a change stands: its record's offset, the bytes of its name with NUL and descriptor, and its value's offset and length.
-#[derive(Drop)]
+#[derive(Clone, Copy)]
 pub struct Extent {
     pub at: usize,
     pub header: usize,
@@ -17,14 +17,14 @@ pub struct Extent {
 }
 
 // What a value leaves behind it: the room of the area in which it ends, and whether an area ended in it at the state.
-#[derive(Drop)]
+#[derive(Clone, Copy)]
 pub struct Gone {
     pub room: usize,
     pub found: bool,
 }
 
 // How far a walk has come: the room that is left, whether a change was met, whether an area ended at the state, and in which record.
-#[derive(Drop)]
+#[derive(Clone, Copy)]
 pub struct Walk {
     pub room: usize,
     pub any: bool,

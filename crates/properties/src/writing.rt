@@ -28,7 +28,7 @@ fn next_change(j: &[u8], phandle: u32, from: usize) -> usize
 }
 
 // What is due of a change: the offset due, where its name and the value bytes due stand, and where its record ends.
-#[derive(Drop)]
+#[derive(Clone, Copy)]
 pub struct Portion {
     pub at: usize,
     pub name: usize,
@@ -90,7 +90,7 @@ fn last_descriptor(p: Portion) -> u32
 }
 
 // What was handed out: the number of pieces, whether something is due behind them, and its offset, 0 where nothing is.
-#[derive(Drop)]
+#[derive(Clone, Copy)]
 pub struct Handed {
     pub count: usize,
     pub more: bool,

@@ -16,7 +16,7 @@ use node_area::AREA_SIZE;
 pub const DELETION: u32 = 0x8000_0000;
 
 // Why an area is refused.
-#[derive(Drop)]
+#[derive(Clone, Copy)]
 pub enum Refusal {
     Size,
     Reserved,
@@ -25,7 +25,7 @@ pub enum Refusal {
 }
 
 // A property by its parts: where its name stands, without its NUL, its descriptor, and where its value stands.
-#[derive(Drop)]
+#[derive(Clone, Copy)]
 pub struct Located {
     pub name: usize,
     pub name_length: usize,
@@ -35,14 +35,14 @@ pub struct Located {
 }
 
 // What stands at a place: no property, or this one.
-#[derive(Drop)]
+#[derive(Clone, Copy)]
 pub enum Judged {
     Bad(Refusal),
     Fine(Located),
 }
 
 // What a check of an area finds: the number of its properties, or a refusal with its byte offset.
-#[derive(Drop)]
+#[derive(Clone, Copy)]
 pub enum Check {
     Properties(usize),
     Refused(Refusal, usize),
@@ -139,14 +139,14 @@ pub fn check_area(area: &[u8]) -> Check
 }
 
 // Where a reader stands: so many properties are still to come from byte `at` on.
-#[derive(Drop)]
+#[derive(Clone, Copy)]
 pub struct Cursor {
     pub at: usize,
     pub left: usize,
 }
 
 // What a step gives: a property with the cursor behind it, or the end.
-#[derive(Drop)]
+#[derive(Clone, Copy)]
 pub enum Next {
     Found(Located, Cursor),
     End,

@@ -10,7 +10,7 @@ ghost use Rattle.readers.specs.Claims.Readings.{WordsTell};
 
 // What a reading of an index area tells: a refusal and its byte offset, or the number of entries.
 #[repr(C)]
-#[derive(Drop)]
+#[derive(Clone, Copy)]
 pub struct IndexReading {
     pub refusal: u32,
     pub offset: usize,

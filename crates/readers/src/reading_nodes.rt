@@ -9,7 +9,7 @@ ghost use Rattle.readers.specs.Readings.{operations_words, node_reading, nodes_o
 
 // What a reading of a node area tells: a refusal and its byte offset, or the state and the number of operations.
 #[repr(C)]
-#[derive(Drop)]
+#[derive(Clone, Copy)]
 pub struct NodeReading {
     pub refusal: u32,
     pub state: u32,

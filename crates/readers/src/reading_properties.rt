@@ -11,7 +11,7 @@ ghost use Rattle.readers.specs.Claims.Readings.{PropertyWordsTell};
 
 // What a reading of a property area tells: a refusal and its byte offset, or the phandle, the state and the number of properties.
 #[repr(C)]
-#[derive(Drop)]
+#[derive(Clone, Copy)]
 pub struct PropertyReading {
     pub refusal: u32,
     pub phandle: u32,

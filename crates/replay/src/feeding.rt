@@ -17,7 +17,7 @@ use rtas::number_for;
 use trace::Report;
 
 // Where a replay stands, how many bytes of an unfinished record are held, and what its calls counted.
-#[derive(Drop)]
+#[derive(Clone, Copy)]
 pub struct Replay {
     pub playing: Playing,
     pub held: usize,
@@ -25,7 +25,7 @@ pub struct Replay {
 }
 
 // What is held after the held record was looked to, the place that the burst was used up to, and the counts then.
-#[derive(Drop)]
+#[derive(Clone, Copy)]
 pub struct Finished {
     pub playing: Playing,
     pub held: usize,
@@ -34,7 +34,7 @@ pub struct Finished {
 }
 
 // The replay after the whole records of a burst, the place behind them, and the counts then.
-#[derive(Drop)]
+#[derive(Clone, Copy)]
 pub struct Passed {
     pub playing: Playing,
     pub at: usize,

@@ -13,7 +13,7 @@ use trace::Report;
 // What a replay came to. Verdict 0: all calls agreed, so many. Verdict 1: the call of this number differs, at this offset. Verdict 2: the record of
 // this number is malformed. The offset is 0 but for a difference.
 #[repr(C)]
-#[derive(Drop)]
+#[derive(Clone, Copy)]
 pub struct FlatReport {
     pub verdict: u32,
     pub offset: u32,
@@ -23,7 +23,7 @@ pub struct FlatReport {
 // Where a replay stands: how many records it has taken, what it came to so far, how many bytes of an unfinished record are held, the 32 that waits (0
 // where none does, otherwise one more than the size of its body), the edition, and what the calls left.
 #[repr(C)]
-#[derive(Drop)]
+#[derive(Clone, Copy)]
 pub struct FlatReplay {
     pub records: u64,
     pub report: FlatReport,

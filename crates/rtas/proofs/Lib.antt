@@ -1,2 +1,2 @@
-pub mod Indexed
+pub mod IndexedLaws
 pub mod Works

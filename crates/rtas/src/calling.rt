@@ -13,21 +13,21 @@ use inventory::{Edition, StartingNumber};
 use node_calls::update_nodes;
 
 // What a call answers: its number, and the registration afterwards.
-#[derive(Drop)]
+#[derive(Clone, Copy)]
 pub struct Answer {
     pub number: Number,
     pub registration: Registration,
 }
 
 // What a step gives: the call's answer, and the reading record afterwards.
-#[derive(Drop)]
+#[derive(Clone, Copy)]
 pub struct Stepped {
     pub answer: Answer,
     pub reading: ReadingRecord,
 }
 
 // What get-indices gives: its status, and the reading record afterwards.
-#[derive(Drop)]
+#[derive(Clone, Copy)]
 struct Indexed {
     status: Status,
     reading: ReadingRecord,

@@ -7,7 +7,7 @@ use calls::Status;
 use dump::{Registration, Verdict};
 
 // What a command gives: its status, and the registration afterwards.
-#[derive(Drop)]
+#[derive(Clone, Copy)]
 pub struct Configured {
     pub status: Status,
     pub registration: Registration,

@@ -3,7 +3,7 @@ use calls::{ReadingRecord, Status};
 use dump::Registration;
 
 // Its status, and the registration and the reading record afterwards.
-#[derive(Drop)]
+#[derive(Clone, Copy)]
 pub struct Work {
     pub status: Status,
     pub registration: Registration,

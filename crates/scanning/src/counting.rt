@@ -12,7 +12,7 @@ use crate::weights::weights_of;
 use journal::{Counts, Judgement, Units};
 
 // What a scan finds, and the marks that it noted: each a place and the packed counts of what stands before it.
-#[derive(Drop)]
+#[derive(Clone, Copy)]
 pub struct Scanned {
     pub judgement: Judgement,
     pub noted: usize,

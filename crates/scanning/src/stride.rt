@@ -18,21 +18,21 @@ const EACH_SPAN: usize = 4096;
 const UNIT_HEADER: u64 = 0xf_0004_0010;
 
 // A place of the journal, and the packed counts of what stands before it.
-#[derive(Drop)]
+#[derive(Clone, Copy)]
 pub struct Position {
     pub at: usize,
     pub counts: u64,
 }
 
 // What a step along the journal gives: a bad record was met, or the scan stands further on.
-#[derive(Drop)]
+#[derive(Clone, Copy)]
 pub enum Step {
     Bad,
     Upto(Position),
 }
 
 // Records of one header without a unit, and what one of them adds to the packed counts.
-#[derive(Drop)]
+#[derive(Clone, Copy)]
 pub struct Same {
     pub header: u64,
     pub size: usize,

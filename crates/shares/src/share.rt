@@ -5,7 +5,7 @@ ghost use Rattle.shares.specs.Claims.Share.{ShareClaims};
 
 // Part over whole, in lowest terms.
 #[repr(C)]
-#[derive(Drop)]
+#[derive(Clone, Copy)]
 pub struct Share {
     pub part: u64,
     pub whole: u64,

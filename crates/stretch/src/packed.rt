@@ -4,7 +4,7 @@ ghost use Rattle.stretch.specs.Packed.{no_packed, plus};
 ghost use Rattle.stretch.specs.Inner.Terms.{times, Narrow};
 
 // Packed counts of the rows of negative scopes, of scopes 1 and 2, and of scope 3 over all units.
-#[derive(Drop)]
+#[derive(Clone, Copy)]
 pub struct Packed {
     pub negative: u64,
     pub first: u64,

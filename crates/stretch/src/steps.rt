@@ -15,7 +15,7 @@ const SAME_SPAN: usize = 16_384;
 const EACH_SPAN: usize = 4096;
 
 // How far whole good records go, how many they are, and the packed counts of what the rows report of them.
-#[derive(Drop)]
+#[derive(Clone, Copy)]
 pub struct Stretch {
     pub end: usize,
     pub records: usize,
@@ -23,7 +23,7 @@ pub struct Stretch {
 }
 
 // Records of one header, and what one of them adds.
-#[derive(Drop)]
+#[derive(Clone, Copy)]
 struct Same {
     header: u64,
     size: usize,

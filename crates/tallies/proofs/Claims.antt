@@ -22,7 +22,7 @@ use Rattle.tallies.specs.Tallies.{recount_of, recount_for, count_sum, counts_wit
 use Rattle.tallies.specs.Keeping.{fits, has_room, one_record, attached}
 use Rattle.tallies.specs.Claims.Tallies.{OneGood, AttachedExactly, CountsBelow, EachWithin, CountsAdd, EachSum, EachAppend, EachRecount, RowsOfScopes, RecountClaims, TallyClaims}
 use Rattle.tallies.proofs.Outcomes.{attach_judged, attach_done, attach_refused}
-use Rattle.tallies.proofs.Kept.{tallies_kept, append_keeps, join_keeps, clear_keeps, kept_is_fit}
+use Rattle.tallies.proofs.KeptLaws.{tallies_kept, append_keeps, join_keeps, clear_keeps, kept_is_fit}
 use Rattle.tallies.proofs.Readings.{tally_readings}
 use Rattle.tallies.specs.Claims.Rows.{of_kind}
 use Rattle.tallies.proofs.RowClaims.{third_row_claim}

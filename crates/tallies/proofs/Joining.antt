@@ -31,7 +31,7 @@ use Rattle.tallies.specs.Claims.Sessions.{Counted}
 use Rattle.tallies.specs.Claims.Joining.{EachJoined, EndToEnd, ListsDiffer, EachJoin, Room, JoinedInTurn, JoinTaken, NothingJoined, JoinedToNothing, JoinReadings, JoinClaims}
 use Rattle.tallies.proofs.Joins.{recount_none, recount_join}
 use Rattle.tallies.proofs.Outcomes.{came, attach_judged, attach_done}
-use Rattle.tallies.proofs.Kept.{use_grown, join_keeps, fresh_counted, attach_is_fit}
+use Rattle.tallies.proofs.KeptLaws.{use_grown, join_keeps, fresh_counted, attach_is_fit}
 use Rattle.tallies.proofs.Claims.{attached_exactly, recount_claims}
 
 -- ---- buffers end to end

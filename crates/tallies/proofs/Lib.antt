@@ -1,6 +1,6 @@
 pub mod Readings
 pub mod Joins
-pub mod Kept
+pub mod KeptLaws
 pub mod Outcomes
 pub mod RowClaims
 pub mod Claims

@@ -10,7 +10,7 @@ use scanning::counts_of;
 use stretch::{Packed, stretch_of};
 
 // What a buffer tells: whether it is a journal, how many records it has, and its tallies.
-#[derive(Drop)]
+#[derive(Clone, Copy)]
 struct Weighed {
     good: bool,
     records: usize,

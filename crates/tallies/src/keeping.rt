@@ -11,14 +11,14 @@ use crate::tallies::{Recount, Tallies, add, is_within, no_tallies};
 use stretch::Packed;
 
 // How many bytes of the buffer are in use, and the tallies of the journal that they are.
-#[derive(Drop)]
+#[derive(Clone, Copy)]
 pub struct Tallied {
     pub used: usize,
     pub tallies: Tallies,
 }
 
 // What comes of an operation. Unfit: more bytes in use than the buffer has, or a count above the bytes in use, which no journal has.
-#[derive(Drop)]
+#[derive(Clone, Copy)]
 pub enum Outcome {
     Done,
     Malformed,
@@ -27,7 +27,7 @@ pub enum Outcome {
 }
 
 // What an operation hands back: what came of it, and the journal's use and tallies afterwards.
-#[derive(Drop)]
+#[derive(Clone, Copy)]
 pub struct Kept {
     pub outcome: Outcome,
     pub next: Tallied,

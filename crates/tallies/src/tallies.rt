@@ -6,7 +6,7 @@ ghost use Rattle.tallies.specs.Inner.Weighing.{CountsFit, TalliesFit};
 use journal::Counts;
 
 // How many operations of each opcode the rows hold: of negative scopes, of scopes 1 and 2, and of scope 3 over all units.
-#[derive(Drop)]
+#[derive(Clone, Copy)]
 pub struct Tallies {
     pub negative: Counts,
     pub first: Counts,
@@ -15,7 +15,7 @@ pub struct Tallies {
 }
 
 // What a count of a whole buffer gives: whether it is good, and where it is, its tallies.
-#[derive(Drop)]
+#[derive(Clone, Copy)]
 pub struct Recount {
     pub good: bool,
     pub tallies: Tallies,

@@ -8,13 +8,13 @@ ghost use Rattle.totals.specs.Claims.Totals.{TotalsClaims};
 pub const FIGURES: usize = 35;
 
 #[repr(C)]
-#[derive(Drop)]
+#[derive(Clone, Copy)]
 pub struct Totals {
     pub figures: [u64; FIGURES],
 }
 
 // The totals with a trace's figures added, or as they were where a sum would pass 2^64 - 1.
-#[derive(Drop)]
+#[derive(Clone, Copy)]
 pub struct Added {
     pub taken: bool,
     pub totals: Totals,

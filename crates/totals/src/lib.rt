@@ -1,4 +1,6 @@
 // The totals of a month: the figures of traces, added up, or refused whole.
+#![tactic(auto)]
+
 mod adding;
 mod consistent;
 

@@ -1,4 +1,6 @@
 // Numbers in bytes: big-endian 16, 32 and 64 bits, little-endian 16, 32 and 64 bits; and arithmetic that never wraps.
+#![tactic(auto)]
+
 mod arithmetic;
 mod join;
 mod nul;

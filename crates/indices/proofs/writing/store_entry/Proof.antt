@@ -4,7 +4,7 @@ use native.Mathlib.Omega.{arith}
 use borrow.Author.Rules.{rules}
 use Rattle.inventory.specs.Inner.Located.{entry_in}
 use Rattle.inventory.proofs.Codes.{code_in_word}
-use Rattle.inventory.proofs.Located.{code_sized}
+use Rattle.inventory.proofs.LocatedLaws.{code_sized}
 use Rattle.indices.proofs.Writes.{entry_stored}
 use Rattle.indices.proofs.writing.store_entry.Statement.{statement}
 use Rattle.indices.proofs.writing.store_entry.Tie as tie

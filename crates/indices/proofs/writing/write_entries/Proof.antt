@@ -7,7 +7,7 @@ use borrow.Author.Rules.{rules}
 use Rattle.inventory.specs.Inventory.{code_limit}
 use Rattle.inventory.specs.Claims.Scanning.{ahead}
 use Rattle.inventory.proofs.Codes.{code_in_word}
-use Rattle.inventory.proofs.Located.{located_inside, located_few}
+use Rattle.inventory.proofs.LocatedLaws.{located_inside, located_few}
 use Rattle.inventory.proofs.Search.{NextMatch, next_match}
 use Rattle.indices.specs.Area.{fitting}
 use Rattle.indices.proofs.Writes.{Writing, writing_start, writing_full, writing_next, writing_end}

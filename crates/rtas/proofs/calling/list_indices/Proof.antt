@@ -4,7 +4,7 @@ use Prim.Native.Nat.{ℕ}
 use lib.Dec.{leb}
 use borrow.Author.Rules.{rules}
 use borrow.Author.Tests.{le-leb, lt-leb}
-use Rattle.rtas.proofs.Indexed.{indexes_answered, indexes_refused}
+use Rattle.rtas.proofs.IndexedLaws.{indexes_answered, indexes_refused}
 use Rattle.rtas.proofs.calling.list_indices.Statement.{statement}
 use Rattle.rtas.proofs.calling.list_indices.Tie as tie
 

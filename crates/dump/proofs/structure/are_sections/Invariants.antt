@@ -1,0 +1,15 @@
+-- `structure::are_sections` meets its contract.
+use mathlib.Core.Path.{◌≡◌, refl, sym, ◌∙◌}
+use Prim.Native.Nat.{◌+◌, ◌*◌, ◌≤◌}
+use lib.ListN.{length}
+use borrow.Author.Rules.{rules}
+use borrow.Author.Tests.{not-true, not-false}
+use Rattle.dump.specs.Structure.{section_size, good_section, each_section}
+use Rattle.dump.proofs.StructureLaws.{each_none, each_bad, each_good}
+use Rattle.dump.proofs.structure.are_sections.Given as goal
+
+abbrev pub invariant-loop-left : goal.invariant-loop-left
+invariant-loop-left l = (l.at + section_size * l.left ≤ length l.s) × (each_section (good_section l.s) l.count l.first ≡ each_section (good_section l.s) l.left l.at)
+
+abbrev pub decreases-loop-left : goal.decreases-loop-left
+decreases-loop-left l = l.left

@@ -1,0 +1,8 @@
+-- `judging::length_of` meets its contract.
+use borrow.Author.Rules.{rules}
+use Rattle.journal.proofs.RecordLaws.{length_is}
+use Rattle.journal.proofs.judging.length_of.Goals as goal
+
+pub returns : goal.returns
+returns c =
+    length_is c.args.kind c.requires

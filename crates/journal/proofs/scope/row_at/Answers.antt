@@ -1,0 +1,10 @@
+-- `scope::row_at` meets its contract.
+use mathlib.Core.Path.{refl}
+use borrow.Author.Rules.{rules}
+use Rattle.journal.specs.Scope.{rows}
+use Rattle.journal.proofs.scope.row_at.Goals as goal
+
+pub returns : goal.returns
+unfolding rows
+returns c =
+    refl

@@ -1,0 +1,11 @@
+-- `units::tally` meets its contract.
+use borrow.Author.Rules.{rules}
+use Rattle.journal.proofs.units.tally.Goals as goal
+
+pub returns-in-All : goal.returns-in-All
+returns-in-All c =
+    rw c.in-All.is
+
+pub returns-in-One : goal.returns-in-One
+returns-in-One c =
+    rw c.in-One.is

@@ -1,0 +1,12 @@
+-- `moving::move_forward` meets its contract.
+use Prim.Native.Nat.{◌-◌}
+use native.Mathlib.Omega.{arith}
+use borrow.Author.Rules.{rules}
+use Rattle.moving.proofs.Pieces.{Front, front_start, front_next, front_end}
+use Rattle.moving.proofs.moving.move_forward.Given as goal
+
+abbrev pub invariant-loop-done : goal.invariant-loop-done
+invariant-loop-done l = Front l.initial.bytes l.to l.from l.size l.done l.bytes
+
+abbrev pub decreases-loop-done : goal.decreases-loop-done
+decreases-loop-done l = l.size - l.done

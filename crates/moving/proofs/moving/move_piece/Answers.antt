@@ -1,0 +1,10 @@
+-- `moving::move_piece` meets its contract.
+use native.Mathlib.Omega.{arith}
+use borrow.Author.Rules.{rules}
+use Rattle.moving.proofs.Pieces.{piece_moved}
+use Rattle.moving.proofs.moving.move_piece.Goals as goal
+
+pub returns : goal.returns
+returns c =
+    let a = c.args in
+    piece_moved _ a.bytes.now _ _ a.to a.from a.size c.store_bytes.ensures c.store_bytes-2.ensures (omega arith) (omega arith)

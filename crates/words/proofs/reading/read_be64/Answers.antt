@@ -1,0 +1,9 @@
+-- `reading::read_be64` meets its contract.
+use mathlib.Core.Path.{◌∙◌, sym}
+use borrow.Author.Rules.{rules}
+use Rattle.words.proofs.Numbers.{be_split}
+use Rattle.words.proofs.reading.read_be64.Goals as goal
+
+pub returns : goal.returns
+returns c =
+    c.join8.ensures ∙ rw (c.read_be32.ensures, c.read_be32-2.ensures) (sym (be_split 4 4 _ _))
