@@ -1,4 +1,6 @@
 // The run of a registered dump: what each of its sections copies, and what the copied structure tells of it.
+#![tactic(auto)]
+
 mod running;
 mod section;
 

@@ -1,4 +1,6 @@
 // The index work area: writing it, and reading it.
+#![tactic(auto)]
+
 mod reading;
 mod writing;
 

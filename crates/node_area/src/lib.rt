@@ -1,4 +1,6 @@
 // The node work area: its size and head, the State Variable, and reading an area.
+#![tactic(auto)]
+
 mod head;
 mod reading;
 mod state;

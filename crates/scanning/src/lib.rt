@@ -1,4 +1,6 @@
 // The scan of a journal: it is judged and its operations are counted in one pass, with marks noted on the way.
+#![tactic(auto)]
+
 mod counting;
 mod noting;
 mod stride;

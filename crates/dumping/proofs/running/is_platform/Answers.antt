@@ -1,0 +1,11 @@
+-- `running::is_platform` meets its contract.
+use borrow.Author.Tests.{eq-eqb, ne_eqb}
+use Rattle.dumping.proofs.running.is_platform.Goals as goal
+
+pub returns-then-kind-eq1 : goal.returns-then-kind-eq1
+returns-then-kind-eq1 c =
+    rw (eq-eqb _ 1 c.if-kind-eq1.true)
+
+pub returns : goal.returns
+returns c =
+    rw (ne_eqb _ 1 c.if-kind-eq1.false)

@@ -1,0 +1,12 @@
+-- `running::run_structure` meets its contract.
+use mathlib.Core.Path.{◌∙◌}
+use native.Mathlib.Omega.{arith}
+use borrow.Author.Rules.{rules}
+use Rattle.dumping.proofs.Runs.{Going, going_start, going_next, going_end}
+use Rattle.dumping.proofs.running.run_structure.Given as goal
+
+abbrev pub invariant-loop-left : goal.invariant-loop-left
+invariant-loop-left l = Going l.platform l.initial.memory l.initial.copy l.memory l.copy l.at l.left l.failed
+
+abbrev pub decreases-loop-left : goal.decreases-loop-left
+decreases-loop-left l = l.left

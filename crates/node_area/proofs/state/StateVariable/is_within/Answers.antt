@@ -1,0 +1,12 @@
+-- `state::StateVariable::is_within` meets its contract.
+use borrow.Author.Rules.{rules}
+use borrow.Author.Tests.{eq-eqb, ne_eqb}
+use Rattle.node_area.proofs.state.StateVariable.is_within.Goals as goal
+
+pub returns-then-self-eq0 : goal.returns-then-self-eq0
+returns-then-self-eq0 c =
+    rw (eq-eqb _ _ c.if-self-eq0.true)
+
+pub returns-else-self-eq0 : goal.returns-else-self-eq0
+returns-else-self-eq0 c =
+    rw (ne_eqb _ _ c.if-self-eq0.false) c.has_more.ensures

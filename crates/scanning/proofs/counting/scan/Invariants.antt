@@ -1,0 +1,16 @@
+-- `counting::scan` meets its contract.
+use Rattle.std.proofs.Common.{◌≡◌, ◌+◌, ◌-◌, ◌≤◌, length, refl, ap, ◌∙◌, arith, rules}
+use Rattle.journal.proofs.Claims.{too_large, journal_claims}
+use Rattle.scanning.proofs.NoteLaws.{marked_none, marked_note, noted_length}
+use Rattle.scanning.proofs.Reaching.{position, reached_none, reached_end, malformed, advanced_bad, advanced_upto}
+use Rattle.journal.specs.Scope.{asking}
+use Rattle.journal.specs.Marks.{Marked}
+use Rattle.scanning.specs.Inner.Terms.{Reached}
+use Rattle.journal.specs.declared.counts.Judgement.TheVariants.{Counted}
+use Rattle.scanning.proofs.counting.scan.Given as goal
+
+abbrev pub invariant-loop-at : goal.invariant-loop-at
+invariant-loop-at l = Reached (asking l.row l.units) l.j (position l.at l.counts) × Marked (asking l.row l.units) l.j l.marks l.noted × (length l.marks ≡ 128)
+
+abbrev pub decreases-loop-at : goal.decreases-loop-at
+decreases-loop-at l = length l.j - l.at

@@ -1,0 +1,14 @@
+-- `stride::past_each` meets its contract.
+use Rattle.std.proofs.Common.{◌≡◌, ◌+◌, ◌-◌, ◌≤◌, true, length, arith, rules}
+use Rattle.journal.specs.Scope.{asking}
+use Rattle.journal.specs.Terms.{node_here, shape_at}
+use Rattle.scanning.specs.Inner.Terms.{Reached}
+use Rattle.journal.proofs.RecordLaws.{given_good, good_size_lem, good_fits}
+use Rattle.scanning.proofs.Reaching.{position, reached_judged}
+use Rattle.scanning.proofs.stride.past_each.Given as goal
+
+abbrev pub invariant-loop-at : goal.invariant-loop-at
+invariant-loop-at l = Reached (asking l.row l.units) l.j (position l.at l.counts) × (l.initial.at ≤ l.at)
+
+abbrev pub decreases-loop-at : goal.decreases-loop-at
+decreases-loop-at l = length l.j - l.at

@@ -1,0 +1,109 @@
+-- `stride::stride` meets its contract.
+use Rattle.std.proofs.Common.{◌≡◌, ◌+◌, ◌≤◌, true, length, ap, ◌∙◌, arith, rules}
+use Rattle.journal.specs.declared.judging.Shape.{Shape}
+use Rattle.journal.specs.Scope.{asking}
+use Rattle.journal.specs.Terms.{node_here, shape_at}
+use Rattle.scanning.specs.Inner.Terms.{Reached}
+use Rattle.journal.proofs.RecordLaws.{given_bad, given_good, good_size_lem, good_fits}
+use Rattle.scanning.proofs.Weighing.{shape_bounds}
+use Rattle.scanning.proofs.Headers.{known}
+use Rattle.journal.proofs.GoodLaws.{neither_good}
+use Rattle.scanning.proofs.WeightLaws.{shape_weight}
+use Rattle.scanning.proofs.Reaching.{reached_judged, position, reached_bad}
+use Rattle.scanning.proofs.stride.stride.Goals as goal
+
+-- no record of a node stands at the place, and where no property was passed, no record at all
+pub returns-then-past-at : goal.returns-then-past-at
+returns-then-past-at c =
+    let j = c.args.j.now in
+    let none = given_bad j c.args.from.at _ c.in-Bad.is c.judge-verdict.ensures in
+    reached_bad (asking c.args.row.now c.args.units) j c.args.from.at c.args.from.counts c.requires.3 c.requires.0 c.requires.2
+    (neither_good j c.args.from.at none (c.past_properties-past.ensures.none c.if-past-at.true))
+
+pub overflow_add-first : goal.overflow_add-first
+overflow_add-first c =
+    let good : (node_here c.args.j.now c.args.from.at ≡ true) × (c.in-Good.shape ≡ shape_at c.args.j.now c.args.from.at) =
+    given_good c.args.j.now c.args.from.at 4 _ _ c.in-Good.is c.judge-verdict.ensures in
+    let sized : let size = c.in-Good.shape.size in (10 ≤ size) × (c.args.from.at + size ≤ length c.args.j.now) =
+    rw good.1 ((good_size_lem c.args.j.now c.args.from.at good.0).0, omega (arith, good_fits c.args.j.now c.args.from.at good.0, c.requires.2)) in
+    omega (arith, sized)
+
+pub weigh-requires : goal.weigh-requires
+weigh-requires c =
+    let good : (node_here c.args.j.now c.args.from.at ≡ true) × (c.in-Good.shape ≡ shape_at c.args.j.now c.args.from.at) =
+    given_good c.args.j.now c.args.from.at 4 _ _ c.in-Good.is c.judge-verdict.ensures in
+    good
+
+pub overflow_add-first-in-Good : goal.overflow_add-first-in-Good
+overflow_add-first-in-Good c =
+    let good : (node_here c.args.j.now c.args.from.at ≡ true) × (c.in-Good.shape ≡ shape_at c.args.j.now c.args.from.at) =
+    given_good c.args.j.now c.args.from.at 4 _ _ c.in-Good.is c.judge-verdict.ensures in
+    let first : Reached (asking c.args.row.now c.args.units) c.args.j.now (position (c.args.from.at + c.in-Good.shape.size) (c.args.from.counts + c.weigh.result)) =
+    reached_judged _ c.args.j.now c.args.weights.now c.args.from.at c.args.from.counts c.requires.3 c.requires.1 c.requires.0 _ _ c.requires.2
+    (good) c.weigh.ensures in
+    omega (arith, first)
+
+pub behind_unit-requires : goal.behind_unit-requires
+behind_unit-requires c =
+    let good : (node_here c.args.j.now c.args.from.at ≡ true) × (c.in-Good.shape ≡ shape_at c.args.j.now c.args.from.at) =
+    given_good c.args.j.now c.args.from.at 4 _ _ c.in-Good.is c.judge-verdict.ensures in
+    let first : Reached (asking c.args.row.now c.args.units) c.args.j.now (position (c.args.from.at + c.in-Good.shape.size) (c.args.from.counts + c.weigh.result)) =
+    reached_judged _ c.args.j.now c.args.weights.now c.args.from.at c.args.from.counts c.requires.3 c.requires.1 c.requires.0 _ _ c.requires.2
+    (good) c.weigh.ensures in (
+      first,
+      c.requires.1,
+      c.requires.3,
+    )
+
+pub returns-then-shape-eq4 : goal.returns-then-shape-eq4
+returns-then-shape-eq4 c =
+    let good : (node_here c.args.j.now c.args.from.at ≡ true) × (c.in-Good.shape ≡ shape_at c.args.j.now c.args.from.at) =
+    given_good c.args.j.now c.args.from.at 4 _ _ c.in-Good.is c.judge-verdict.ensures in
+    let sized : let size = c.in-Good.shape.size in (10 ≤ size) × (c.args.from.at + size ≤ length c.args.j.now) =
+    rw good.1 ((good_size_lem c.args.j.now c.args.from.at good.0).0, omega (arith, good_fits c.args.j.now c.args.from.at good.0, c.requires.2)) in
+    (c.behind_unit.ensures.0, omega (arith, c.behind_unit.ensures.1, sized))
+
+pub header_at-requires : goal.header_at-requires
+header_at-requires c =
+    let good : (node_here c.args.j.now c.args.from.at ≡ true) × (c.in-Good.shape ≡ shape_at c.args.j.now c.args.from.at) =
+    given_good c.args.j.now c.args.from.at 4 _ _ c.in-Good.is c.judge-verdict.ensures in
+    let sized : let size = c.in-Good.shape.size in (10 ≤ size) × (c.args.from.at + size ≤ length c.args.j.now) =
+    rw good.1 ((good_size_lem c.args.j.now c.args.from.at good.0).0, omega (arith, good_fits c.args.j.now c.args.from.at good.0, c.requires.2)) in
+    omega (arith, sized)
+
+pub weight_of-requires : goal.weight_of-requires
+weight_of-requires c =
+    let good : (node_here c.args.j.now c.args.from.at ≡ true) × (c.in-Good.shape ≡ shape_at c.args.j.now c.args.from.at) =
+    given_good c.args.j.now c.args.from.at 4 _ _ c.in-Good.is c.judge-verdict.ensures in
+    shape_bounds c.args.j.now c.args.from.at good.0 _ good.1
+
+pub behind_plain-requires : goal.behind_plain-requires
+behind_plain-requires c =
+    let good : (node_here c.args.j.now c.args.from.at ≡ true) × (c.in-Good.shape ≡ shape_at c.args.j.now c.args.from.at) =
+    given_good c.args.j.now c.args.from.at 4 _ _ c.in-Good.is c.judge-verdict.ensures in
+    let first : Reached (asking c.args.row.now c.args.units) c.args.j.now (position (c.args.from.at + c.in-Good.shape.size) (c.args.from.counts + c.weigh.result)) =
+    reached_judged _ c.args.j.now c.args.weights.now c.args.from.at c.args.from.counts c.requires.3 c.requires.1 c.requires.0 _ _ c.requires.2
+    (good) c.weigh.ensures in
+    let g = good in
+    let kind = ap (λ (x : Shape). x.kind) g.1 in
+    let weight = c.weight_of.ensures ∙ shape_weight c.args.row.now c.args.j.now c.args.weights.now c.args.from.at _ c.requires.1 g.0 g.1 in
+    let bytes = c.shared_slice_known-1.given in (
+      first,
+      c.requires.1,
+      known (asking c.args.row.now c.args.units) c.args.j.now (λ i. omega (arith, bytes i)) c.args.from.at g.0
+          (λ q. c.if-shape-eq4.false (kind ∙ q)) _ c.header_at.ensures (ap (λ (x : Shape). x.size) g.1) weight,
+      c.requires.3,
+    )
+
+pub returns-else-past-at : goal.returns-else-past-at
+returns-else-past-at c =
+    let p = c.past_properties-past.ensures in
+    (p.reached (asking c.args.row.now c.args.units) c.args.from.counts c.requires.0, omega (arith, p.onward, c.if-past-at.false))
+
+pub returns-else-shape-eq4 : goal.returns-else-shape-eq4
+returns-else-shape-eq4 c =
+    let good : (node_here c.args.j.now c.args.from.at ≡ true) × (c.in-Good.shape ≡ shape_at c.args.j.now c.args.from.at) =
+    given_good c.args.j.now c.args.from.at 4 _ _ c.in-Good.is c.judge-verdict.ensures in
+    let sized : let size = c.in-Good.shape.size in (10 ≤ size) × (c.args.from.at + size ≤ length c.args.j.now) =
+    rw good.1 ((good_size_lem c.args.j.now c.args.from.at good.0).0, omega (arith, good_fits c.args.j.now c.args.from.at good.0, c.requires.2)) in
+    (c.behind_plain.ensures.0, omega (arith, c.behind_plain.ensures.1, sized))

@@ -1,0 +1,15 @@
+use Rattle.std.proofs.Common.{◌-◌, refl, arith, rules}
+use Rattle.scanning.proofs.WeightLaws.{Filled, filled_next}
+use Rattle.scanning.proofs.weights.weights_of.Goals as goal
+
+pub loop-i-init : goal.loop-i-init
+loop-i-init c =
+    record { size = refl; low = omega arith; high = omega arith; each = λ k l g. absurd (omega arith) }
+
+pub loop-i-preserved : goal.loop-i-preserved
+loop-i-preserved c =
+    filled_next _ c.loop-i.table c.loop-i.i c.weight.result c.loop-i.invariant (search rules) (rw (← c.set_of.ensures) c.weight.ensures)
+
+pub returns : goal.returns
+returns c =
+    λ k g h. c.loop-i.invariant.each k (omega arith) g
