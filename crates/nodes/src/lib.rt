@@ -1,4 +1,6 @@
 // What a call hands out of a reportable list: the longest run that fits, and writing it to a node work area.
+#![tactic(auto)]
+
 mod run;
 mod writing;
 

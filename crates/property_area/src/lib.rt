@@ -1,4 +1,6 @@
 // The property work area: its head, and reading an area.
+#![tactic(auto)]
+
 mod head;
 mod reading;
 

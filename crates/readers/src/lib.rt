@@ -1,4 +1,6 @@
 // All entries of an area, into a buffer that the caller lends.
+#![tactic(auto)]
+
 mod reading_indices;
 mod reading_nodes;
 mod reading_properties;

@@ -1,4 +1,6 @@
 // Whole good records of a journal, one behind the other: how far they go, how many they are, and what each row of the scope table reports of them.
+#![tactic(auto)]
+
 mod packed;
 mod steps;
 mod weights;

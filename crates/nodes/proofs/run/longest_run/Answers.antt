@@ -1,0 +1,13 @@
+-- `run::longest_run` meets its contract.
+use borrow.Author.Rules.{rules}
+use Rattle.nodes.specs.Run.{cut}
+use Rattle.nodes.proofs.Cut.{cut_is_longest}
+use Rattle.nodes.proofs.run.longest_run.Goals as goal
+
+pub returns : goal.returns
+unfolding cut
+returns c =
+    let first = c.least-deletes.ensures in
+    let second = c.room_after-second.ensures in
+    let third = c.room_after-third.ensures in
+    record { value = rw (c.least-additions.ensures, c.saturating_sub-2.ensures, third, c.least-updates.ensures, c.saturating_sub.ensures, second, first); longest = cut_is_longest }

@@ -1,0 +1,9 @@
+-- `head::is_reserved` meets its contract.
+use borrow.Author.Rules.{rules}
+use Rattle.property_area.specs.Head.{is_reserved}
+use Rattle.property_area.proofs.head.is_reserved.Goals as goal
+
+pub returns : goal.returns
+unfolding is_reserved
+returns c =
+    c.is_zero.ensures

@@ -1,0 +1,12 @@
+-- `reading_nodes::store_singles` meets its contract.
+use Prim.Native.Nat.{◌-◌}
+use native.Mathlib.Omega.{arith}
+use Rattle.readers.proofs.NodeWords.{Partly, partly_first, partly_length, partly_all, singles_next}
+use borrow.Author.Rules.{rules}
+use Rattle.readers.proofs.reading_nodes.store_singles.Given as goal
+
+abbrev pub invariant-loop-i : goal.invariant-loop-i
+invariant-loop-i l = Partly l.area l.initial.out 4 (λ k. k) l.at l.code l.n l.to l.out l.i
+
+abbrev pub decreases-loop-i : goal.decreases-loop-i
+decreases-loop-i l = l.n - l.i

@@ -1,0 +1,53 @@
+use mathlib.Core.Path.{◌≡◌, ap}
+use mathlib.Core.Bool.{true}
+use Prim.Native.Nat.{◌-◌}
+use native.Mathlib.Omega.{arith}
+use lib.ListN.{length}
+use borrow.Author.Rules.{rules}
+use Rattle.journal.specs.declared.property.PropertyRecord.{PropertyRecord}
+use Rattle.journal.specs.Holding.{property_here, property_in}
+use Rattle.journal.proofs.PropertyLaws.{held_other, held_property}
+use Rattle.stretch.specs.Inner.Terms.{Adds}
+use Rattle.stretch.proofs.Adding.{property_adds}
+use Rattle.stretch.proofs.Going.{Onward, goes_nowhere, adds_size, grows_one, onward_one}
+use Rattle.stretch.proofs.steps.past_properties.Goals as goal
+
+pub loop-s-init : goal.loop-s-init
+loop-s-init c =
+    (goes_nowhere _ _ c.requires, c.requires)
+
+pub held_at-held-requires : goal.held_at-held-requires
+held_at-held-requires c =
+    c.loop-s.invariant.1.inside
+
+pub returns-in-Other : goal.returns-in-Other
+returns-in-Other c =
+    (c.loop-s.invariant.0, c.loop-s.invariant.1, λ h. held_other _ c.loop-s.s.end _ c.in-Other.is c.held_at-held.ensures)
+
+pub grown-s-requires : goal.grown-s-requires
+grown-s-requires c =
+    let adds : Adds c.args.j.now c.loop-s.s.end c.in-Property.p.size c.none_packed.result =
+    let j = c.args.j.now in
+    let p : (property_here j c.loop-s.s.end ≡ true) × (c.in-Property.p ≡ property_in j c.loop-s.s.end) = held_property j c.loop-s.s.end _ _ c.in-Property.is c.held_at-held.ensures in
+    rw c.none_packed.ensures (property_adds j c.loop-s.s.end _ c.loop-s.invariant.1.inside p.0 (ap (λ (r : PropertyRecord). r.size) p.1)) in
+    grows_one _ _ _ _ c.loop-s.invariant.1 (adds)
+
+pub loop-s-smaller : goal.loop-s-smaller
+loop-s-smaller c =
+    let adds : Adds c.args.j.now c.loop-s.s.end c.in-Property.p.size c.none_packed.result =
+    let j = c.args.j.now in
+    let p : (property_here j c.loop-s.s.end ≡ true) × (c.in-Property.p ≡ property_in j c.loop-s.s.end) = held_property j c.loop-s.s.end _ _ c.in-Property.is c.held_at-held.ensures in
+    rw c.none_packed.ensures (property_adds j c.loop-s.s.end _ c.loop-s.invariant.1.inside p.0 (ap (λ (r : PropertyRecord). r.size) p.1)) in
+    rw c.grown-s.ensures (omega (arith, adds_size _ _ _ _ c.loop-s.invariant.1 (adds), c.loop-s-test.true))
+
+pub loop-s-preserved : goal.loop-s-preserved
+loop-s-preserved c =
+    let adds : Adds c.args.j.now c.loop-s.s.end c.in-Property.p.size c.none_packed.result =
+    let j = c.args.j.now in
+    let p : (property_here j c.loop-s.s.end ≡ true) × (c.in-Property.p ≡ property_in j c.loop-s.s.end) = held_property j c.loop-s.s.end _ _ c.in-Property.is c.held_at-held.ensures in
+    rw c.none_packed.ensures (property_adds j c.loop-s.s.end _ c.loop-s.invariant.1.inside p.0 (ap (λ (r : PropertyRecord). r.size) p.1)) in
+    rw c.grown-s.ensures (onward_one _ _ _ _ _ c.loop-s.invariant (adds))
+
+pub returns : goal.returns
+returns c =
+    (c.loop-s.invariant.0, c.loop-s.invariant.1, λ h. absurd (omega (arith, c.loop-s-test.false)))

@@ -1,0 +1,12 @@
+-- `steps::stretch_of` meets its contract.
+use borrow.Author.Rules.{rules}
+use Rattle.stretch.proofs.Going.{light_nothing}
+use Rattle.stretch.proofs.steps.stretch_of.Goals as goal
+
+pub stretch_on-requires : goal.stretch_on-requires
+stretch_on-requires c =
+    rw c.none_packed.ensures (light_nothing _ c.requires)
+
+pub returns : goal.returns
+returns c =
+    rw (← c.none_packed.ensures) (c.stretch_on.ensures.0, c.stretch_on.ensures.2)

@@ -1,0 +1,12 @@
+-- `steps::stretch_on` meets its contract.
+use Prim.Native.Nat.{◌-◌}
+use native.Mathlib.Omega.{arith}
+use lib.ListN.{length}
+use Rattle.stretch.proofs.Going.{Onward, goes_nowhere, goes_on}
+use Rattle.stretch.proofs.steps.stretch_on.Given as goal
+
+abbrev pub invariant-loop-s : goal.invariant-loop-s
+invariant-loop-s l = Onward l.j l.initial.s l.s
+
+abbrev pub decreases-loop-s : goal.decreases-loop-s
+decreases-loop-s l = length l.j - l.s.end
