@@ -1,4 +1,6 @@
 // Tallies kept beside a journal: how many operations of each opcode every scope's row holds.
+#![tactic(auto)]
+
 mod counting;
 mod keeping;
 mod tallies;

@@ -17,7 +17,7 @@ store_property-at-requires c =
 pub loop-i-preserved : goal.loop-i-preserved
 loop-i-preserved c =
     let stored = c.store_property-at.ensures in
-    storing_next c.loop-i.invariant c.loop-i-test.true _ stored.0 stored.1
+    storing_next c.loop-i.invariant c.loop-i-test.true _ stored.value stored.out_after
 
 pub shape_of-out : goal.shape_of-out
 shape_of-out c =

@@ -1,7 +1,0 @@
--- `writing::later` meets its contract.
-use borrow.Author.Tests.{lt-ltb, le-ltb}
-use Rattle.properties.proofs.writing.later.Statement.{statement}
-use Rattle.properties.proofs.writing.later.Tie as tie
-
-pub later_spec : {M : Type 1} → statement M
-later_spec = tie.close (tie.spec (λ c. rw (lt-ltb _ _ c.if1.true)) (λ c. rw (le-ltb _ _ c.if1.false)))

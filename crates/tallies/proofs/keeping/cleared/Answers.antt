@@ -1,0 +1,8 @@
+-- `keeping::cleared` meets its contract.
+use borrow.Author.Rules.{rules}
+use Rattle.tallies.proofs.Claims.{tally_claims}
+use Rattle.tallies.proofs.keeping.cleared.Goals as goal
+
+pub returns : goal.returns
+returns c =
+    record { value = cc; claims = tally_claims }

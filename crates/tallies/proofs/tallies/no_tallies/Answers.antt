@@ -1,0 +1,7 @@
+-- `tallies::no_tallies` meets its contract.
+use borrow.Author.Rules.{rules}
+use Rattle.tallies.proofs.tallies.no_tallies.Goals as goal
+
+pub returns : goal.returns
+returns c =
+    cc
