@@ -1,4 +1,6 @@
 // The definitions of a call through the argument buffer, of sessions, and the claims about them. Its code is types and their numbers.
+#![tactic(auto)]
+
 mod reading_record;
 mod request;
 mod status;
