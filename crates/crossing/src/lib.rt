@@ -1,4 +1,6 @@
 // What crosses the C boundary: the registration and the reading record as flat structs.
+#![tactic(auto)]
+
 mod reading_record;
 mod registration;
 

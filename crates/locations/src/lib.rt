@@ -1,4 +1,6 @@
 // One place to ask for a location code: an index work area, and the fixed list of codes. And a view that goes through an area entry by entry.
+#![tactic(auto)]
+
 mod fixed;
 mod listed;
 mod lookups;
