@@ -1,4 +1,6 @@
 // get-indices on partition memory, and the record of the reading in progress: the code that meets their definitions in `calls`.
+#![tactic(auto)]
+
 mod getting;
 mod reading_record;
 

@@ -1,0 +1,12 @@
+-- `forecasting::is_within` meets its contract.
+use borrow.Author.Rules.{rules}
+use borrow.Author.Tests.{eq-eqb, ne_eqb}
+use Rattle.forecast.proofs.forecasting.is_within.Goals as goal
+
+pub returns-then-n-eq0 : goal.returns-then-n-eq0
+returns-then-n-eq0 c =
+    rw (eq-eqb _ _ c.if-n-eq0.true)
+
+pub returns : goal.returns
+returns c =
+    rw (ne_eqb _ _ c.if-n-eq0.false) c.is_below.ensures
