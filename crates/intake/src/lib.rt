@@ -1,4 +1,6 @@
 // A journal that arrives in bursts, which may break anywhere: complete records go to a tallied journal in a lent buffer.
+#![tactic(auto)]
+
 mod bursts;
 mod filling;
 mod states;

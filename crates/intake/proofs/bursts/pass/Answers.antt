@@ -1,0 +1,48 @@
+use mathlib.Core.Path.{sym, ◌∙◌}
+use Prim.Native.Nat.{◌-◌}
+use borrow.Author.Rules.{rules}
+use borrow.Author.Tests.{not-true, not-false}
+use lib.ListN.{length}
+use native.Mathlib.Omega.{arith}
+use Rattle.records.proofs.Behind.{ripe_is}
+use Rattle.intake.specs.Taking.{good_front}
+use Rattle.intake.proofs.Standings.{Passing, pass_starts, pass_over, pass_held, pass_on}
+use Rattle.intake.proofs.bursts.pass.Goals as goal
+
+pub loop-place-init : goal.loop-place-init
+loop-place-init c =
+    pass_starts _ _ _ c.requires.0 c.requires.1
+
+pub shape_of-buffer-then-not-is_going : goal.shape_of-buffer-then-not-is_going
+shape_of-buffer-then-not-is_going c =
+    c.loop-place.invariant.size
+
+pub returns-then-not-is_going : goal.returns-then-not-is_going
+returns-then-not-is_going c =
+    pass_over c.loop-place.invariant (sym c.is_going.ensures ∙ c.if-not-is_going.true)
+
+pub ripe_at-n-requires : goal.ripe_at-n-requires
+ripe_at-n-requires c =
+    c.loop-place.invariant.place
+
+pub shape_of-buffer-then-n-eq0 : goal.shape_of-buffer-then-n-eq0
+shape_of-buffer-then-n-eq0 c =
+    c.loop-place.invariant.size
+
+pub returns-then-n-eq0 : goal.returns-then-n-eq0
+returns-then-n-eq0 c =
+    pass_held c.loop-place.invariant (sym c.is_going.ensures ∙ c.if-not-is_going.false) _ c.ripe_at-n.ensures c.if-n-eq0.true
+
+pub advance-next-requires : goal.advance-next-requires
+advance-next-requires c =
+    let now = c.loop-place.invariant in
+    let ripe = ripe_is good_front _ _ _ now.place c.ripe_at-n.ensures c.if-n-eq0.false in
+    record { sound = now.sound; going = sym c.is_going.ensures ∙ c.if-not-is_going.false; is = ripe.is; fits = ripe.fits }
+
+pub loop-place-smaller : goal.loop-place-smaller
+loop-place-smaller c =
+    omega (arith, c.advance-next.ensures.place, c.advance-next.ensures.onward)
+
+pub loop-place-preserved : goal.loop-place-preserved
+loop-place-preserved c =
+    pass_on c.loop-place.invariant c.advance-next.ensures c.advance-next.auto.buffer

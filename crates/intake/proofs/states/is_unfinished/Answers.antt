@@ -1,0 +1,21 @@
+-- `states::is_unfinished` meets its contract.
+use mathlib.Core.Path.{sym}
+use borrow.Author.Rules.{rules}
+use borrow.Author.Tests.{le-leb, lt-leb}
+use lib.ListN.{take}
+use lib.Seq.{length-take-le}
+use Rattle.intake.proofs.Taken.{none_due}
+use Rattle.intake.proofs.states.is_unfinished.Goals as goal
+
+pub returns-then-store-held : goal.returns-then-store-held
+returns-then-store-held c =
+    rw (lt-leb _ _ c.if-store-held.true)
+
+pub slice_bounds-ripe_at-end : goal.slice_bounds-ripe_at-end
+slice_bounds-ripe_at-end c =
+    sym (length-take-le _ _ c.if-store-held.false)
+
+pub returns : goal.returns
+returns c =
+    let a = c.args in
+    rw (le-leb _ _ c.if-store-held.false) (none_due (take a.held a.store.now) _ c.ripe_at.ensures)

@@ -1,0 +1,81 @@
+-- `sweeping::begin_stretch` meets its contract.
+use mathlib.Core.Path.{refl, sym}
+use native.Mathlib.Omega.{arith}
+use borrow.Author.Rules.{rules}
+use lib.Seq.{length-take-le}
+use Rattle.intake.proofs.Completing.{completed_far}
+use Rattle.intake.proofs.Covering.{Stored, begins_none, judged_inside, begins_not, begun_known, begun_size, begins}
+use Rattle.intake.proofs.sweeping.begin_stretch.Goals as goal
+
+-- without bytes behind the held ones
+pub returns-then-held-eq0 : goal.returns-then-held-eq0
+returns-then-held-eq0 c =
+    begins_none refl refl (completed_far _ _ _ (λ some _ _. some c.if-held-eq0.true)) _ c.no_stretch.ensures
+
+pub returns-then-held-ge-NODE_LIMIT : goal.returns-then-held-ge-NODE_LIMIT
+returns-then-held-ge-NODE_LIMIT c =
+    begins_none refl refl (completed_far _ _ _ (λ _ low _. omega (arith, low, c.if-held-ge-NODE_LIMIT.true))) _ c.no_stretch-then-held-ge-NODE_LIMIT.ensures
+
+pub returns-then-bytes-lt-NODE_LIMIT : goal.returns-then-bytes-lt-NODE_LIMIT
+returns-then-bytes-lt-NODE_LIMIT c =
+    begins_none refl refl (completed_far _ _ _ (λ _ _ long. omega (arith, long, c.if-bytes-lt-NODE_LIMIT.true))) _ c.no_stretch-then-bytes-lt-NODE_LIMIT.ensures
+
+pub slice_bounds-judge-end-2 : goal.slice_bounds-judge-end-2
+slice_bounds-judge-end-2 c =
+    let stored : Stored c.args.store.now c.args.held c.args.bytes.now c.store_bytes.new.s =
+    record {
+      holds = c.requires;
+      some = c.if-held-eq0.false;
+      low = c.if-held-ge-NODE_LIMIT.false;
+      long = c.if-bytes-lt-NODE_LIMIT.false;
+      is = c.store_bytes.ensures;
+    } in
+    sym (length-take-le _ _ (judged_inside (stored)))
+
+pub overflow_sub-result : goal.overflow_sub-result
+overflow_sub-result c =
+    let stored : Stored c.args.store.now c.args.held c.args.bytes.now c.store_bytes.new.s =
+    record {
+      holds = c.requires;
+      some = c.if-held-eq0.false;
+      low = c.if-held-ge-NODE_LIMIT.false;
+      long = c.if-bytes-lt-NODE_LIMIT.false;
+      is = c.store_bytes.ensures;
+    } in
+    omega (arith, begun_size (stored) _ _ c.in-Good.is c.judge-verdict.ensures)
+
+pub weights_for-requires : goal.weights_for-requires
+weights_for-requires c =
+    let stored : Stored c.args.store.now c.args.held c.args.bytes.now c.store_bytes.new.s =
+    record {
+      holds = c.requires;
+      some = c.if-held-eq0.false;
+      low = c.if-held-ge-NODE_LIMIT.false;
+      long = c.if-bytes-lt-NODE_LIMIT.false;
+      is = c.store_bytes.ensures;
+    } in
+    begun_known (stored) _ _ c.in-Good.is c.judge-verdict.ensures
+
+pub returns-in-Bad : goal.returns-in-Bad
+returns-in-Bad c =
+    let stored : Stored c.args.store.now c.args.held c.args.bytes.now c.store_bytes.new.s =
+    record {
+      holds = c.requires;
+      some = c.if-held-eq0.false;
+      low = c.if-held-ge-NODE_LIMIT.false;
+      long = c.if-bytes-lt-NODE_LIMIT.false;
+      is = c.store_bytes.ensures;
+    } in
+    begins_not (stored) _ c.no_stretch-in-Bad.ensures
+
+pub returns-in-Good : goal.returns-in-Good
+returns-in-Good c =
+    let stored : Stored c.args.store.now c.args.held c.args.bytes.now c.store_bytes.new.s =
+    record {
+      holds = c.requires;
+      some = c.if-held-eq0.false;
+      low = c.if-held-ge-NODE_LIMIT.false;
+      long = c.if-bytes-lt-NODE_LIMIT.false;
+      is = c.store_bytes.ensures;
+    } in
+    begins (stored) _ _ c.in-Good.is c.judge-verdict.ensures _ c.weights_for.ensures

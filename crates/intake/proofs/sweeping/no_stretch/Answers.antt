@@ -1,0 +1,7 @@
+-- `sweeping::no_stretch` meets its contract.
+use borrow.Author.Rules.{rules}
+use Rattle.intake.proofs.sweeping.no_stretch.Goals as goal
+
+pub returns : goal.returns
+returns c =
+    rw c.none_packed.ensures
