@@ -1,4 +1,6 @@
 // The calls on the platform's side, reached through one argument buffer: the code that meets the definitions and claims of `calls`.
+#![tactic(auto)]
+
 mod calling;
 mod dump_call;
 mod properties_call;
