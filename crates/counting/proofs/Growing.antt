@@ -41,7 +41,7 @@ rows_counted c number args memory =
 pub rows_all : (c : Counts) (xs : List Left) → length (counted_all c xs).rows ≡ length c.rows
 unfolding counted_all
 rows_all c [] = refl
-rows_all c (x ∷ xs) = rows_all _ xs ∙ rows_counted c x.number x.args x.memory
+rows_all c (x ∷ xs) = rows_all (counted c x.number x.args x.memory) xs ∙ rows_counted c x.number x.args x.memory
 
 module _ (n : ℕ) (c : Counts) (w : Within n c) where
   pub within_later : (m : ℕ) → n ≤ m → Within m c

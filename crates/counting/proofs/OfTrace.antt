@@ -15,7 +15,7 @@ use Rattle.trace.specs.Trace.{good_frame, is_good}
 use Rattle.trace.specs.Playing.{Platform, State, begin, stopped, step, reader}
 use Rattle.trace.proofs.Reader.{stops, unfair_step}
 use Rattle.counting.specs.declared.counts.Counts.{Counts}
-use Rattle.counting.specs.Counts.{no_counts}
+use Rattle.counting.specs.Counts.{no_counts, counted}
 use Rattle.counting.specs.OfTrace.{is_taken, made, calls_made, counted_all, counts_of, Counting, count_step, counter}
 use Rattle.counting.specs.Claims.OfTrace.{CountsOfCalls}
 
@@ -24,7 +24,7 @@ use Rattle.counting.specs.Claims.OfTrace.{CountsOfCalls}
 counted_join : (c : Counts) (xs ys : List Left) → counted_all c (xs ++ ys) ≡ counted_all (counted_all c xs) ys
 unfolding counted_all
 counted_join c [] ys = refl
-counted_join c (x ∷ xs) ys = counted_join _ xs ys
+counted_join c (x ∷ xs) ys = counted_join (counted c x.number x.args x.memory) xs ys
 
 module _ (p : Platform) where
   run_counts : (x : Counting) (rs : List (List ℕ)) → (run (count_step p) x rs).counts ≡ counted_all x.counts (calls_made p x.state rs)

@@ -1,4 +1,6 @@
 // What a record does to a replay: a 32 waits, a 33 has its call made and compared, a 34 sets memory.
+#![tactic(auto)]
+
 mod comparing;
 mod playing;
 

@@ -11,8 +11,7 @@ use Rattle.node_area.specs.declared.reading.Refusal.{Refusal}
 use Rattle.node_area.specs.declared.reading.Check.TheVariants.{Entries, Refused}
 use Rattle.node_area.specs.Reading.{reading, check_of}
 use Rattle.counting.specs.Area.{words_used, no_tally, tally_by, tally_of}
-use Rattle.counting.proofs.area.tally_in.Statement.{statement}
-use Rattle.counting.proofs.area.tally_in.Tie as tie
+use Rattle.counting.proofs.area.tally_in.Goals as goal
 
 none_read : (x : Reading Operation Refusal) (area : List ℕ) (r : Refusal) (at : ℕ) → check_of x ≡ Refused r at → no_tally ≡ tally_by x area
 none_read (read os) area r at e = cc
@@ -22,26 +21,12 @@ all_read : (x : Reading Operation Refusal) (area : List ℕ) (n k : ℕ) → che
 all_read (read os) area n k e u = cc
 all_read (refused r at) area n k e u = cc
 
-returns : tie.Need-returns
+pub returns-in-Refused : goal.returns-in-Refused
 unfolding tally_of
-returns c =
-    let s = c.before.before.before.before.before in
-    c.no-tally.ensures ∙ none_read (reading s.args.scope s.args.area.now) _ _ _ (sym c.before.before.before.check-area.ensures.0 ∙ c.before.enum_told.given.1)
+returns-in-Refused c =
+    c.no_tally.ensures ∙ none_read (reading c.args.scope c.args.area.now) _ _ _ (sym c.check_area-found.ensures.value ∙ c.in-Refused.is)
 
-returns-2 : tie.Need-returns-2
+pub returns-in-Entries : goal.returns-in-Entries
 unfolding tally_of
-returns-2 c =
-    let s = c.before.before.before.before.before.before in
-    all_read (reading s.args.scope s.args.area.now) _ _ _ (sym c.before.before.before.before.check-area.ensures.0 ∙ c.before.before.found.given.1) c.words-in.ensures
-
-pub tally_in_spec : {M : Type 1} → statement M
-tally_in_spec =
-    tie.close
-    (tie.spec
-    (λ c κs. search rules)
-    (λ c. search rules)
-    (λ c κs. search rules)
-    (λ c. search rules)
-    (λ c κs. search rules)
-    returns
-    returns-2)
+returns-in-Entries c =
+    all_read (reading c.args.scope c.args.area.now) _ _ _ (sym c.check_area-found.ensures.value ∙ c.in-Entries.is) c.words_in.ensures

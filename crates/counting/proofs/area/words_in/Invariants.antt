@@ -1,0 +1,12 @@
+-- `area::words_in` meets its contract.
+use Prim.Native.Nat.{◌-◌}
+use native.Mathlib.Omega.{arith}
+use borrow.Author.Rules.{rules}
+use Rattle.counting.proofs.UsedWords.{Passed, passed_none, passed_out, passed_end, passed_more}
+use Rattle.counting.proofs.area.words_in.Given as goal
+
+abbrev pub invariant-loop-at : goal.invariant-loop-at
+invariant-loop-at l = Passed l.area l.at
+
+abbrev pub decreases-loop-at : goal.decreases-loop-at
+decreases-loop-at l = 4096 - l.at

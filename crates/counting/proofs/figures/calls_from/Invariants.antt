@@ -1,0 +1,15 @@
+-- `figures::calls_from` meets its contract.
+use mathlib.Core.Path.{◌≡◌, refl, sym}
+use Prim.Native.Nat.{◌+◌, ◌-◌, ◌≤◌}
+use native.Mathlib.Omega.{arith}
+use lib.ListN.{drop}
+use borrow.Author.Rules.{rules}
+use Rattle.counting.specs.Figures.{sum_of}
+use Rattle.counting.proofs.Summing.{sum_next, sum_most}
+use Rattle.counting.proofs.figures.calls_from.Given as goal
+
+abbrev pub invariant-loop-i : goal.invariant-loop-i
+invariant-loop-i l = (l.i ≤ l.n) × (l.sum ≡ sum_of l.i (drop l.at l.rows))
+
+abbrev pub decreases-loop-i : goal.decreases-loop-i
+decreases-loop-i l = l.n - l.i

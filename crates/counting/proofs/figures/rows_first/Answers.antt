@@ -1,0 +1,22 @@
+use mathlib.Core.Path.{◌≡◌, refl}
+use mathlib.Core.List.{◌++◌}
+use Prim.Native.Nat.{◌-◌, ◌≤◌}
+use native.Mathlib.Omega.{arith}
+use lib.ListN.{take, replicate}
+use lib.Seq.{take_all}
+use borrow.Author.Rules.{rules}
+use Rattle.counting.proofs.Summing.{rows_next}
+use Rattle.counting.proofs.figures.rows_first.Goals as goal
+
+pub loop-i-init : goal.loop-i-init
+loop-i-init c =
+    (search rules, refl)
+
+pub loop-i-preserved : goal.loop-i-preserved
+loop-i-preserved c =
+    (search rules, rw c.loop-i.invariant.1 (rows_next c.args.rows c.loop-i.i (search rules) (search rules)))
+
+pub returns : goal.returns
+returns c =
+    let whole : c.loop-i.i ≡ 28 = omega (arith, c.loop-i.invariant.0) in
+    rw (whole, take_all 28 c.args.rows (search rules)) at c.loop-i.invariant.1

@@ -1,0 +1,16 @@
+-- `figures::rows_first` meets its contract.
+use mathlib.Core.Path.{◌≡◌, refl}
+use mathlib.Core.List.{◌++◌}
+use Prim.Native.Nat.{◌-◌, ◌≤◌}
+use native.Mathlib.Omega.{arith}
+use lib.ListN.{take, replicate}
+use lib.Seq.{take_all}
+use borrow.Author.Rules.{rules}
+use Rattle.counting.proofs.Summing.{rows_next}
+use Rattle.counting.proofs.figures.rows_first.Given as goal
+
+abbrev pub invariant-loop-i : goal.invariant-loop-i
+invariant-loop-i l = (l.i ≤ 28) × (l.figures ≡ take l.i l.rows ++ replicate (35 - l.i) 0)
+
+abbrev pub decreases-loop-i : goal.decreases-loop-i
+decreases-loop-i l = 28 - l.i

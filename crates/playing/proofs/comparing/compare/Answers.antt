@@ -1,0 +1,21 @@
+-- `comparing::compare` meets its contract.
+use borrow.Author.Rules.{rules}
+use native.Mathlib.Omega.{arith}
+use Rattle.playing.proofs.Leaves.{common_most, compared_other, compared_longer, compared_same}
+use Rattle.playing.proofs.comparing.compare.Goals as goal
+
+pub overflow_cast-result : goal.overflow_cast-result
+overflow_cast-result c =
+    let a = c.args in omega (arith, common_most a.recorded.now a.ours.now)
+
+pub returns-then-same-recorded : goal.returns-then-same-recorded
+returns-then-same-recorded c =
+    let a = c.args in compared_other a.calls a.recorded.now a.ours.now _ c.common_length-same.ensures c.if-same-recorded.true
+
+pub returns-then-same-ours : goal.returns-then-same-ours
+returns-then-same-ours c =
+    let a = c.args in compared_longer a.calls a.recorded.now a.ours.now _ c.common_length-same.ensures c.if-same-ours.true
+
+pub returns : goal.returns
+returns c =
+    let a = c.args in compared_same a.calls a.recorded.now a.ours.now _ c.common_length-same.ensures c.if-same-recorded.false c.if-same-ours.false

@@ -1,0 +1,7 @@
+-- `playing::blamed` meets its contract.
+use borrow.Author.Rules.{rules}
+use Rattle.playing.proofs.playing.blamed.Goals as goal
+
+pub returns : goal.returns
+returns c =
+    rw c.if-waits.false

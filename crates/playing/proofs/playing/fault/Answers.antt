@@ -1,0 +1,7 @@
+-- `playing::fault` meets its contract.
+use borrow.Author.Rules.{rules}
+use Rattle.playing.proofs.playing.fault.Goals as goal
+
+pub returns : goal.returns
+returns c =
+    rw c.blamed.ensures
