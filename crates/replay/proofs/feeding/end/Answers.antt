@@ -1,0 +1,23 @@
+-- `feeding::end` meets its contract.
+use mathlib.Core.Path.{sym, ◌∙◌}
+use borrow.Author.Rules.{rules}
+use borrow.Author.Tests.{not-true, not-false}
+use Rattle.replay.proofs.Leaves.{end_over, end_waits, end_held, end_clean}
+use Rattle.replay.proofs.Ending.{replay_claims}
+use Rattle.replay.proofs.feeding.end.Goals as goal
+
+pub returns-then-not-is_going : goal.returns-then-not-is_going
+returns-then-not-is_going c =
+    record { value = end_over _ _ _ _ (sym c.is_going.ensures ∙ c.if-not-is_going.true); claims = replay_claims }
+
+pub returns-then-playing : goal.returns-then-playing
+returns-then-playing c =
+    record { value = end_waits _ _ _ _ (sym c.is_going.ensures ∙ c.if-not-is_going.false) c.if-playing.true; claims = replay_claims }
+
+pub returns-then-from-ne0 : goal.returns-then-from-ne0
+returns-then-from-ne0 c =
+    record { value = end_held _ _ _ _ (sym c.is_going.ensures ∙ c.if-not-is_going.false) c.if-playing.false c.if-from-ne0.true; claims = replay_claims }
+
+pub returns : goal.returns
+returns c =
+    record { value = end_clean _ _ _ _ (sym c.is_going.ensures ∙ c.if-not-is_going.false) c.if-playing.false c.if-from-ne0.false; claims = replay_claims }
