@@ -148,6 +148,11 @@ read_wrong : (line : ℕ) (buffer : List ℕ)
 unfolding read_of digests_after
 read_wrong line buffer = (refl, refl)
 
+wrong_is : (line : ℕ) (buffer : List ℕ)
+    → ((read_of (wrong line) (length buffer)).number ≡ 61) × (digests_after (wrong line) buffer ≡ buffer)
+unfolding read_of digests_after
+wrong_is line buffer = (refl, refl)
+
 wrong_number : (line room : ℕ) → (read_of (wrong line) room).number ≡ 0 → ⊥
 unfolding read_of
 wrong_number line room n = omega arith
@@ -166,7 +171,8 @@ other_text t buffer bytes none (wrong line) e = read_wrong line buffer
 
 other_is : (t buffer : List ℕ) → Bytes t → ((figures : List ℕ) → TextOf t figures → ⊥) → (x : Table) → reading t ≡ x
     → ((read_of x (length buffer)).number ≡ 61) × (digests_after x buffer ≡ buffer)
-other_is t buffer bytes none x e = let o = other_text t buffer bytes none x e in (ap (λ (r : Read). r.number) o.0, o.1)
+other_is t buffer bytes none (table figures ds) e = absurd (none figures (text_of t figures ds bytes e))
+other_is t buffer bytes none (wrong line) e = wrong_is line buffer
 
 told_text : (t : List ℕ) (room : ℕ) → Bytes t → (x : Table) → reading t ≡ x → (read_of x room).number ≡ 0 → TextOf t (read_of x room).table.figures
 told_text t room bytes (table figures ds) e n = rw (read_figures figures ds room n) (text_of t figures ds bytes e)
