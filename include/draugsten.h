@@ -554,9 +554,9 @@ struct draugsten_share draugsten_month_share(struct draugsten_totals totals);
  */
 enum draugsten_table_number {
     DRAUGSTEN_TABLE_DONE = 0,
-    DRAUGSTEN_TABLE_NO_ROOM = 70,               /* the lent buffer is too short */
-    DRAUGSTEN_TABLE_NOT_A_TABLE = 71,           /* a read: the text is none that was written */
-    DRAUGSTEN_TABLE_DIGESTS = 72                /* a write: the digests' length is no multiple of 32 */
+    DRAUGSTEN_TABLE_NO_ROOM = 60,               /* the lent buffer is too short */
+    DRAUGSTEN_TABLE_NOT_A_TABLE = 61,           /* a read: the text is none that was written */
+    DRAUGSTEN_TABLE_DIGESTS = 62                /* a write: the digests' length is no multiple of 32 */
 };
 
 /* The 39 figures of a table. */
@@ -570,15 +570,15 @@ struct draugsten_table {
 
 /* What writing a table gives. */
 struct draugsten_table_written {
-    uint32_t number;                            /* 0, 72 or 70; the checks come in the order 72, 70 */
-    size_t length;                              /* of the text; with 70 that of the buffer it needs; with 72 zero */
+    uint32_t number;                            /* 0, 62 or 60; the checks come in the order 62, 60 */
+    size_t length;                              /* of the text; with 60 that of the buffer it needs; with 62 zero */
 };
 
 /* What reading a table gives. */
 struct draugsten_table_found {
-    uint32_t number;                            /* 0, 71 or 70; the checks come in the order 71, 70 */
-    uint64_t line;                              /* with 71 the first line, from 1, that is not as written; otherwise zero */
-    uint64_t sessions;                          /* how many digests the text has; with 71 zero */
+    uint32_t number;                            /* 0, 61 or 60; the checks come in the order 61, 60 */
+    uint64_t line;                              /* with 61 the first line, from 1, that is not as written; otherwise zero */
+    uint64_t sessions;                          /* how many digests the text has; with 61 zero */
     struct draugsten_table table;               /* all zero, with any number but 0 */
 };
 

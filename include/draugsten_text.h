@@ -106,9 +106,9 @@ enum draugsten_text_kind {
 
 #define DRAUGSTEN_TEXTS_OF_TABLES(X) \
     X(TABLE_NUMBER, 0, "done") \
-    X(TABLE_NUMBER, 70, "no room: the lent buffer is too short") \
-    X(TABLE_NUMBER, 71, "not a table: the text is none that was written") \
-    X(TABLE_NUMBER, 72, "the length of the digests is no multiple of 32")
+    X(TABLE_NUMBER, 60, "no room: the lent buffer is too short") \
+    X(TABLE_NUMBER, 61, "not a table: the text is none that was written") \
+    X(TABLE_NUMBER, 62, "the length of the digests is no multiple of 32")
 
 #define DRAUGSTEN_TEXTS_OF_TALLIES(X) \
     X(TALLIES_NUMBER, 0, "done") \

@@ -80,7 +80,7 @@ static void write_to(const char *what, size_t given, size_t room, uint32_t numbe
     free(out);
 }
 
-/* The checks come in the order 72, 70. */
+/* The checks come in the order 62, 60. */
 static void write_all(void)
 {
     struct draugsten_table_written written =
@@ -133,7 +133,7 @@ static void read_changed(const char *what, size_t place, uint8_t byte, uint64_t 
     read_from(what, other, length, sizeof digests, DRAUGSTEN_TABLE_NOT_A_TABLE, line, 0);
 }
 
-/* The checks come in the order 71, 70. */
+/* The checks come in the order 61, 60. */
 static void read_all(void)
 {
     read_from("the text", text, length, sizeof digests, DRAUGSTEN_TABLE_DONE, 0, SESSIONS);

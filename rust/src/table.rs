@@ -65,7 +65,7 @@ pub struct NotATable {
 
 impl fmt::Display for NotATable {
     fn fmt(&self, f: &mut fmt::Formatter<'_>) -> fmt::Result {
-        write!(f, "line {}: {}", self.line, words("TABLE_NUMBER", 71))
+        write!(f, "line {}: {}", self.line, words("TABLE_NUMBER", 61))
     }
 }
 
@@ -88,9 +88,9 @@ pub enum TableError {
 impl fmt::Display for TableError {
     fn fmt(&self, f: &mut fmt::Formatter<'_>) -> fmt::Result {
         match self {
-            TableError::NoRoom { needed } => write!(f, "{}; it needs {needed} bytes", words("TABLE_NUMBER", 70)),
+            TableError::NoRoom { needed } => write!(f, "{}; it needs {needed} bytes", words("TABLE_NUMBER", 60)),
             TableError::NotATable(wrong) => wrong.fmt(f),
-            TableError::Digests => f.write_str(words("TABLE_NUMBER", 72)),
+            TableError::Digests => f.write_str(words("TABLE_NUMBER", 62)),
         }
     }
 }
@@ -112,8 +112,8 @@ pub fn write_to(table: &Table, digests: &[u8], out: &mut [u8]) -> Result<usize, 
     let written = tables::write(table.flat(), digests, out);
     match written.number {
         0 => Ok(written.length),
-        70 => Err(TableError::NoRoom { needed: written.length }),
-        72 => Err(TableError::Digests),
+        60 => Err(TableError::NoRoom { needed: written.length }),
+        62 => Err(TableError::Digests),
         number => unreachable!("the library gives no number {number}"),
     }
 }
@@ -139,8 +139,8 @@ pub fn read_to(text: &[u8], digests: &mut [u8]) -> Result<(Table, usize), TableE
     let sessions = found.sessions as usize;
     match found.number {
         0 => Ok((Table::of(found.table), sessions)),
-        70 => Err(TableError::NoRoom { needed: DIGEST_SIZE * sessions }),
-        71 => Err(TableError::NotATable(NotATable { line: found.line })),
+        60 => Err(TableError::NoRoom { needed: DIGEST_SIZE * sessions }),
+        61 => Err(TableError::NotATable(NotATable { line: found.line })),
         number => unreachable!("the library gives no number {number}"),
     }
 }

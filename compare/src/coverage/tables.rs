@@ -14,16 +14,16 @@ struct Writing {
 
 const WRITES: &[Line<Writing>] = &[
     ("written", |f| f.written.number == 0),
-    ("70 no room", |f| f.written.number == 70),
-    ("72 digests that are not whole", |f| f.written.number == 72),
+    ("60 no room", |f| f.written.number == 60),
+    ("62 digests that are not whole", |f| f.written.number == 62),
     ("written, no session", |f| f.written.number == 0 && f.digests == 0),
     ("written, ten sessions or more", |f| f.written.number == 0 && f.digests >= 320),
     ("written, exactly as long as the buffer", |f| f.written.number == 0 && f.written.length == f.room),
-    ("70, one byte too few", |f| f.written.number == 70 && f.written.length == f.room + 1),
-    ("70, no buffer", |f| f.written.number == 70 && f.room == 0),
-    ("72, no buffer", |f| f.written.number == 72 && f.room == 0),
-    ("72, 1 byte too many", |f| f.written.number == 72 && f.digests % 32 == 1),
-    ("72, 31 bytes too many", |f| f.written.number == 72 && f.digests % 32 == 31),
+    ("60, one byte too few", |f| f.written.number == 60 && f.written.length == f.room + 1),
+    ("60, no buffer", |f| f.written.number == 60 && f.room == 0),
+    ("62, no buffer", |f| f.written.number == 62 && f.room == 0),
+    ("62, 1 byte too many", |f| f.written.number == 62 && f.digests % 32 == 1),
+    ("62, 31 bytes too many", |f| f.written.number == 62 && f.digests % 32 == 31),
     ("a figure 0", |f| f.written.number == 0 && f.figures.contains(&0)),
     ("a figure 2^64 - 1", |f| f.written.number == 0 && f.figures.contains(&u64::MAX)),
     ("all figures of 20 digits", |f| f.written.number == 0 && f.figures.iter().all(|&one| one >= 10u64.pow(19))),
@@ -42,7 +42,7 @@ impl Reading {
     }
 
     fn is_wrong_at(&self, line: u64) -> bool {
-        (self.found.number, self.found.line) == (71, line)
+        (self.found.number, self.found.line) == (61, line)
     }
 
     /// The line that is wrong, with its end.
@@ -79,27 +79,27 @@ const READS: &[Line<Reading>] = &[
     ("read, ten sessions or more", |f| f.is_read() && f.found.sessions >= 10),
     ("read, with exactly the room that is due", |f| f.is_read() && f.room as u64 == 32 * f.found.sessions),
     ("read, a figure 2^64 - 1", |f| f.is_read() && f.found.figures.contains(&u64::MAX)),
-    ("70, one byte too few", |f| f.found.number == 70 && f.room as u64 + 1 == 32 * f.found.sessions),
-    ("70, no buffer", |f| f.found.number == 70 && f.room == 0),
-    ("71, no buffer", |f| f.found.number == 71 && f.room == 0),
-    ("71, no text", |f| f.is_wrong_at(1) && f.text.is_empty()),
-    ("71, the first line cut off", |f| f.is_wrong_at(1) && b"token,status,count\n".starts_with(&f.text)),
-    ("71, the first figure", |f| f.is_wrong_at(2)),
-    ("71, the last figure", |f| f.is_wrong_at(40)),
-    ("71, the first session", |f| f.is_wrong_at(41)),
-    ("71, a later session", |f| f.found.line > 41),
-    ("71, the earlier form", |f| f.is_wrong_at(37) && f.text.ends_with(b"\n") && f.wrong_line().is_empty()),
-    ("71, a carriage return at the end", |f| f.wrong_line().ends_with(b"\r\n")),
-    ("71, a line of a newline alone", |f| f.wrong_line() == b"\n"),
-    ("71, a zero before a count", |f| f.wrong_count().starts_with(b"0") && f.wrong_count().len() > 1),
-    ("71, a count of 2^64", |f| f.wrong_count() == b"18446744073709551616"),
-    ("71, a count of 20 digits", |f| f.found.line < 41 && f.wrong_count().len() == 20),
-    ("71, a count of 21 digits or more", |f| f.found.line < 41 && f.wrong_count().len() > 20),
-    ("71, no count", |f| (2..41).contains(&f.found.line) && f.wrong_line().ends_with(b",\n")),
-    ("71, a digest with a capital digit", |f| f.found.line > 40 && f.wrong_line().iter().any(u8::is_ascii_uppercase)),
-    ("71, a digest of 63 digits", |f| f.found.line > 40 && f.wrong_line().len() == 74),
-    ("71, a digest of 65 digits", |f| f.found.line > 40 && f.wrong_line().len() == 76),
-    ("71, the last newline is missing", |f| f.found.number == 71 && f.wrong_line().ends_with(b",1")),
+    ("60, one byte too few", |f| f.found.number == 60 && f.room as u64 + 1 == 32 * f.found.sessions),
+    ("60, no buffer", |f| f.found.number == 60 && f.room == 0),
+    ("61, no buffer", |f| f.found.number == 61 && f.room == 0),
+    ("61, no text", |f| f.is_wrong_at(1) && f.text.is_empty()),
+    ("61, the first line cut off", |f| f.is_wrong_at(1) && b"token,status,count\n".starts_with(&f.text)),
+    ("61, the first figure", |f| f.is_wrong_at(2)),
+    ("61, the last figure", |f| f.is_wrong_at(40)),
+    ("61, the first session", |f| f.is_wrong_at(41)),
+    ("61, a later session", |f| f.found.line > 41),
+    ("61, the earlier form", |f| f.is_wrong_at(37) && f.text.ends_with(b"\n") && f.wrong_line().is_empty()),
+    ("61, a carriage return at the end", |f| f.wrong_line().ends_with(b"\r\n")),
+    ("61, a line of a newline alone", |f| f.wrong_line() == b"\n"),
+    ("61, a zero before a count", |f| f.wrong_count().starts_with(b"0") && f.wrong_count().len() > 1),
+    ("61, a count of 2^64", |f| f.wrong_count() == b"18446744073709551616"),
+    ("61, a count of 20 digits", |f| f.found.line < 41 && f.wrong_count().len() == 20),
+    ("61, a count of 21 digits or more", |f| f.found.line < 41 && f.wrong_count().len() > 20),
+    ("61, no count", |f| (2..41).contains(&f.found.line) && f.wrong_line().ends_with(b",\n")),
+    ("61, a digest with a capital digit", |f| f.found.line > 40 && f.wrong_line().iter().any(u8::is_ascii_uppercase)),
+    ("61, a digest of 63 digits", |f| f.found.line > 40 && f.wrong_line().len() == 74),
+    ("61, a digest of 65 digits", |f| f.found.line > 40 && f.wrong_line().len() == 76),
+    ("61, the last newline is missing", |f| f.found.number == 61 && f.wrong_line().ends_with(b",1")),
 ];
 
 pub fn tables() -> [Table; 3] {

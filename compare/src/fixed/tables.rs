@@ -133,7 +133,7 @@ impl ReadReading {
                 after[..length].copy_from_slice(&digests()[..length]);
                 Found { number: 0, line: 0, sessions, figures: figures() }
             }
-            Err((70, sessions)) => Found { number: 70, line: 0, sessions, figures: [0; 39] },
+            Err((60, sessions)) => Found { number: 60, line: 0, sessions, figures: [0; 39] },
             Err((number, line)) => Found { number, line, sessions: 0, figures: [0; 39] },
         };
         let same = given == written && out.content() == after && out.is_guarded();
@@ -151,14 +151,14 @@ fn writes() -> Vec<WriteReading> {
     vec![
         of("a table", 64, LENGTH, Ok(TEXT)),
         of("a table, and more room", 64, LENGTH + 9, Ok(TEXT)),
-        of("one byte too few", 64, LENGTH - 1, Err((70, LENGTH))),
-        of("no buffer", 64, 0, Err((70, LENGTH))),
+        of("one byte too few", 64, LENGTH - 1, Err((60, LENGTH))),
+        of("no buffer", 64, 0, Err((60, LENGTH))),
         of("one session", 32, LENGTH, Ok(&TEXT[..LENGTH - SESSION])),
         of("no session", 0, LENGTH, Ok(&TEXT[..LENGTH - 2 * SESSION])),
-        of("no session, one byte too few", 0, LENGTH - 2 * SESSION - 1, Err((70, LENGTH - 2 * SESSION))),
-        of("63 bytes of digests", 63, LENGTH, Err((72, 0))),
-        of("33 bytes of digests", 33, LENGTH, Err((72, 0))),
-        of("1 byte of digests, and no buffer", 1, 0, Err((72, 0))),
+        of("no session, one byte too few", 0, LENGTH - 2 * SESSION - 1, Err((60, LENGTH - 2 * SESSION))),
+        of("63 bytes of digests", 63, LENGTH, Err((62, 0))),
+        of("33 bytes of digests", 33, LENGTH, Err((62, 0))),
+        of("1 byte of digests, and no buffer", 1, 0, Err((62, 0))),
     ]
 }
 
@@ -170,22 +170,22 @@ fn whole() -> Vec<ReadReading> {
     vec![
         read("a table", TEXT, 64, Ok(2)),
         read("a table, and more room", TEXT, 70, Ok(2)),
-        read("one byte too few for digests", TEXT, 63, Err((70, 2))),
-        read("no buffer for digests", TEXT, 0, Err((70, 2))),
+        read("one byte too few for digests", TEXT, 63, Err((60, 2))),
+        read("no buffer for digests", TEXT, 0, Err((60, 2))),
         read("one session", &TEXT[..LENGTH - SESSION], 32, Ok(1)),
         read("no session, and no buffer", &TEXT[..LENGTH - 2 * SESSION], 0, Ok(0)),
-        read("no text", "", 64, Err((71, 1))),
-        read("the first line alone", &TEXT[..19], 64, Err((71, 2))),
-        read("the first line without its newline", &TEXT[..18], 64, Err((71, 1))),
-        read("no newline at the end", &TEXT[..LENGTH - 1], 64, Err((71, 42))),
-        read("no newline at the end, and no buffer", &TEXT[..LENGTH - 1], 0, Err((71, 42))),
-        read("no newline after the last figure", &TEXT[..LENGTH - 2 * SESSION - 1], 64, Err((71, 40))),
+        read("no text", "", 64, Err((61, 1))),
+        read("the first line alone", &TEXT[..19], 64, Err((61, 2))),
+        read("the first line without its newline", &TEXT[..18], 64, Err((61, 1))),
+        read("no newline at the end", &TEXT[..LENGTH - 1], 64, Err((61, 42))),
+        read("no newline at the end, and no buffer", &TEXT[..LENGTH - 1], 0, Err((61, 42))),
+        read("no newline after the last figure", &TEXT[..LENGTH - 2 * SESSION - 1], 64, Err((61, 40))),
     ]
 }
 
 /// The text with one part replaced, which is refused at this line.
 fn with(name: &'static str, part: &str, other: &str, line: u64) -> ReadReading {
-    read(name, &TEXT.replacen(part, other, 1), 64, Err((71, line)))
+    read(name, &TEXT.replacen(part, other, 1), 64, Err((61, line)))
 }
 
 fn changed() -> Vec<ReadReading> {
@@ -200,7 +200,7 @@ fn changed() -> Vec<ReadReading> {
         with("another status", "1,-10,6", "1,-11,6", 8),
         with("another token", "4,all", "5,all", 33),
         with("the earlier form", &TEXT[TEXT.find("sessions,added").unwrap_or(0)..], "", 37),
-        read("CR LF at every line", &TEXT.replace('\n', "\r\n"), 64, Err((71, 1))),
+        read("CR LF at every line", &TEXT.replace('\n', "\r\n"), 64, Err((61, 1))),
     ]
 }
 

@@ -6,7 +6,7 @@ use crate::paper::table::Figures;
 #[cfg(not(feature = "without-library"))]
 use crate::tables::subject::Tabling;
 
-/// What writing gives back: number 0 with the text's length, 70 with the length that is needed, or 72.
+/// What writing gives back: number 0 with the text's length, 60 with the length that is needed, or 62.
 #[repr(C)]
 #[derive(Clone, Copy, PartialEq, Eq, Debug)]
 pub struct Written {
@@ -14,7 +14,7 @@ pub struct Written {
     pub length: usize,
 }
 
-/// What reading gives back: number 0 with the figures and the number of sessions, 70 with the number of sessions, or 71
+/// What reading gives back: number 0 with the figures and the number of sessions, 60 with the number of sessions, or 61
 /// with the line. The figures lie as struct draugsten_table does.
 #[repr(C)]
 #[derive(Clone, Copy, PartialEq, Eq, Debug)]

@@ -1,13 +1,13 @@
 //! The text of a month's table, by docs/DECISIONS.md, "The table of a month", and what writing and reading it give.
 
 /// The lent buffer is too short.
-pub const NO_ROOM: u32 = 70;
+pub const NO_ROOM: u32 = 60;
 
 /// The text is not a table.
-pub const NOT_A_TABLE: u32 = 71;
+pub const NOT_A_TABLE: u32 = 61;
 
 /// The length of the digests is no multiple of 32.
-pub const NOT_WHOLE: u32 = 72;
+pub const NOT_WHOLE: u32 = 62;
 
 const DIGEST: usize = 32;
 
@@ -65,7 +65,7 @@ pub struct NotWritten {
     pub needed: usize,
 }
 
-/// Writes to a buffer, and gives the length of the text. "Writing judges 72 before 70".
+/// Writes to a buffer, and gives the length of the text. "Writing judges 62 before 60".
 pub fn write(figures: &Figures, digests: &[u8], out: &mut [u8]) -> Result<usize, NotWritten> {
     if !digests.len().is_multiple_of(DIGEST) {
         return Err(NotWritten { number: NOT_WHOLE, needed: 0 });
@@ -88,7 +88,7 @@ pub struct NotRead {
     pub rule: &'static str,
 }
 
-/// Reads a text, stores its digests in a buffer, and gives the figures and the number of sessions. "reading 71 before 70".
+/// Reads a text, stores its digests in a buffer, and gives the figures and the number of sessions. "reading 61 before 60".
 pub fn read(text: &[u8], out: &mut [u8]) -> Result<(Figures, usize), NotRead> {
     let (figures, digests) = judge(text)?;
     let sessions = digests.len() / DIGEST;

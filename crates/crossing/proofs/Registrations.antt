@@ -12,7 +12,7 @@ use Rattle.dump.specs.declared.registration.Registration.{Registration}
 use Rattle.dump.specs.Registration.{copy_size}
 use Rattle.crossing.specs.declared.registration.FlatRegistration.{FlatRegistration}
 use Rattle.crossing.specs.Registration.{phase_number, phase_of, flat_of, registration_of, is_registration}
-use Rattle.crossing.specs.Claims.Registration.{Faithful}
+use Rattle.crossing.specs.Claims.Registration.{Faithful, RegistrationExactly}
 
 -- the phase and the length of a registration
 pub bounds : (f : FlatRegistration) → is_registration f ≡ true → (f.phase ≤ 2) × (f.length ≤ copy_size)
@@ -33,9 +33,12 @@ is_one : (f : FlatRegistration) → (f.phase ≤ 2) × (f.length ≤ 512) → is
 unfolding is_registration
 is_one f h = rw (le-leb f.phase 2 h.0, le-leb f.length 512 h.1)
 
--- the claim that `registration_of` cites
+-- the claims that `registration_of` cites
 pub faithful : Faithful
-faithful = record {
+faithful f e = same f (bounds f e).0
+
+pub registration_exactly : RegistrationExactly
+registration_exactly = record {
   taken = λ f. (bounds f, is_one f);
   same = same;
   start = refl;

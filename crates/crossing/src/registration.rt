@@ -1,7 +1,7 @@
 // The registration over the C boundary.
 ghost use Rattle.std.specs.Prelude.{◌≡◌};
 ghost use Rattle.crossing.specs.Registration.{phase_number, phase_of, flat_of, registration_of, is_registration};
-ghost use Rattle.crossing.specs.Claims.Registration.{Faithful};
+ghost use Rattle.crossing.specs.Claims.Registration.{Faithful, RegistrationExactly};
 
 use dump::{COPY_SIZE, Phase, Registration};
 
@@ -45,6 +45,7 @@ pub fn is_registration(flat: FlatRegistration) -> bool
 pub fn registration_of(flat: FlatRegistration) -> Registration
     ensures value { result ≡ registration_of flat }
     ensures faithful { Faithful }
+    ensures exactly { RegistrationExactly }
 {
     let copy = flat.copy;
     Registration {

@@ -8,11 +8,11 @@ use Rattle.indices.proofs.Claims as indices
 use Rattle.property_area.proofs.ReaderClaims.{property_reader_exactly}
 use Rattle.property_area.proofs.Claims as property-area
 use Rattle.calls.proofs.Claims.{call_claims}
-use Rattle.crossing.proofs.Registrations.{faithful}
+use Rattle.crossing.proofs.Registrations.{faithful, registration_exactly}
 use Rattle.crossing.proofs.Records.{reading_faithful}
 use Rattle.readers.proofs.ReaderClaims.{nodes_told, indices_told, properties_told}
 use Rattle.draugsten.specs.Promises.{ReadNodesPromise, ReadIndicesPromise, ReadPropertiesPromise, CallPromise, NoRegistrationPromise, NoReadingPromise, EditPromise}
-use Rattle.draugsten.proofs.Registrations.{call_crosses, thirteen_exactly, handed_on, start_taken}
+use Rattle.draugsten.proofs.Registrations.{call_crosses, thirteen_exactly, registration_crosses, handed_on, start_taken}
 use Rattle.draugsten.proofs.Crossing.{record_crosses}
 use Rattle.draugsten.proofs.Records.{edit_told, reading_crosses}
 use Rattle.draugsten.proofs.Terms.{terms_exactly}
@@ -43,6 +43,8 @@ call_promise =
       thirteen = thirteen_exactly;
       handed_on = handed_on;
       registration = faithful;
+      registration_numbers = registration_crosses;
+      registration_exactly = registration_exactly;
       reading = reading_faithful;
       reading_numbers = reading_crosses;
       readings = record_crosses;
@@ -53,7 +55,7 @@ call_promise =
     }
 
 pub no_registration_promise : NoRegistrationPromise
-no_registration_promise = record { taken = start_taken; numbers = faithful }
+no_registration_promise = record { taken = start_taken; numbers = registration_crosses; exactly = registration_exactly }
 
 pub no_reading_promise : NoReadingPromise
 no_reading_promise = record { faithful = reading_faithful; numbers = reading_crosses; terms = terms_exactly }

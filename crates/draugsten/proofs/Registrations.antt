@@ -15,7 +15,7 @@ use Rattle.calls.proofs.Registrations.{handed_short}
 use Rattle.crossing.specs.Registration.{is_registration}
 use Rattle.crossing.proofs.Registrations.{bounds, flat_is}
 use Rattle.draugsten.specs.Registration.{FlatFound, FlatLeft, found_over, called, flat_call_of}
-use Rattle.draugsten.specs.Claims.Registration.{CallCrosses, ThirteenExactly, HandedOn, StartTaken}
+use Rattle.draugsten.specs.Claims.Registration.{CallCrosses, ThirteenExactly, RegistrationCrosses, HandedOn, StartTaken}
 
 no_thirteen : (n : Number) → number_of n ≡ 13 → ⊥
 no_thirteen Given e = omega arith
@@ -49,6 +49,9 @@ is_one f p l = rw (le-leb f.registration.phase 2 p, le-leb f.registration.length
 pub call_crosses : CallCrosses
 unfolding flat_call_of
 call_crosses f = record { given = λ p l. rw (is_one f p l); refused = λ e. rw (not_is f e) }
+
+pub registration_crosses : RegistrationCrosses
+registration_crosses = record { start = refl; phases = λ n c. (refl, (refl, refl)) }
 
 outside : (f : FlatFound) → is_registration f.registration ≡ false → (2 < f.registration.phase) ⊎ (512 < f.registration.length)
 outside f e = decide (leb f.registration.phase 2)

@@ -11,10 +11,10 @@ use Rattle.property_area.specs.Claims.Reader.{PropertyReaderExactly}
 use Rattle.property_area.specs.Cases.Reading as property-cases
 use Rattle.property_area.specs.Claims.PropertyArea.{RoundTrip}
 use Rattle.calls.specs.Claims.Calls.{CallClaims}
-use Rattle.crossing.specs.Claims.Registration.{Faithful}
+use Rattle.crossing.specs.Claims.Registration.{Faithful, RegistrationExactly}
 use Rattle.crossing.specs.Claims.Record.{ReadingFaithful}
 use Rattle.readers.specs.Claims.Readers.{NodesTold, IndicesTold, PropertiesTold}
-use Rattle.draugsten.specs.Claims.Registration.{CallCrosses, ThirteenExactly, HandedOn, StartTaken}
+use Rattle.draugsten.specs.Claims.Registration.{CallCrosses, ThirteenExactly, RegistrationCrosses, HandedOn, StartTaken}
 use Rattle.draugsten.specs.Claims.Crossing.{RecordCrosses}
 use Rattle.draugsten.specs.Claims.Record.{EditTold, ReadingCrosses}
 use Rattle.draugsten.specs.Claims.Terms.{TermsExactly}
@@ -54,6 +54,8 @@ pub record CallPromise : Type 0 where
   pub thirteen : ThirteenExactly
   pub handed_on : HandedOn
   pub registration : Faithful
+  pub registration_numbers : RegistrationCrosses
+  pub registration_exactly : RegistrationExactly
   pub reading : ReadingFaithful
   pub reading_numbers : ReadingCrosses
   pub readings : RecordCrosses
@@ -66,7 +68,8 @@ pub record CallPromise : Type 0 where
 -- draugsten_no_registration
 pub record NoRegistrationPromise : Type 0 where
   pub taken : StartTaken
-  pub numbers : Faithful
+  pub numbers : RegistrationCrosses
+  pub exactly : RegistrationExactly
 
 -- draugsten_no_reading
 pub record NoReadingPromise : Type 0 where

@@ -5,9 +5,9 @@ use Rattle.dump.proofs.Claims.{structure_cases}
 use Rattle.dumping.proofs.Claims.{section_claims}
 use Rattle.dumping.proofs.RunClaims.{run_claims}
 use Rattle.calls.proofs.Claims.{call_claims}
-use Rattle.crossing.proofs.Registrations.{faithful}
+use Rattle.crossing.proofs.Registrations.{faithful, registration_exactly}
 use Rattle.draugsten_dump.proofs.Claims.{boundary_claims}
 use Rattle.draugsten_dump.specs.Promises.{RunPromise}
 
 pub run_promise : RunPromise
-run_promise = record { boundary = boundary_claims; calls = call_claims; registration = faithful; runs = run_claims; sections = section_claims; structure = structure_exactly; structures = structure_cases; numbers = numbers_exactly }
+run_promise = record { boundary = boundary_claims; calls = call_claims; registration = faithful; registration_exactly = registration_exactly; runs = run_claims; sections = section_claims; structure = structure_exactly; structures = structure_cases; numbers = numbers_exactly }

@@ -6,7 +6,7 @@ use Rattle.dump.specs.Claims.Dump.{StructureCases}
 use Rattle.dumping.specs.Claims.Dumping.{SectionClaims}
 use Rattle.dumping.specs.Claims.Run.{RunClaims}
 use Rattle.calls.specs.Claims.Calls.{CallClaims}
-use Rattle.crossing.specs.Claims.Registration.{Faithful}
+use Rattle.crossing.specs.Claims.Registration.{Faithful, RegistrationExactly}
 use Rattle.draugsten_dump.specs.Claims.Dump.{BoundaryClaims}
 
 -- draugsten_run_dump
@@ -14,6 +14,7 @@ pub record RunPromise : Type 0 where
   pub boundary : BoundaryClaims
   pub calls : CallClaims
   pub registration : Faithful
+  pub registration_exactly : RegistrationExactly
   pub runs : RunClaims
   pub sections : SectionClaims
   pub structure : StructureExactly

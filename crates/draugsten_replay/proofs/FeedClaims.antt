@@ -15,7 +15,8 @@ unfolding flat_end_of completed
 feeds_exactly =
     record {
       kept = λ journal inventory held args memory bytes heldThen argsThen memoryThen f r feeds. (λ n. (feeds.number, feeds.refused n), (feeds.behind, feeds.stopped));
-      taken = λ journal inventory held args memory bytes heldThen argsThen memoryThen f r feeds z. (feeds.given z, feeds.lent z, feeds.again z, feeds.edition, feeds.number ∙ z, feeds.whole z);
+      taken = λ journal inventory held args memory bytes heldThen argsThen memoryThen f r feeds z. (feeds.given z, feeds.lent z, feeds.again z, feeds.edition);
+      held_too = λ journal inventory held args memory bytes heldThen argsThen memoryThen f r feeds z. (feeds.number ∙ z, feeds.whole z);
       completes = λ p held bytes n. (refl, λ some. rw (ne_eqb n 0 (λ z. omega arith)));
       over = λ journal inventory edition. refl;
       comes = λ held args memory f. (refl, refl, refl, refl, refl, refl, (λ e. rw e), (λ n e. rw (e, ne_eqb (suc n) 0 (λ z. omega arith), suc_sub_one n)));

@@ -8,6 +8,7 @@ use native.Mathlib.Omega.{arith}
 use lib.Dec.{leb, eqb}
 use lib.ListN.{length, take, drop, length-drop}
 use borrow.Author.Tests.{leb-true, leb-false, le-leb, lt-leb, lt-ltb, le-ltb, eq-eqb, ne_eqb}
+use Rattle.words.specs.Numbers.{le}
 use Rattle.words.proofs.Choice.{decide, and_left, and_right}
 use Rattle.records.specs.Records.{length_of, kind_of, size_of, first_record, records, whole, all_good}
 use Rattle.records.specs.Cutting.{due, standing, start, fed}
@@ -110,10 +111,15 @@ each_store store bytes n =
       eighteen = λ some low long few. rw (ne_eqb n 0 (λ e. omega arith), lt-ltb n 18 low, le-leb 18 (length bytes) long, le-leb missing 18 few);
     }
 
+due_is : (r : List ℕ) → due good_front r ≡ 4 + cond (good_front (le 2 r 0) (le 2 r 2)) (le 2 r 0 - 2) 0
+unfolding due length_of kind_of
+due_is r = refl
+
 pub intake_claims : IntakeClaims
 intake_claims = record {
   each_standing = λ buffer store i. record { standing = refl; step = λ s r. (refl, refl) };
   each_store = each_store;
+  due_is = due_is;
   fed_exactly = fed_exactly reader sticky;
   any_cutting = every_cutting;
   bursts_join = bursts_join;

@@ -29,8 +29,8 @@ use Rattle.month_table.proofs.Answering.{odd_answer, odd_buffer, short_answer, s
 
 -- the three answers, one of which each input has
 module _ (figures ds : List ℕ) (room : ℕ) (P : Type 0) where
-  cases : ((length ds % 32 ≡ 0 → ⊥) → written_to figures ds room ≡ answer 72 0 → P)
-      → (length ds % 32 ≡ 0 → room < length (text figures ds) → written_to figures ds room ≡ answer 70 (min (length (text figures ds)) 0xffff_ffff_ffff_ffff) → P)
+  cases : ((length ds % 32 ≡ 0 → ⊥) → written_to figures ds room ≡ answer 62 0 → P)
+      → (length ds % 32 ≡ 0 → room < length (text figures ds) → written_to figures ds room ≡ answer 60 (min (length (text figures ds)) 0xffff_ffff_ffff_ffff) → P)
       → (length ds % 32 ≡ 0 → length (text figures ds) ≤ room → written_to figures ds room ≡ answer 0 (length (text figures ds)) → P)
       → P
   cases a b c = decide (eqb (length ds % 32) 0)
@@ -57,32 +57,32 @@ module _ (figures ds : List ℕ) (room : ℕ) where
   abbrev most : ℕ
   most = min (length (text figures ds)) 0xffff_ffff_ffff_ffff
 
-  not_whole : Exactly (told.number ≡ 72) (length ds % 32 ≡ 0 → ⊥)
+  not_whole : Exactly (told.number ≡ 62) (length ds % 32 ≡ 0 → ⊥)
   not_whole = (
     λ n. cases figures ds room (length ds % 32 ≡ 0 → ⊥) (λ o e. o)
-        (λ w h e. absurd (omega (arith, number_is told 70 most e))) (λ w h e. absurd (omega (arith, number_is told 0 long e))),
-    λ o. number_is told 72 0 (sym (odd_answer figures ds o room)),
+        (λ w h e. absurd (omega (arith, number_is told 60 most e))) (λ w h e. absurd (omega (arith, number_is told 0 long e))),
+    λ o. number_is told 62 0 (sym (odd_answer figures ds o room)),
   )
 
-  short : Exactly (told.number ≡ 70) ((length ds % 32 ≡ 0) × (room < long))
+  short : Exactly (told.number ≡ 60) ((length ds % 32 ≡ 0) × (room < long))
   short = (
-    λ n. cases figures ds room ((length ds % 32 ≡ 0) × (room < long)) (λ o e. absurd (omega (arith, number_is told 72 0 e)))
+    λ n. cases figures ds room ((length ds % 32 ≡ 0) × (room < long)) (λ o e. absurd (omega (arith, number_is told 62 0 e)))
         (λ w h e. (w, h)) (λ w h e. absurd (omega (arith, number_is told 0 long e))),
-    λ h. number_is told 70 most (sym (short_answer figures ds h.0 room most h.1 refl)),
+    λ h. number_is told 60 most (sym (short_answer figures ds h.0 room most h.1 refl)),
   )
 
   done : Exactly (told.number ≡ 0) ((length ds % 32 ≡ 0) × (long ≤ room))
   done = (
-    λ n. cases figures ds room ((length ds % 32 ≡ 0) × (long ≤ room)) (λ o e. absurd (omega (arith, number_is told 72 0 e)))
-        (λ w h e. absurd (omega (arith, number_is told 70 most e))) (λ w h e. (w, h)),
+    λ n. cases figures ds room ((length ds % 32 ≡ 0) × (long ≤ room)) (λ o e. absurd (omega (arith, number_is told 62 0 e)))
+        (λ w h e. absurd (omega (arith, number_is told 60 most e))) (λ w h e. (w, h)),
     λ h. number_is told 0 long (sym (written_answer figures ds h.0 room long h.1 refl)),
   )
 
-  none_told : told.number ≡ 72 → told.length ≡ 0
-  none_told n = length_is told 72 0 (sym (odd_answer figures ds (not_whole.0 n) room))
+  none_told : told.number ≡ 62 → told.length ≡ 0
+  none_told n = length_is told 62 0 (sym (odd_answer figures ds (not_whole.0 n) room))
 
-  needed : told.number ≡ 70 → told.length ≡ most
-  needed n = length_is told 70 most (sym (short_answer figures ds (short.0 n).0 room most (short.0 n).1 refl))
+  needed : told.number ≡ 60 → told.length ≡ most
+  needed n = length_is told 60 most (sym (short_answer figures ds (short.0 n).0 room most (short.0 n).1 refl))
 
   size : told.number ≡ 0 → told.length ≡ long
   size n = length_is told 0 long (sym (written_answer figures ds (done.0 n).0 room long (done.0 n).1 refl))
@@ -135,7 +135,7 @@ module _ (figures ds : List ℕ) where
   read_done buffer h = rw (le-ltb (length buffer) (length ds) h) (refl, refl)
 
   read_short : (buffer : List ℕ) → length buffer < length ds
-      → (read_of (table figures ds) (length buffer) ≡ no_table 70 0 (length ds / 32)) × (digests_after (table figures ds) buffer ≡ buffer)
+      → (read_of (table figures ds) (length buffer) ≡ no_table 60 0 (length ds / 32)) × (digests_after (table figures ds) buffer ≡ buffer)
   unfolding read_of digests_after
   read_short buffer h = rw (lt-ltb (length buffer) (length ds) h) (refl, refl)
 
@@ -144,15 +144,20 @@ module _ (figures ds : List ℕ) where
   read_figures room = decide (ltb room (length ds)) (λ t. rw t (λ n. absurd (omega arith))) (λ t. rw t (λ n. refl))
 
 read_wrong : (line : ℕ) (buffer : List ℕ)
-    → ((read_of (wrong line) (length buffer)).number ≡ 71) × (digests_after (wrong line) buffer ≡ buffer)
+    → (read_of (wrong line) (length buffer) ≡ no_table 61 (read_of (wrong line) (length buffer)).line 0) × (digests_after (wrong line) buffer ≡ buffer)
 unfolding read_of digests_after
 read_wrong line buffer = (refl, refl)
+
+wrong_is : (line : ℕ) (buffer : List ℕ)
+    → ((read_of (wrong line) (length buffer)).number ≡ 61) × (digests_after (wrong line) buffer ≡ buffer)
+unfolding read_of digests_after
+wrong_is line buffer = (refl, refl)
 
 wrong_number : (line room : ℕ) → (read_of (wrong line) room).number ≡ 0 → ⊥
 unfolding read_of
 wrong_number line room n = omega arith
 
-wrong_line : (n room : ℕ) → read_of (wrong n) room ≡ no_table 71 n 0
+wrong_line : (n room : ℕ) → read_of (wrong n) room ≡ no_table 61 n 0
 unfolding read_of
 wrong_line n room = refl
 
@@ -160,9 +165,14 @@ text_of : (t figures ds : List ℕ) → Bytes t → reading t ≡ table figures 
 text_of t figures ds bytes e = let n = no_other t figures ds bytes e in record { digests = ds; written = n.0; same = n.1 }
 
 other_text : (t buffer : List ℕ) → Bytes t → ((figures : List ℕ) → TextOf t figures → ⊥) → (x : Table) → reading t ≡ x
-    → ((read_of x (length buffer)).number ≡ 71) × (digests_after x buffer ≡ buffer)
+    → (read_of x (length buffer) ≡ no_table 61 (read_of x (length buffer)).line 0) × (digests_after x buffer ≡ buffer)
 other_text t buffer bytes none (table figures ds) e = absurd (none figures (text_of t figures ds bytes e))
 other_text t buffer bytes none (wrong line) e = read_wrong line buffer
+
+other_is : (t buffer : List ℕ) → Bytes t → ((figures : List ℕ) → TextOf t figures → ⊥) → (x : Table) → reading t ≡ x
+    → ((read_of x (length buffer)).number ≡ 61) × (digests_after x buffer ≡ buffer)
+other_is t buffer bytes none (table figures ds) e = absurd (none figures (text_of t figures ds bytes e))
+other_is t buffer bytes none (wrong line) e = wrong_is line buffer
 
 told_text : (t : List ℕ) (room : ℕ) → Bytes t → (x : Table) → reading t ≡ x → (read_of x room).number ≡ 0 → TextOf t (read_of x room).table.figures
 told_text t room bytes (table figures ds) e n = rw (read_figures figures ds room n) (text_of t figures ds bytes e)
@@ -173,7 +183,9 @@ reading_exactly =
     record {
       done = λ figures ds buffer w h. rw (reads_back figures ds w) (read_done figures ds buffer h);
       short = λ figures ds buffer w h. rw (reads_back figures ds w) (read_short figures ds buffer h);
+      short_in_full = λ figures ds buffer w h. rw (reads_back figures ds w) (read_short figures ds buffer h);
       other = λ t buffer bytes none. other_text t buffer bytes none (reading t) refl;
+      other_number = λ t buffer bytes none. other_is t buffer bytes none (reading t) refl;
       line = λ t room n e. rw e (wrong_line n room);
       figures = λ t room bytes n. told_text t room bytes (reading t) refl n;
     }

@@ -22,7 +22,7 @@ module _ {t : List ℕ} {r : Judged} (j : Judges t r) where
     is_wrong : reading t ≡ wrong r.wrong
     is_wrong = j.same ∙ rw (ne_eqb r.wrong 0 bad)
 
-    pub wrong_answer : (room : ℕ) → no_table 71 r.wrong 0 ≡ read_of (reading t) room
+    pub wrong_answer : (room : ℕ) → no_table 61 r.wrong 0 ≡ read_of (reading t) room
     unfolding read_of
     wrong_answer room = rw is_wrong
 
@@ -43,7 +43,7 @@ module _ {t : List ℕ} {r : Judged} (j : Judges t r) where
     count : length digests / 32 ≡ r.sessions
     count = omega (arith, size)
 
-    pub little_answer : (room : ℕ) → room / 32 < r.sessions → no_table 70 0 r.sessions ≡ read_of (reading t) room
+    pub little_answer : (room : ℕ) → room / 32 < r.sessions → no_table 60 0 r.sessions ≡ read_of (reading t) room
     unfolding read_of
     little_answer room h = rw (is_table, lt-ltb room (length digests) (omega (arith, size)), count)
 

@@ -11,7 +11,7 @@ use crate::judging::judge;
 use month_table::{FIGURES, Table};
 use printing::put_bytes;
 
-// What reading gives: 0, the number of sessions and the figures; 71 and the line that is not written so; or 70 and the number of sessions,
+// What reading gives: 0, the number of sessions and the figures; 61 and the line that is not written so; or 60 and the number of sessions,
 // whose digests the buffer cannot hold.
 #[repr(C)]
 #[derive(Clone, Copy)]
@@ -58,11 +58,11 @@ pub fn read_table(text: &[u8], digests: &mut [u8]) -> Read
 {
     let judged = judge(text);
     if judged.wrong != 0 {
-        return no_table(71, judged.wrong, 0);
+        return no_table(61, judged.wrong, 0);
     }
     let sessions = judged.sessions;
     if digests.len() / 32 < sessions {
-        return no_table(70, 0, sessions as u64);
+        return no_table(60, 0, sessions as u64);
     }
     let at = judged.at;
     store_digests(text, at, sessions, digests);

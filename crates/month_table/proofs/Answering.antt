@@ -10,7 +10,7 @@ use Rattle.month_table.specs.Writing.{answer, written_to, buffer_after}
 
 module _ (figures ds : List ℕ) where
   module _ (odd : length ds % 32 ≡ 0 → ⊥) where
-    pub odd_answer : (room : ℕ) → answer 72 0 ≡ written_to figures ds room
+    pub odd_answer : (room : ℕ) → answer 62 0 ≡ written_to figures ds room
     unfolding written_to
     odd_answer room = rw (ne_eqb (length ds % 32) 0 odd)
 
@@ -19,7 +19,7 @@ module _ (figures ds : List ℕ) where
     odd_buffer out = rw (ne_eqb (length ds % 32) 0 odd)
 
   module _ (whole : length ds % 32 ≡ 0) where
-    pub short_answer : (room n : ℕ) → room < length (text figures ds) → n ≡ min (length (text figures ds)) 0xffff_ffff_ffff_ffff → answer 70 n ≡ written_to figures ds room
+    pub short_answer : (room n : ℕ) → room < length (text figures ds) → n ≡ min (length (text figures ds)) 0xffff_ffff_ffff_ffff → answer 60 n ≡ written_to figures ds room
     unfolding written_to
     short_answer room n h e = rw (eq-eqb (length ds % 32) 0 whole, lt-ltb room (length (text figures ds)) h, e)
 

@@ -11,14 +11,14 @@ are_whole digests = eqb (length digests % 32) 0
 abbrev pub answer : ℕ → ℕ → Written
 answer number size = record { number = number; length = size }
 
--- 72 if the digests are not whole; 70 and the length that is needed, 2^64 - 1 if it is larger, if the buffer is shorter than the text; else 0 and the
+-- 62 if the digests are not whole; 60 and the length that is needed, 2^64 - 1 if it is larger, if the buffer is shorter than the text; else 0 and the
 -- text's length.
 unfoldable pub written_to : List ℕ → List ℕ → ℕ → Written
 written_to figures digests room =
     cond (are_whole digests)
-    (cond (ltb room (length (text figures digests))) (answer 70 (min (length (text figures digests)) 0xffff_ffff_ffff_ffff))
+    (cond (ltb room (length (text figures digests))) (answer 60 (min (length (text figures digests)) 0xffff_ffff_ffff_ffff))
     (answer 0 (length (text figures digests))))
-    (answer 72 0)
+    (answer 62 0)
 
 -- The text from the front of the buffer on, and every byte after it as before; or the buffer as before.
 unfoldable pub buffer_after : List ℕ → List ℕ → List ℕ → List ℕ

@@ -7,7 +7,7 @@ ghost use Rattle.month_table.specs.Writing.{written_to, buffer_after};
 use crate::putting::{FIGURES, Table, place_of, put_row, put_rows, put_session};
 use printing::put_bytes;
 
-// What writing gives: 0 and the length of the text, or the number of the refusal; 70 gives the length that is needed.
+// What writing gives: 0 and the length of the text, or the number of the refusal; 60 gives the length that is needed.
 #[repr(C)]
 #[derive(Clone, Copy)]
 pub struct Written {
@@ -67,7 +67,7 @@ pub fn write_table(table: Table, digests: &[u8], out: &mut [u8]) -> Written
 {
     if digests.len() % 32 != 0 {
         return Written {
-            number: 72,
+            number: 62,
             length: 0,
         };
     }
@@ -76,13 +76,13 @@ pub fn write_table(table: Table, digests: &[u8], out: &mut [u8]) -> Written
     let rows = 19 + rows_length(figures);
     if (0xffff_ffff_ffff_ffff - rows) / 75 < sessions {
         return Written {
-            number: 70,
+            number: 60,
             length: 18446744073709551615,
         };
     }
     let length = rows + 75 * sessions;
     if out.len() < length {
-        return Written { number: 70, length };
+        return Written { number: 60, length };
     }
     Written {
         number: 0,

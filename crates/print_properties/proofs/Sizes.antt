@@ -155,6 +155,7 @@ text_exactly =
       part = λ p ps h k. rw (h, k);
       no_value = refl;
       value = λ b bs. value_some (b ∷ bs) (λ h. omega arith);
+      byte = λ b. refl;
     }
 
 pub promise : PrintPropertiesPromise

@@ -24,7 +24,8 @@ judge_front good b h = ap (all_good good) (records_front b h)
 
 each : (good : List ℕ → Bool) (b : List ℕ) → 1 ≤ length b → FirstExactly good b (length_of b)
 each good b h = record {
-  cut = records_front b h;
+  cut = λ l f. records_front b h;
+  cut_anywhere = records_front b h;
   first = λ l f. judge_front good b h ∙ rw (whole_front b, le-leb 2 (length_of b) l, le-leb (size_of b) (length b) f);
   no_record = ⊎_elim
       (λ (l : length_of b < 2). judge_front good b h ∙ rw (whole_front b, lt-leb 2 (length_of b) l))

@@ -13,9 +13,12 @@ use Rattle.words.specs.Claims.Exactly.{Exactly}
 use Rattle.words.proofs.Choice.{and_left, and_right}
 use Rattle.records.specs.Records.{length_of, kind_of, whole}
 use Rattle.records.specs.Cutting.{run}
+use Rattle.records.proofs.Due.{short_raw}
+use Rattle.records.proofs.Feeding.{fed_held}
 use Rattle.records.proofs.Claims.{records_in_turn}
 use Rattle.trace.specs.Trace.{good_frame, is_good, is_settable}
 use Rattle.trace.specs.Playing.{Platform, Waiting, none, call, State, stopped, faulted, kept, setting, calling, concluded, step, replay_of, reader}
+use Rattle.trace.proofs.Reader.{sticky}
 use Rattle.trace.specs.Claims.Recording.{le_bytes}
 use Rattle.trace.specs.Claims.Steps.{Good, Faulted, StepExactly, ReplayExactly, EachReplay}
 
@@ -115,5 +118,6 @@ each_replay p =
       none_left = λ s. refl;
       next = λ s r rs. refl;
       bursts = λ s r. (refl, refl);
+      unfinished = λ s b going raw. fed_held (reader p) (sticky p) s [] b going (short_raw good_frame b raw);
       numbers = λ w v h. (le_length w v, le_read w v h);
     }

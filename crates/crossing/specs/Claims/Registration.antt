@@ -6,8 +6,12 @@ use Rattle.dump.specs.Registration.{no_registration}
 use Rattle.crossing.specs.declared.registration.FlatRegistration.{FlatRegistration}
 use Rattle.crossing.specs.Registration.{flat_of, registration_of, is_registration}
 
--- Which numbers are a registration, what they stand for, and that one goes over the boundary and back as it is, bit for bit.
-pub record Faithful : Type 0 where
+-- A registration goes over the boundary and back as it is, bit for bit.
+abbrev pub Faithful : Type 0
+Faithful = (f : FlatRegistration) → is_registration f ≡ true → flat_of (registration_of f) ≡ f
+
+-- Which numbers are a registration, what they stand for, and that one goes over the boundary and back as it is, whatever its length.
+pub record RegistrationExactly : Type 0 where
   pub taken : (f : FlatRegistration) → Exactly (is_registration f ≡ true) ((f.phase ≤ 2) × (f.length ≤ 512))
   pub same : (f : FlatRegistration) → f.phase ≤ 2 → flat_of (registration_of f) ≡ f
   pub start : flat_of no_registration ≡ record { phase = 0; length = 0; copy = replicate 512 0 }

@@ -1,6 +1,7 @@
 -- What is claimed of the definitions of `Registration`.
-use Rattle.std.specs.Prelude.{◌<◌, ◌≤◌, ◌≡◌, ◌⊎◌}
+use Rattle.std.specs.Prelude.{ℕ, ◌<◌, ◌≤◌, ◌≡◌, List, ◌⊎◌, replicate}
 use Rattle.words.specs.Claims.Exactly.{Exactly}
+use Rattle.dump.specs.declared.registration.Phase.TheVariants.{Unregistered, Registered, Active}
 use Rattle.dump.specs.Registration.{no_registration}
 use Rattle.calls.specs.Status.{number_of}
 use Rattle.calls.specs.Buffer.{found, call_of}
@@ -23,6 +24,13 @@ CallCrosses = (f : FlatFound) → CallOver f
 -- 13 exactly when the phase is no number of one, or the length passes the copy; nothing else of a registration is looked at.
 abbrev pub ThirteenExactly : Type 0
 ThirteenExactly = (f : FlatFound) → Exactly ((flat_call_of f).number ≡ 13) ((2 < f.registration.phase) ⊎ (512 < f.registration.length))
+
+-- The phases by their numbers, and the registration that a partition starts with.
+pub record RegistrationCrosses : Type 0 where
+  pub start : flat_of no_registration ≡ record { phase = 0; length = 0; copy = replicate 512 0 }
+  pub phases : (n : ℕ) (c : List ℕ) → (registration_of (record { phase = 0; length = n; copy = c }) ≡ record { phase = Unregistered; len = n; copy = c })
+      × ((registration_of (record { phase = 1; length = n; copy = c }) ≡ record { phase = Registered; len = n; copy = c })
+      × (registration_of (record { phase = 2; length = n; copy = c }) ≡ record { phase = Active; len = n; copy = c }))
 
 -- A call that does not itself give 13 gives a registration that no later call refuses with 13.
 abbrev pub HandedOn : Type 0

@@ -33,8 +33,11 @@ pub record FeedsExactly : Type 0 where
       → FlatFeeds journal inventory held args memory f bytes heldThen argsThen memoryThen r → judged held args f ≡ 0
       → (standing_in heldThen argsThen memoryThen r.replay ≡ fed (reader (platform journal inventory f.edition)) (standing_in held args memory f) bytes)
       × (argsThen ≡ (fed (lender (platform journal inventory f.edition)) (lent_standing_of held args memory (replay_in f)) bytes).state.args)
-      × (judged heldThen argsThen r.replay ≡ 0) × (r.replay.edition ≡ f.edition) × (r.number ≡ 0)
-      × (heldThen ≡ sets (completed held f.held bytes) 0
+      × (judged heldThen argsThen r.replay ≡ 0) × (r.replay.edition ≡ f.edition)
+  -- its number, and every byte of the buffer of held bytes
+  pub held_too : (journal inventory held args memory bytes heldThen argsThen memoryThen : List ℕ) (f : FlatReplay) (r : FlatFed)
+      → FlatFeeds journal inventory held args memory f bytes heldThen argsThen memoryThen r → judged held args f ≡ 0
+      → (r.number ≡ 0) × (heldThen ≡ sets (completed held f.held bytes) 0
       (fed (reader (platform journal inventory f.edition)) (standing_in held args memory f) bytes).held)
   -- the buffer of held bytes, before what is held now: with nothing held it stays; else the burst's bytes that are due go after the held ones
   pub completes : (p : Platform) (held bytes : List ℕ) (n : ℕ) → (completed held 0 bytes ≡ held)

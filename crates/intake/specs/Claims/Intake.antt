@@ -1,6 +1,7 @@
 -- What is claimed of an intake, cited by the contracts of `start`, `burst` and `end` (document 02, M-109).
 use Rattle.std.specs.Prelude.{ℕ, zero, suc, ◌+◌, ◌-◌, ◌≤◌, ◌<◌, ◌≡◌, true, false, cond, List, [], ◌++◌, ◌⊎◌, leb, length, take, drop}
 use Rattle.std.proofs.lemmas.List.Edits.{sets}
+use Rattle.words.specs.Numbers.{le}
 use Rattle.words.specs.Claims.Exactly.{Exactly}
 use Rattle.records.specs.Records.{length_of, kind_of, size_of, first_record, records, all_good}
 use Rattle.records.specs.Claims.Records.{FedExactly}
@@ -143,6 +144,7 @@ EachStore = (store bytes : List ℕ) (n : ℕ) → StoreExactly store bytes n
 pub record IntakeClaims : Type 0 where
   pub each_standing : EachStanding
   pub each_store : EachStore
+  pub due_is : (r : List ℕ) → due good_front r ≡ 4 + cond (good_front (le 2 r 0) (le 2 r 2)) (le 2 r 0 - 2) 0
   pub fed_exactly : FedExactly reader
   pub any_cutting : AnyCutting
   pub bursts_join : BurstsJoin

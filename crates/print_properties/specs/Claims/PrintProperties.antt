@@ -31,6 +31,7 @@ pub record TextExactly : Type 0 where
   -- the length in decimal and, if there are any, the bytes in two hexadecimal digits each
   pub no_value : value_text [] ≡ 32 ∷ 48 ∷ []
   pub value : (b : ℕ) (bs : List ℕ) → value_text (b ∷ bs) ≡ (32 ∷ decimal (length (b ∷ bs))) ++ (32 ∷ each hex_byte (b ∷ bs))
+  pub byte : (b : ℕ) → hex_byte b ≡ hex_digits 2 b
 
 -- An input that is longer than an area has the text of its first 4,097 bytes, so that no more is read.
 abbrev pub LongInput : Type 0

@@ -7,8 +7,9 @@ use Rattle.records.specs.Cutting.{due, ripe, Reader, Standing, start, fed}
 
 -- A buffer that is not empty, by the length that its first two bytes give. 01: "the length counts kind and body"
 pub record FirstExactly (good : List ℕ → Bool) (b : List ℕ) (len : ℕ) : Type 0 where
+  pub cut : 2 ≤ len → len + 2 ≤ length b → records b ≡ take (len + 2) b ∷ records (drop (len + 2) b)
   -- the first record, which the buffer's end may cut off, and those after it
-  pub cut : records b ≡ take (len + 2) b ∷ records (drop (len + 2) b)
+  pub cut_anywhere : records b ≡ take (len + 2) b ∷ records (drop (len + 2) b)
   pub first : 2 ≤ len → len + 2 ≤ length b → all_good good (records b) ≡ (good (take (len + 2) b) && all_good good (records (drop (len + 2) b)))
   -- 01: "Records fill the buffer exactly."
   pub no_record : (len < 2) ⊎ (length b < len + 2) → all_good good (records b) ≡ false

@@ -4,12 +4,12 @@ use Rattle.std.proofs.lemmas.List.Edits.{sets}
 use Rattle.words.specs.Numbers.{le}
 use Rattle.words.specs.Claims.Exactly.{Exactly}
 use Rattle.records.specs.Records.{records}
-use Rattle.records.specs.Cutting.{run}
+use Rattle.records.specs.Cutting.{ripe, run, start, fed}
 use Rattle.dump.specs.declared.registration.Phase.TheVariants.{Unregistered}
 use Rattle.calls.specs.Buffer.{found, call_of}
 use Rattle.calls.specs.Claims.Terms.{naming}
 use Rattle.trace.specs.declared.report.Report.TheVariants.{Agreed, Malformed}
-use Rattle.trace.specs.Trace.{is_good}
+use Rattle.trace.specs.Trace.{good_frame, is_good}
 use Rattle.trace.specs.Playing.{Platform, none, call, State, begin, stopped, agreed, compared, called, concluded, step, replay_of, reader}
 use Rattle.trace.specs.Claims.Recording.{le_bytes}
 
@@ -98,6 +98,9 @@ pub record ReplayExactly (p : Platform) : Type 0 where
   pub none_left : (s : State) → run (step p) s [] ≡ s
   pub next : (s : State) (r : List ℕ) (rs : List (List ℕ)) → run (step p) s (r ∷ rs) ≡ run (step p) (step p s r) rs
   pub bursts : (s : State) (r : List ℕ) → ((reader p).step s r ≡ step p s r) × ((reader p).stopped s ≡ stopped s)
+  -- bytes that make no record yet are held, and change nothing
+  pub unfinished : (s : State) (b : List ℕ) → stopped s ≡ false → ripe good_frame b ≡ false
+      → fed (reader p) (start s) b ≡ record { state = s; held = b }
   -- "numbers little-endian"
   pub numbers : (w v : ℕ) → v < 256 ^ w → (length (le_bytes w v) ≡ w) × (le w (le_bytes w v) 0 ≡ v)
 
