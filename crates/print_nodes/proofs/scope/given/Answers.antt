@@ -1,13 +1,11 @@
 -- `scope::given` meets its contract.
-use mathlib.Core.Path.{◌≡◌, refl, ◌∙◌}
+use mathlib.Core.Path.{◌≡◌}
 use mathlib.Core.Bool.{Bool, true, false, cond}
 use mathlib.Core.Logic.{◌⊎◌, inl, inr}
 use Prim.Native.Nat.{ℕ}
 use lib.Dec.{eqb}
-use borrow.Author.Rules.{rules}
 use Rattle.print_nodes.specs.Text.{scope_of}
-use Rattle.print_nodes.proofs.scope.given.Statement.{statement}
-use Rattle.print_nodes.proofs.scope.given.Tie as tie
+use Rattle.print_nodes.proofs.scope.given.Goals as goal
 
 -- 1 or 3, whatever the argument is
 either : (r n byte : ℕ) → r ≡ scope_of n byte → (r ≡ 1) ⊎ (r ≡ 3)
@@ -19,8 +17,6 @@ either r n byte e = go (eqb n 1) (eqb byte 51) e
     go true false e = inl e
     go false b e = inl e
 
-returns : tie.Need-returns
-returns c = either _ _ _ c.scope_of.ensures
-
-pub given_spec : {M : Type 1} → statement M
-given_spec = tie.close (tie.spec (λ c. search rules) (λ c κs. search rules) (λ c. search rules) (λ c κs. search rules) returns)
+pub returns : goal.returns
+returns c =
+    either _ _ _ c.scope_of.ensures
