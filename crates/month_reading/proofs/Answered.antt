@@ -1,25 +1,22 @@
 -- The claims about the answers hold.
-use mathlib.Core.Path.{◌≡◌, refl, sym, ap, ◌∙◌}
-use mathlib.Core.Bool.{true, false}
-use mathlib.Core.List.{List, ◌++◌}
-use Prim.Native.Nat.{ℕ, ◌+◌, ◌*◌, ◌/◌, ◌%◌, ◌≤◌, ◌<◌, min}
+use mathlib.Core.Path.{◌≡◌, refl, sym, ap}
+use mathlib.Core.List.{List}
+use Prim.Native.Nat.{ℕ, ◌+◌, ◌/◌, ◌%◌, ◌≤◌, ◌<◌, min}
 use native.Mathlib.Omega.{arith}
-use lib.Dec.{ltb, leb, eqb}
-use lib.ListN.{length, take, drop, get_or, replicate}
+use lib.Dec.{ltb, eqb}
+use lib.ListN.{length, take, drop, get_or}
 use lib.Seq.{sets, sets-eq, length-sets, take_at}
 use borrow.Author.Tests.{eqb-true, eqb-false, lt-ltb, le-ltb, ltb-true, ltb-false}
 use Rattle.words.specs.Numbers.{Bytes}
 use Rattle.words.specs.Claims.Exactly.{Exactly}
 use Rattle.words.proofs.Choice.{decide}
 use Rattle.words.proofs.Stores.{sets_after}
-use Rattle.month_table.specs.Table.{rows_from, text}
+use Rattle.month_table.specs.Table.{text}
 use Rattle.month_table.specs.Reading.{Table, table, wrong, reading}
-use Rattle.month_table.specs.Claims.MonthTable.{Written}
 use Rattle.month_table.specs.Writing.{answer, written_to, buffer_after}
 use Rattle.month_reading.specs.Answers.{no_table, read_of, digests_after}
 use Rattle.month_reading.specs.Claims.Answers.{WritingExactly, TextOf, ReadingExactly, AnswerClaims}
 use Rattle.month_table.specs.declared.writing.Written.{Written as Told}
-use Rattle.month_reading.specs.declared.reading.Read.{Read}
 use Rattle.month_table.proofs.Whole.{reads_back, no_other}
 use Rattle.month_table.proofs.Claims.{table_claims}
 use Rattle.month_table.proofs.Sizes.{length_text}

@@ -1,7 +1,7 @@
 -- Digests, byte by byte and row by row.
 use mathlib.Core.Path.{◌≡◌, refl, sym, ap, ◌∙◌}
 use mathlib.Core.Bool.{true, false}
-use mathlib.Core.List.{List, [], ◌∷◌, ◌++◌, append-nil, append_assoc}
+use mathlib.Core.List.{List, [], ◌++◌, append-nil, append_assoc}
 use Prim.Native.Nat.{ℕ, zero, suc, ◌+◌, ◌-◌, ◌*◌, ◌%◌, ◌≤◌, ◌<◌}
 use native.Mathlib.Numerals.{add-one}
 use native.Mathlib.Omega.{arith}
@@ -12,9 +12,8 @@ use Rattle.words.proofs.Choice.{choose}
 use Rattle.printing.specs.Put.{Fits, Put}
 use Rattle.printing.proofs.Puts.{Ahead, ahead_then, ahead_none, fits-first}
 use Rattle.month_table.specs.Table.{session_row}
-use Rattle.month_table.specs.Reading.{begins, digit_value, bytes_in, digest_in, is_session}
+use Rattle.month_table.specs.Reading.{digit_value, bytes_in, digest_in, is_session}
 use Rattle.month_reading.specs.Inner.Terms.{digests_in}
-use Rattle.month_table.proofs.Begins.{begins_split}
 use Rattle.month_reading.proofs.Searches.{begins_length, begins_short}
 use Rattle.month_table.proofs.Sessions.{length_session, digest_whole}
 

@@ -1,17 +1,16 @@
 -- Reading row by row: what is read from a place on gives the whole.
 use mathlib.Core.Path.{◌≡◌, refl, sym, ap, ◌∙◌}
 use mathlib.Core.Bool.{true, false, cond, false≢true}
-use mathlib.Core.List.{List, [], ◌∷◌, ◌++◌, append_assoc, append-nil}
+use mathlib.Core.List.{List, [], ◌++◌, append_assoc, append-nil}
 use Prim.Native.Nat.{ℕ, zero, suc, ◌+◌, ◌-◌, ◌*◌, ◌≤◌, ◌<◌}
-use native.Mathlib.Nat.{add-zero}
 use native.Mathlib.Numerals.{add-one}
 use native.Mathlib.Omega.{arith}
 use lib.Dec.{ltb, eqb}
-use lib.ListN.{length, drop, set, replicate, length-drop, length-set, drop_of_length-le}
+use lib.ListN.{length, drop, set, replicate, length-drop, drop_of_length-le}
 use lib.Seq.{drop-drop}
 use borrow.Author.Tests.{eq-eqb, ne_eqb, eqb-true, eqb-false}
 use Rattle.words.proofs.Choice.{decide}
-use Rattle.month_table.specs.Table.{head, label, place, row}
+use Rattle.month_table.specs.Table.{head, place, row}
 use Rattle.month_table.specs.Reading.{Table, table, wrong, begins, count_in, is_row, digest_in, is_session, with_digest, sessions_from, figures_from, reading}
 use Rattle.month_reading.specs.declared.finding.Count.{Count}
 use Rattle.month_reading.specs.declared.finding.Row.{Row}
@@ -19,7 +18,6 @@ use Rattle.month_reading.specs.Inner.Terms.{count_of, no_row, row_in, digests_in
 use Rattle.month_reading.specs.declared.judging.Rows.{Rows}
 use Rattle.month_reading.specs.declared.judging.Sessions.{Sessions}
 use Rattle.month_reading.specs.declared.judging.Judged.{Judged}
-use Rattle.month_table.proofs.Begins.{begins_split}
 use Rattle.month_reading.proofs.Searches.{begins_length}
 use Rattle.month_table.proofs.Sessions.{sessions_none, sessions_more, sessions_wrong, empty}
 use Rattle.month_reading.proofs.Digests.{digests_after_lem, session_length}

@@ -1,4 +1,6 @@
 // Reading the text of a month's table.
+#![tactic(auto)]
+
 mod finding;
 mod judging;
 mod reading;

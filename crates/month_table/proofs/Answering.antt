@@ -1,5 +1,5 @@
 -- What writing answers, in each case.
-use mathlib.Core.Path.{◌≡◌, refl}
+use mathlib.Core.Path.{◌≡◌}
 use Prim.Native.Nat.{ℕ, ◌%◌, ◌≤◌, ◌<◌, min}
 use mathlib.Core.List.{List}
 use lib.ListN.{length}

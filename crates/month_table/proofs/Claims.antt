@@ -1,14 +1,14 @@
 -- The claims about the text of a month's table hold.
 use mathlib.Core.Path.{◌≡◌, refl, ap, ◌∙◌}
-use mathlib.Core.Bool.{true, false}
-use mathlib.Core.List.{List, [], ◌∷◌, ◌++◌}
-use Prim.Native.Nat.{ℕ, suc, ◌+◌, ◌*◌, ◌/◌, ◌≤◌, ◌<◌}
+use mathlib.Core.Bool.{true}
+use mathlib.Core.List.{List, ◌++◌}
+use Prim.Native.Nat.{ℕ, suc, ◌+◌, ◌*◌, ◌≤◌, ◌<◌}
 use native.Mathlib.Omega.{arith}
 use lib.ListN.{length, drop, set}
 use lib.Seq.{drop-append_seam}
 use Rattle.words.specs.Claims.Exactly.{Exactly}
 use Rattle.month_table.specs.Table.{head, status_word, last_word, label, place, row, rows_from, session_row, session_rows, text}
-use Rattle.month_table.specs.Reading.{Table, wrong, begins, count_in, digest_in, is_row, figures_from, is_session, with_digest, sessions_from}
+use Rattle.month_table.specs.Reading.{wrong, begins, count_in, digest_in, is_row, figures_from, is_session, with_digest, sessions_from}
 use Rattle.month_table.specs.Claims.MonthTable.{TextExactly, HeadFront, RowFront, SessionFront, LinesExactly, TableClaims}
 use Rattle.month_table.proofs.Rows.{row_back, count_back, count_small, row_split, rows_more, rows_wrong, rows_none}
 use Rattle.month_table.proofs.Sessions.{session_back, session_split, digest_whole, digest_small, sessions_more, sessions_wrong}

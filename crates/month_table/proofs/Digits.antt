@@ -2,11 +2,11 @@
 use mathlib.Core.Path.{◌≡◌, refl, ap, ◌∙◌}
 use mathlib.Core.Bool.{true}
 use mathlib.Core.List.{List, [], ◌∷◌, ◌++◌}
-use Prim.Native.Nat.{ℕ, zero, suc, ◌+◌, ◌*◌, ◌/◌, ◌%◌, ◌^◌, ◌<◌}
-use native.Mathlib.Nat.{pow-suc, mod-eq_of_lt}
+use Prim.Native.Nat.{ℕ, zero, suc, ◌+◌, ◌-◌, ◌*◌, ◌/◌, ◌%◌, ◌^◌, ◌<◌}
+use native.Mathlib.Nat.{pow-suc}
 use native.Mathlib.Omega.{arith}
 use lib.Dec.{ltb}
-use lib.ListN.{length, drop, get_or}
+use lib.ListN.{length, drop}
 use borrow.Author.Tests.{lt-ltb, le-ltb, ltb-true, ltb-false}
 use Rattle.words.specs.Numbers.{Bytes}
 use Rattle.words.proofs.Choice.{decide, choose}
@@ -17,7 +17,7 @@ use Rattle.month_table.proofs.Begins.{in_line, in_line_append}
 value_append : (v : ℕ) (s t : List ℕ) → value_from v (s ++ t) ≡ value_from (value_from v s) t
 unfolding value_from
 value_append v [] t = refl
-value_append v (b ∷ bs) t = value_append _ bs t
+value_append v (b ∷ bs) t = value_append (10 * v + (b - 48)) bs t
 
 value_one : (v d : ℕ) → value_from v ((48 + d) ∷ []) ≡ 10 * v + d
 unfolding value_from

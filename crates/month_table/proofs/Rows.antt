@@ -1,19 +1,19 @@
 -- The rows of the figures, written and read.
 use mathlib.Core.Path.{◌≡◌, refl, sym, ap, ◌∙◌}
-use mathlib.Core.Bool.{true, false, ◌&&◌}
+use mathlib.Core.Bool.{true, false}
 use mathlib.Core.List.{List, [], ◌∷◌, ◌++◌, append_assoc}
 use Prim.Native.Nat.{ℕ, zero, suc, ◌+◌, ◌≤◌, ◌<◌}
-use native.Mathlib.Nat.{add-zero, add-suc}
+use native.Mathlib.Nat.{add-zero}
 use native.Mathlib.Omega.{arith}
 use lib.Dec.{ltb, eqb}
 use lib.ListN.{length, drop, get_or, set, length-append, length-set}
 use lib.Seq.{drop-append_seam, get_or-set_same, get_or-set_other, ext_get_or}
-use borrow.Author.Tests.{lt-ltb, ltb-true, ltb-false, eqb-true, eqb-false}
+use borrow.Author.Tests.{lt-ltb, ltb-true, eqb-true, eqb-false}
 use Rattle.words.proofs.Choice.{decide, and_left, and_right}
 use Rattle.printing.specs.Text.{decimal}
 use Rattle.month_table.specs.Table.{label, place, row, rows_from}
-use Rattle.month_table.specs.Reading.{Table, table, wrong, begins, line, value_from, count_in, is_row, figures_from, sessions_from}
-use Rattle.month_table.proofs.Begins.{begins_front, begins_split, in_line, in_line_append, line_stops}
+use Rattle.month_table.specs.Reading.{table, wrong, begins, line, count_in, is_row, figures_from, sessions_from}
+use Rattle.month_table.proofs.Begins.{begins_front, begins_split, in_line_append, line_stops}
 use Rattle.month_table.proofs.Digits.{value_decimal, decimal_in_line}
 use Rattle.month_table.proofs.Sessions.{Sessions, Told, sessions_only}
 use Rattle.month_table.proofs.Places.{label_in_line, place_below, places_differ, row_of, onto}

@@ -1,18 +1,18 @@
 -- The rows of the sessions, written and read.
 use mathlib.Core.Path.{◌≡◌, refl, sym, ap, ◌∙◌}
-use mathlib.Core.Bool.{true, false, false≢true}
+use mathlib.Core.Bool.{true, false}
 use mathlib.Core.List.{List, [], ◌∷◌, ◌++◌, append_assoc}
-use Prim.Native.Nat.{ℕ, zero, suc, ◌+◌, ◌*◌, ◌/◌, ◌%◌, ◌≤◌, ◌<◌}
+use Prim.Native.Nat.{ℕ, zero, suc, ◌+◌, ◌*◌, ◌/◌, ◌%◌, ◌≤◌}
 use native.Mathlib.Omega.{arith}
 use lib.Dec.{eqb}
-use lib.ListN.{length, take, drop, get_or, length-append, length-drop, take-append-drop}
+use lib.ListN.{length, take, drop, length-append, length-drop, take-append-drop}
 use lib.Seq.{length-take-le, drop_at, take_at, get_or-drop}
-use borrow.Author.Tests.{eq-eqb, ne_eqb, eqb-true, eqb-false}
+use borrow.Author.Tests.{ne_eqb, eqb-true, eqb-false}
 use Rattle.words.specs.Numbers.{Bytes}
 use Rattle.words.proofs.Choice.{decide}
 use Rattle.printing.specs.Text.{each, hex_byte, hex_digits}
 use Rattle.month_table.specs.Table.{session_row, session_rows}
-use Rattle.month_table.specs.Reading.{Table, table, wrong, begins, digest_in, is_session, with_digest, sessions_from}
+use Rattle.month_table.specs.Reading.{Table, table, wrong, digest_in, is_session, with_digest, sessions_from}
 use Rattle.month_table.proofs.Begins.{begins_front, begins_split}
 use Rattle.month_table.proofs.Digits.{bytes_back, length_bytes_in, bytes_in_small}
 

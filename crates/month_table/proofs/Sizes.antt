@@ -1,19 +1,18 @@
 -- How long rows and texts are, and rows one after the other.
-use mathlib.Core.Path.{◌≡◌, refl, sym, ap, ◌∙◌}
-use mathlib.Core.Bool.{true}
-use mathlib.Core.List.{List, [], ◌∷◌, ◌++◌}
+use mathlib.Core.Path.{◌≡◌, refl, sym, ap}
+use mathlib.Core.List.{List, [], ◌++◌}
 use Prim.Native.Nat.{ℕ, zero, suc, ◌+◌, ◌-◌, ◌*◌, ◌/◌, ◌%◌, ◌≤◌, ◌<◌}
 use native.Mathlib.Numerals.{add-one}
 use native.Mathlib.Omega.{arith}
 use lib.Dec.{leb}
-use lib.ListN.{length, take, drop, get_or, length-append, length-drop}
+use lib.ListN.{length, take, drop, get_or, length-append}
 use lib.Seq.{sets-eq, take_at, drop-drop, length-take-le}
 use borrow.Author.Tests.{leb-true}
-use Rattle.printing.specs.Text.{decimal, numbered, ended, newline}
+use Rattle.printing.specs.Text.{numbered, ended}
 use Rattle.printing.specs.Put.{Put}
 use Rattle.printing.proofs.Puts.{put_length}
 use Rattle.printing.proofs.Sizes.{length_ended}
-use Rattle.month_table.specs.Table.{head, status_word, last_word, label, place, row, rows_from, session_row, session_rows, text}
+use Rattle.month_table.specs.Table.{status_word, last_word, label, place, row, rows_from, session_row, session_rows, text}
 use Rattle.month_table.proofs.Places.{each_below, below}
 use Rattle.month_table.proofs.Sessions.{length_sessions}
 

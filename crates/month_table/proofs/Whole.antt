@@ -1,17 +1,17 @@
 -- The whole text, written and read.
 use mathlib.Core.Path.{◌≡◌, refl, sym, ap, ◌∙◌}
 use mathlib.Core.Bool.{true, false}
-use mathlib.Core.List.{List, [], ◌∷◌, ◌++◌}
-use Prim.Native.Nat.{ℕ, zero, suc, ◌+◌, ◌*◌, ◌/◌, ◌%◌, ◌≤◌, ◌<◌}
+use mathlib.Core.List.{List, ◌++◌}
+use Prim.Native.Nat.{ℕ, zero, suc, ◌+◌, ◌*◌, ◌/◌, ◌<◌}
 use native.Mathlib.Omega.{arith}
 use lib.ListN.{length, drop, get_or, replicate}
 use Rattle.words.proofs.Choice.{decide}
 use Rattle.month_table.specs.Table.{head, rows_from, session_rows, text}
-use Rattle.month_table.specs.Reading.{Table, table, wrong, begins, figures_from, sessions_from, reading}
-use Rattle.month_table.specs.Claims.MonthTable.{Written, ReadsBack, NoOther}
+use Rattle.month_table.specs.Reading.{wrong, begins, figures_from, reading}
+use Rattle.month_table.specs.Claims.MonthTable.{ReadsBack, NoOther}
 use Rattle.month_table.proofs.Begins.{begins_front, begins_split}
-use Rattle.month_table.proofs.Sessions.{Sessions, length_sessions, sessions_back}
-use Rattle.month_table.proofs.Rows.{Small, Figures, filled, filled_all, rows_back, rows_only}
+use Rattle.month_table.proofs.Sessions.{length_sessions, sessions_back}
+use Rattle.month_table.proofs.Rows.{Small, filled_all, rows_back, rows_only}
 
 -- a table with no figure yet
 pub blank : List ℕ

@@ -1,4 +1,6 @@
 // The text of a month's table: what it is, and writing it.
+#![tactic(auto)]
+
 mod putting;
 mod writing;
 

@@ -1,5 +1,7 @@
 // Prints the index work area on standard input, or why it is refused. If the input cannot be read or is too long, or the text
 // cannot be written, a line on standard error says so.
+#![tactic(auto)]
+
 ghost use Rattle.std.specs.Prelude.{◌≡◌, length};
 
 mod text;
@@ -21,14 +23,15 @@ fn text_buffer() -> [u8; 4_194_400]
     [0; 4_194_400]
 }
 
-fn main() {
+fn main(rt: HostRuntime) {
     let mut input = input_buffer();
-    let found = printing::read_input(b"print_indices", &mut input);
+    let found = printing::read_input(rt, b"print_indices", &mut input);
     let Input::Bytes(n) = found else {
         return;
     };
     if INPUT_LIMIT < n {
         printing::say(
+            rt,
             b"print_indices",
             b": the input has more than 1048580 bytes; give the area alone\n",
         );
@@ -36,5 +39,5 @@ fn main() {
     }
     let mut out = text_buffer();
     let count = text::print_area(&input[..n], &mut out);
-    printing::write_text(b"print_indices", &out[..count]);
+    printing::write_text(rt, b"print_indices", &out[..count]);
 }

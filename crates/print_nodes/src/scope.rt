@@ -2,6 +2,9 @@
 ghost use Rattle.std.specs.Prelude.{◌≡◌, ◌⊎◌};
 ghost use Rattle.print_nodes.specs.Text.{scope_of};
 
+use std::env::Env;
+use std::rt::HostRuntime;
+
 // The scope of an argument of so many bytes that begins with this one.
 fn scope_of(n: usize, byte: u8) -> u32
     ensures { result ≡ scope_of n byte }
@@ -14,10 +17,14 @@ fn scope_of(n: usize, byte: u8) -> u32
     1
 }
 
-pub fn given() -> u32
+// One that is not there, or has more than one byte, counts as one of no bytes.
+pub fn given(rt: HostRuntime) -> u32
     ensures { (result ≡ 1) ⊎ (result ≡ 3) }
 {
     let mut argument = [0u8; 1];
-    let n = os::arg(1, &mut argument);
+    let n = match rt.arg(1, &mut argument) {
+        Ok(n) => n,
+        Err(_) => 0,
+    };
     scope_of(n, argument[0])
 }

@@ -1,16 +1,18 @@
 // Prints the property work area on standard input, or why it is refused. If the input cannot be read or the text not be
 // written, a line on standard error says so.
+#![tactic(auto)]
+
 mod text;
 
 use printing::Input;
 
-fn main() {
+fn main(rt: HostRuntime) {
     let mut input = [0u8; 4097];
-    let found = printing::read_input(b"print_properties", &mut input);
+    let found = printing::read_input(rt, b"print_properties", &mut input);
     let Input::Bytes(n) = found else {
         return;
     };
     let mut out = [0u8; 32_768];
     let count = text::print_area(&input[..n], &mut out);
-    printing::write_text(b"print_properties", &out[..count]);
+    printing::write_text(rt, b"print_properties", &out[..count]);
 }

@@ -1,4 +1,6 @@
 // What the printing programs share: the input, putting text into a buffer, and the output.
+#![tactic(auto)]
+
 mod channel;
 mod names;
 mod put;

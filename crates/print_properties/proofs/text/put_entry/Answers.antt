@@ -1,0 +1,48 @@
+-- `text::put_entry` meets its contract.
+use Rattle.printing.proofs.Puts.{fits-first, fits_then, put_then}
+use Rattle.printing.specs.Text.{named}
+use Rattle.print_properties.specs.Text.{part-, property-, value_text}
+use Rattle.print_properties.proofs.Entries.{entry_deleted, entry_part, entry_whole}
+use Rattle.print_properties.proofs.text.put_entry.Goals as goal
+
+pub put_named-requires : goal.put_named-requires
+put_named-requires c =
+    rw (entry_deleted _ c.args.name.now c.args.value.now c.if-descriptor-eq-DELETION.true) at c.requires
+
+pub returns-then-descriptor-eq-DELETION : goal.returns-then-descriptor-eq-DELETION
+returns-then-descriptor-eq-DELETION c =
+    rw (entry_deleted _ c.args.name.now c.args.value.now c.if-descriptor-eq-DELETION.true) c.put_named.ensures
+
+pub put_named-after-requires : goal.put_named-after-requires
+put_named-after-requires c =
+    let value = c.args.value.now in
+    let part = entry_part _ c.args.name.now value c.if-descriptor-eq-DELETION.false c.if-descriptor-gt-DELETION.true in
+    fits-first _ (named part- _) (value_text value) (rw part at c.requires)
+
+pub put_value-requires : goal.put_value-requires
+put_value-requires c =
+    let value = c.args.value.now in
+    let part = entry_part _ c.args.name.now value c.if-descriptor-eq-DELETION.false c.if-descriptor-gt-DELETION.true in
+    fits_then (value_text value) (rw part at c.requires) c.put_named-after.ensures
+
+pub returns-then-descriptor-gt-DELETION : goal.returns-then-descriptor-gt-DELETION
+returns-then-descriptor-gt-DELETION c =
+    let part = entry_part _ c.args.name.now c.args.value.now c.if-descriptor-eq-DELETION.false c.if-descriptor-gt-DELETION.true in
+    rw part (put_then c.put_named-after.ensures c.put_value.ensures)
+
+pub put_named-to-requires : goal.put_named-to-requires
+put_named-to-requires c =
+    let value = c.args.value.now in
+    let whole = entry_whole _ c.args.name.now value c.if-descriptor-eq-DELETION.false c.if-descriptor-gt-DELETION.false in
+    fits-first _ (named property- _) (value_text value) (rw whole at c.requires)
+
+pub put_value-requires-2 : goal.put_value-requires-2
+put_value-requires-2 c =
+    let value = c.args.value.now in
+    let whole = entry_whole _ c.args.name.now value c.if-descriptor-eq-DELETION.false c.if-descriptor-gt-DELETION.false in
+    fits_then (value_text value) (rw whole at c.requires) c.put_named-to.ensures
+
+pub returns : goal.returns
+returns c =
+    let whole = entry_whole _ c.args.name.now c.args.value.now c.if-descriptor-eq-DELETION.false c.if-descriptor-gt-DELETION.false in
+    rw whole (put_then c.put_named-to.ensures c.put_value-2.ensures)
