@@ -1,4 +1,6 @@
 // The replay as a flat struct for the C boundary, and which states are taken there.
+#![tactic(auto)]
+
 mod coming;
 mod counts;
 mod state;

@@ -1,0 +1,7 @@
+-- `state::replay_of` meets its contract.
+use borrow.Author.Rules.{rules}
+use Rattle.replay_states.proofs.state.replay_of.Goals as goal
+
+pub returns : goal.returns
+returns c =
+    rw (c.report_of.ensures, c.size_of.ensures, c.registration_of.ensures.value, c.reading_of.ensures.value)
