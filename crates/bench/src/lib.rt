@@ -1,4 +1,6 @@
 // The scans and the search as a static library, for measuring alone: bench/ links it, and no product does.
+#![tactic(auto)]
+
 ghost use Rattle.std.specs.Prelude.{◌≡◌, length};
 ghost use Rattle.inventory.specs.Listing.{listed};
 ghost use Rattle.inventory.specs.Claims.Scanning.{GoodFrom};

@@ -1,0 +1,9 @@
+-- `forecasting::draugsten_forecast` meets its contract.
+use mathlib.Core.Path.{refl}
+use borrow.Author.Rules.{rules}
+use Rattle.draugsten_tallies.proofs.Promises.{forecast_promise}
+use Rattle.draugsten_tallies.proofs.forecasting.draugsten_forecast.Goals as goal
+
+pub returns : goal.returns
+returns c =
+    record { status_value = rw (c.status_word.ensures, c.forecast_from-told.ensures.value, c.tallies_from.ensures) (refl, refl); promise = forecast_promise }
