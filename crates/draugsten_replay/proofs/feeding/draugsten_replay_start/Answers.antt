@@ -1,0 +1,15 @@
+-- `feeding::draugsten_replay_start` meets its contract.
+use native.Mathlib.Omega.{arith}
+use mathlib.Core.Path.{ap, ◌∙◌}
+use borrow.Author.Rules.{rules}
+use Rattle.replay_states.specs.States.{flat_replay_of}
+use Rattle.draugsten_replay.proofs.Promises.{replay_promise}
+use Rattle.draugsten_replay.proofs.feeding.draugsten_replay_start.Goals as goal
+
+pub flat_replay_of-requires : goal.flat_replay_of-requires
+flat_replay_of-requires c =
+    rw c.start.ensures.value (omega arith)
+
+pub returns : goal.returns
+returns c =
+    record { value = c.flat_replay_of.ensures ∙ ap flat_replay_of c.start.ensures.value; promise = replay_promise }

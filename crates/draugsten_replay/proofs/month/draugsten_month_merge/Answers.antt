@@ -1,0 +1,28 @@
+-- `month::draugsten_month_merge` meets its contract.
+use mathlib.Core.Path.{◌≡◌, sym, ◌∙◌}
+use mathlib.Core.Bool.{true}
+use borrow.Author.Rules.{rules}
+use borrow.Author.Tests.{not-true, not-false}
+use Rattle.totals.specs.Consistent.{consistent}
+use Rattle.draugsten_replay.specs.Month.{merged_to}
+use Rattle.draugsten_replay.proofs.Promises.{month_promise}
+use Rattle.draugsten_replay.proofs.month.draugsten_month_merge.Goals as goal
+
+pub returns-then-not-is_consistent : goal.returns-then-not-is_consistent
+unfolding merged_to
+returns-then-not-is_consistent c =
+    record { value = rw (sym c.is_consistent.ensures.value ∙ c.if-not-is_consistent.true); promise = month_promise }
+
+pub returns-then-added : goal.returns-then-added
+unfolding merged_to
+returns-then-added c =
+    let fine : consistent c.args.more ≡ true =
+    sym c.is_consistent.ensures.value ∙ c.if-not-is_consistent.false in
+    record { value = rw (fine, ← c.add-added.ensures.value, c.if-added.true); promise = month_promise }
+
+pub returns : goal.returns
+unfolding merged_to
+returns c =
+    let fine : consistent c.args.more ≡ true =
+    sym c.is_consistent.ensures.value ∙ c.if-not-is_consistent.false in
+    record { value = rw (fine, ← c.add-added.ensures.value, c.if-added.false); promise = month_promise }
