@@ -18,9 +18,7 @@ use Rattle.node_area.specs.Head.{is_reserved}
 use Rattle.nodes.specs.Run.{remains}
 use Rattle.journal.specs.Scope.{valid, Selection}
 use Rattle.calls.specs.declared.status.Number.TheVariants.{Given}
-use Rattle.calls.specs.declared.status.Status.TheVariants.{Done, Parameter}
 use Rattle.calls.specs.Status.{is_given, is_answer, status_word}
-use Rattle.calls.specs.ReadingRecord.{record_after}
 use Rattle.calls.specs.UpdateNodes.{area_at, with_area, placed, good_state, area_status, area_after, asks_for, nodes_status, nodes_memory}
 use Rattle.properties.specs.Answer.{carries}
 use Rattle.properties.specs.Answer as properties

@@ -1,5 +1,5 @@
 -- Demand 2: the number of a call, and all that it leaves by its token and counts.
-use mathlib.Core.Path.{◌≡◌, refl, sym, ap, ◌∙◌}
+use mathlib.Core.Path.{◌≡◌, ap, ◌∙◌}
 use mathlib.Core.Bool.{true, false, ◌||◌, or-true}
 use mathlib.Core.List.{List}
 use mathlib.Core.Logic.{⊎_elim}
@@ -11,8 +11,6 @@ use lib.ListN.{length}
 use Rattle.words.specs.Numbers.{be32}
 use Rattle.words.proofs.Choice.{decide}
 use Rattle.words.proofs.Stores.{word_bytes_one}
-use Rattle.calls.specs.declared.status.Number.{Number}
-use Rattle.calls.specs.declared.status.Number.TheVariants.{Given, Short, NoOutputs, TooMany}
 use Rattle.calls.specs.Status.{number_of, is_given, status_word}
 use Rattle.calls.specs.Buffer.{inputs, outputs, request_of, status_at, number_for, asks}
 use Rattle.calls.specs.Buffer.{Found, Left, Outcome, nodes_outcome, indices_outcome, dump_outcome, properties_outcome, refusal, outcome, call_of}

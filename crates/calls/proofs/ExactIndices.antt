@@ -13,7 +13,7 @@ use Rattle.words.specs.Numbers.{Bytes, be, be32, be_bytes}
 use Rattle.words.proofs.Numbers.{be_bytes_lem}
 use Rattle.words.proofs.Choice.{and_left, and_right}
 use Rattle.inventory.specs.Inventory.{well_formed}
-use Rattle.inventory.specs.Listing.{Entry, listed}
+use Rattle.inventory.specs.Listing.{Entry}
 use Rattle.indices.specs.Area.{entries_bytes, run, answer, written}
 use Rattle.indices.specs.Claims.Longest.{taken}
 use Rattle.indices.specs.Reading.{reading}

@@ -7,10 +7,10 @@ use Prim.Native.Nat.{ℕ, ◌+◌, ◌-◌, ◌≤◌, ◌<◌}
 use native.Mathlib.Omega.{arith}
 use lib.Dec.{ltb}
 use borrow.Author.Tests.{lt-ltb}
-use lib.ListN.{length, take}
+use lib.ListN.{length}
 use lib.Seq.{take_all}
 use Rattle.words.specs.Numbers.{Bytes}
-use Rattle.words.proofs.Choice.{decide, choose}
+use Rattle.words.proofs.Choice.{decide}
 use Rattle.inventory.specs.Inventory.{well_formed}
 use Rattle.inventory.specs.Listing.{Entry, listed}
 use Rattle.indices.specs.Reading.{reading}
@@ -20,7 +20,7 @@ use Rattle.calls.specs.ReadingRecord.{is_named, is_current}
 use Rattle.calls.specs.GetIndices.{askable}
 use Rattle.calls.specs.Buffer.{input, request_of, Found, call_of}
 use Rattle.calls.specs.Claims.Session.{is_answered, Standing, after_call}
-use Rattle.calls.specs.Claims.IndexSession.{area_then, number_then, Held, begun, start, after, standing, Finds, Continues, Rule, Session, WellMade, handed_out}
+use Rattle.calls.specs.Claims.IndexSession.{area_then, number_then, Held, start, after, standing, Finds, Continues, Rule, Session, WellMade, handed_out}
 use Rattle.calls.specs.Claims.WholeList.{HandedOut, Ends, WholeList}
 use Rattle.calls.proofs.IndicesCalls.{Hands, hands, made_answers}
 use Rattle.calls.proofs.ReadingRecords.{named_exact, current_exact}

@@ -3,10 +3,10 @@ use mathlib.Core.Path.{◌≡◌, refl, ap, ◌∙◌, sym}
 use mathlib.Core.Bool.{Bool, true, false, cond, ◌&&◌, true≢false}
 use mathlib.Core.List.{List, [], ◌∷◌, ◌++◌}
 use mathlib.Core.Logic.{◌⊎◌, inl, inr, ⊎_elim}
-use Prim.Native.Nat.{ℕ, ◌+◌, ◌-◌, ◌≤◌, ◌<◌}
+use Prim.Native.Nat.{ℕ, ◌+◌, ◌-◌, ◌≤◌}
 use native.Mathlib.Omega.{arith}
-use lib.Dec.{leb, ltb, eqb}
-use borrow.Author.Tests.{ltb-true, ltb-false, eqb-true, eqb-false, eq-eqb, le-leb}
+use lib.Dec.{ltb, eqb}
+use borrow.Author.Tests.{ltb-true, ltb-false, eqb-true, eqb-false, le-leb}
 use lib.ListN.{length, take, drop}
 use lib.Seq.{take_all, take-add}
 use Rattle.words.specs.Numbers.{Bytes}
@@ -15,14 +15,14 @@ use Rattle.words.proofs.Choice.{choose, decide, and_left, and_right}
 use Rattle.words.proofs.Readings.{readings_none, readings_more, joined_read}
 use Rattle.inventory.specs.declared.edition.Edition.{Edition}
 use Rattle.inventory.specs.declared.edition.Edit.{Edit}
-use Rattle.inventory.specs.declared.edition.Edit.TheVariants.{Taken, AtTop}
+use Rattle.inventory.specs.declared.edition.Edit.TheVariants.{Taken}
 use Rattle.inventory.specs.Edition.{edit_of}
 use Rattle.inventory.specs.Listing.{Entry, listed}
 use Rattle.indices.specs.Reading.{reading}
 use Rattle.calls.specs.declared.reading_record.ReadingRecord.{ReadingRecord}
 use Rattle.calls.specs.Status.{is_given}
 use Rattle.calls.specs.Buffer.{input, is_indices, request_of, number_for, Found, call_of, answered}
-use Rattle.calls.specs.Claims.Terms.{minus, HasStatus, Asks, status_of, naming}
+use Rattle.calls.specs.Claims.Terms.{minus, status_of, naming}
 use Rattle.calls.specs.Claims.Session.{is_answered, status_then}
 use Rattle.calls.specs.Claims.IndexSession.{area_then}
 use Rattle.calls.specs.Claims.Events.{Call, Event, calls, edits, Begun, Standing, start, found_by, begun_after, after_call, after_edit, after_event, edited, OfBytes, standing}
@@ -30,7 +30,6 @@ use Rattle.calls.specs.Claims.OneEdition.{list_of, InProgress, Gives, Ended, Acc
 use Rattle.calls.proofs.Heads.{asked, asks_by, number_is, has_given, has_status}
 use Rattle.calls.proofs.ReadingRecords.{named_exact, current_exact}
 use Rattle.calls.proofs.Confined.{demand1}
-use Rattle.calls.proofs.Exact.{demand2}
 use Rattle.calls.proofs.IndicesCalls.{Answered, answered_is, Hands, hands, made_answers}
 use Rattle.calls.proofs.Unchanged.{refused_is, never_changed}
 use Rattle.calls.proofs.Session as session

@@ -1,11 +1,10 @@
 -- A reading whose edition stands: no call gives -4, so that a refused one keeps the record.
 use mathlib.Core.Path.{◌≡◌, sym, ap, ◌∙◌}
-use mathlib.Core.Bool.{true, false, ◌&&◌, true≢false}
+use mathlib.Core.Bool.{false, true≢false}
 use mathlib.Core.Logic.{◌⊎◌, ⊎_elim}
-use lib.Dec.{leb}
 use borrow.Author.Tests.{le-leb}
 use Rattle.calls.specs.Status.{is_given}
-use Rattle.calls.specs.Buffer.{number_for, Found, Left, call_of, answered}
+use Rattle.calls.specs.Buffer.{Found, call_of, answered}
 use Rattle.calls.specs.Claims.Terms.{minus, Refused}
 use Rattle.calls.specs.Claims.Session.{is_answered, status_then}
 use Rattle.calls.specs.Claims.OneEdition.{Gives}

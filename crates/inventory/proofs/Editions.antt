@@ -1,5 +1,4 @@
 -- Laws of an edition.
-use mathlib.Core.Path.{◌≡◌}
 use native.Mathlib.Omega.{arith}
 use borrow.Author.Tests.{eq-eqb, ne_eqb}
 use Rattle.inventory.specs.Edition.{edit_of}

@@ -1,5 +1,4 @@
 -- The lookups in bytes come out as they are written, by one computed test.
-use Rattle.words.specs.Claims.Cases.{same}
 use Rattle.words.specs.Numbers.{be, be_bytes, zeros}
 use Rattle.words.specs.Nul.{until_nul}
 use Rattle.inventory.specs.Inventory.{code_limit}

@@ -7,7 +7,7 @@ use Prim.Native.Nat.{ℕ, zero, suc, ◌+◌, ◌*◌, ◌-◌, ◌/◌, ◌%◌
 use native.Mathlib.Nat.{add-zero}
 use native.Mathlib.Numerals.{sub-one}
 use native.Mathlib.Omega.{arith}
-use lib.Dec.{leb, ltb, eqb}
+use lib.Dec.{ltb, eqb}
 use lib.ListN.{length, take, drop, get_or}
 use lib.Seq.{slice, length-slice, get_or-drop, get_or-take}
 use borrow.Author.Tests.{eq-eqb, ne_eqb, le-leb, lt-leb, lt-ltb, le-ltb, eqb-true, eqb-false}
@@ -16,7 +16,6 @@ use Rattle.words.specs.Reading.{read, Refuses, joined}
 use Rattle.words.proofs.Claims.{joined_exactly}
 use Rattle.words.proofs.Choice.{choose, decide, and_left, and_right}
 use Rattle.journal.specs.declared.operation.Operation.{Operation}
-use Rattle.journal.specs.declared.operation.Operation.TheVariants.{Add}
 use Rattle.node_area.specs.declared.reading.Refusal.{Refusal}
 use Rattle.node_area.specs.declared.reading.Refusal.TheVariants.{Size, Reserved, Opcode, Past, Odd, Order, Unterminated}
 use Rattle.node_area.specs.declared.reading.Fault.TheVariants.{Fine, Bad}

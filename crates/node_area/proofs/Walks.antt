@@ -18,7 +18,7 @@ use Rattle.journal.specs.declared.operation.Operation.TheVariants.{Add}
 use Rattle.node_area.specs.declared.reading.Refusal.TheVariants.{Size, Reserved}
 use Rattle.node_area.specs.declared.reading.Fault.{Fault}
 use Rattle.node_area.specs.declared.reading.Fault.TheVariants.{Fine, Bad}
-use Rattle.node_area.specs.Reading.{opcode_in, count_in, fault_of, Verdict, good, bad, verdict, single, operations_at, read_by, reading}
+use Rattle.node_area.specs.Reading.{fault_of, Verdict, good, bad, verdict, single, operations_at, read_by, reading}
 use Rattle.node_area.specs.Head.{area_size, head_size, reserved_from, is_reserved}
 use Rattle.node_area.proofs.Verdicts.{verdict_bad, operations_next, operations_single, operations_pair}
 

@@ -9,7 +9,7 @@ use lib.ListN.{length, take, drop, length-append, length-drop}
 use borrow.Author.Tests.{eq-eqb, ne_eqb, ltb-true}
 use Rattle.journal.specs.Scope.{units_of, Selection}
 use Rattle.journal.specs.declared.scope.Units.{Units}
-use Rattle.words.specs.Numbers.{Small, be_bytes, word_bytes, words, zeros}
+use Rattle.words.specs.Numbers.{Small, word_bytes, words}
 use Rattle.words.proofs.Stores.{length_word_bytes}
 use Rattle.words.proofs.Words.{words_bytes}
 use Rattle.records.specs.Choosing.{chosen_by}

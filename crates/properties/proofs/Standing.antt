@@ -18,7 +18,7 @@ use Rattle.journal.specs.declared.property.PropertyRecord.{PropertyRecord}
 use Rattle.journal.proofs.GoodLaws.{property_good}
 use Rattle.journal.proofs.Sizes.{sized_here, kind_read}
 use Rattle.properties.specs.declared.writing.Portion.{Portion}
-use Rattle.properties.specs.Changes.{Change, from}
+use Rattle.properties.specs.Changes.{Change}
 use Rattle.properties.specs.Inner.Following.{Within}
 use Rattle.properties.specs.Inner.Writing.{change_at, due_of, portion_at}
 use Rattle.properties.proofs.Steps.{ChangeStands, change_good}

@@ -32,7 +32,7 @@ use Rattle.replay.specs.declared.feeding.Replay.{Replay}
 use Rattle.replay.specs.Feeding as replays
 use Rattle.replay.specs.Claims.Feeding as replays-claims
 use Rattle.replay_states.specs.declared.state.FlatReplay.{FlatReplay}
-use Rattle.replay_states.specs.States.{flat_report_of, report_of, is_report, waits, replay_with, replay_in, waiting_field, flat_replay_of, held_came, is_state, judged_by, judged}
+use Rattle.replay_states.specs.States.{flat_report_of, report_of, is_report, replay_with, replay_in, waiting_field, flat_replay_of, held_came, is_state, judged_by, judged}
 use Rattle.replay_states.specs.Inner.Terms.{Narrow}
 
 -- ---- over and back

@@ -1,21 +1,20 @@
 -- The claims of a trace hold.
 use mathlib.Core.Path.{◌≡◌, refl, sym, ap, ◌∙◌}
-use mathlib.Core.Bool.{Bool, true, false, and-false, true≢false}
+use mathlib.Core.Bool.{false, true≢false}
 use mathlib.Core.List.{List, [], ◌∷◌}
 use Prim.Native.Nat.{ℕ, ◌+◌}
 use native.Mathlib.Nat.{zero-add, add-zero}
 use native.Mathlib.Omega.{arith}
-use lib.Dec.{leb}
 use lib.ListN.{length}
 use Rattle.words.proofs.Choice.{decide, choose}
 use Rattle.records.specs.Records.{kind_of}
 use Rattle.records.specs.Cutting.{run, start}
 use Rattle.records.proofs.Feeding.{any_cutting, standing_start, fed_stopped, run_stopped}
 use Rattle.records.proofs.Whole.{any_cutting_over}
-use Rattle.trace.specs.Playing.{Platform, Waiting, none, call, State, is_over, agreed, stopped, blamed, faulted, kept, setting, compared, called, calling, played, concluded, step, reader, begin, replay_of}
+use Rattle.trace.specs.Playing.{Platform, Waiting, none, call, State, agreed, stopped, faulted, kept, setting, calling, played, concluded, step, reader, begin, replay_of}
 use Rattle.trace.specs.declared.report.Report.{Report}
-use Rattle.trace.specs.declared.report.Report.TheVariants.{Agreed, Differs, Malformed}
-use Rattle.trace.specs.Trace.{is_before, is_after, is_setting, body_of, is_good, is_settable}
+use Rattle.trace.specs.declared.report.Report.TheVariants.{Agreed}
+use Rattle.trace.specs.Trace.{is_before, is_after, is_setting, body_of, is_settable}
 use Rattle.trace.specs.Claims.Trace.{RecordsCounted, AnyCutting, OverRecords, AgreedSame, StopsForGood, TraceClaims}
 use Rattle.trace.proofs.Reader.{faulted_stopped, sticky, stops, alike, ways}
 use Rattle.trace.proofs.Recording.{own_trace_agrees, difference_told}

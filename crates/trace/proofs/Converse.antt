@@ -1,6 +1,6 @@
 -- A trace that replays with all calls agreeing is one that our own calls make.
 use mathlib.Core.Path.{◌≡◌, refl, sym, ap, ap₂, ◌∙◌}
-use mathlib.Core.Bool.{true, false, true≢false}
+use mathlib.Core.Bool.{true, true≢false}
 use mathlib.Core.List.{List, [], ◌∷◌, ◌++◌, append_assoc}
 use mathlib.Core.Logic.{◌⊎◌, inl, inr, ⊎_elim}
 use Prim.Native.Nat.{ℕ, zero, suc, ◌+◌, ◌-◌, ◌*◌, ◌/◌, ◌%◌, ◌≤◌, ◌<◌}
@@ -13,7 +13,7 @@ use borrow.Author.Tests.{leb-true, eqb-true}
 use Rattle.words.specs.Numbers.{Bytes, le}
 use Rattle.words.proofs.Numbers.{le_drop, le_below}
 use Rattle.words.proofs.Choice.{choose, and_left, and_right}
-use Rattle.records.specs.Records.{length_of, kind_of, size_of, first_record, records, whole}
+use Rattle.records.specs.Records.{length_of, kind_of, size_of, first_record, records}
 use Rattle.records.specs.Cutting.{run}
 use Rattle.records.proofs.Steps.{records-step, bytes_take}
 use Rattle.records.proofs.Feeding.{run_stopped}

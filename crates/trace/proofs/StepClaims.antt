@@ -1,13 +1,13 @@
 -- What one record of a trace does, exactly when.
-use mathlib.Core.Path.{◌≡◌, refl, sym, ap, ◌∙◌}
-use mathlib.Core.Bool.{Bool, true, false, ◌&&◌, and-false}
+use mathlib.Core.Path.{◌≡◌, refl, ap}
+use mathlib.Core.Bool.{true, false, ◌&&◌, and-false}
 use mathlib.Core.List.{List, [], ◌∷◌}
 use mathlib.Core.Logic.{◌⊎◌, ⊎_elim}
-use Prim.Native.Nat.{ℕ, zero, suc, ◌+◌, ◌*◌, ◌-◌, ◌/◌, ◌%◌, ◌^◌, ◌≤◌, ◌<◌}
+use Prim.Native.Nat.{ℕ, zero, suc, ◌+◌, ◌-◌, ◌/◌, ◌%◌, ◌^◌, ◌≤◌, ◌<◌}
 use native.Mathlib.Omega.{arith}
 use lib.Dec.{leb}
-use lib.ListN.{length, drop, get_or, length-drop}
-use borrow.Author.Tests.{le-leb, lt-leb, eq-eqb, ne_eqb, leb-true}
+use lib.ListN.{length, drop, length-drop}
+use borrow.Author.Tests.{le-leb, lt-leb, ne_eqb, leb-true}
 use Rattle.words.specs.Numbers.{le}
 use Rattle.words.specs.Claims.Exactly.{Exactly}
 use Rattle.words.proofs.Choice.{and_left, and_right}
@@ -17,10 +17,10 @@ use Rattle.records.proofs.Due.{short_raw}
 use Rattle.records.proofs.Feeding.{fed_held}
 use Rattle.records.proofs.Claims.{records_in_turn}
 use Rattle.trace.specs.Trace.{good_frame, is_good, is_settable}
-use Rattle.trace.specs.Playing.{Platform, Waiting, none, call, State, stopped, faulted, kept, setting, calling, concluded, step, replay_of, reader}
+use Rattle.trace.specs.Playing.{Platform, none, call, State, stopped, faulted, kept, setting, calling, concluded, step, replay_of, reader}
 use Rattle.trace.proofs.Reader.{sticky}
 use Rattle.trace.specs.Claims.Recording.{le_bytes}
-use Rattle.trace.specs.Claims.Steps.{Good, Faulted, StepExactly, ReplayExactly, EachReplay}
+use Rattle.trace.specs.Claims.Steps.{Good, Faulted, StepExactly, EachReplay}
 
 good_of : (r : List ℕ) → is_good r ≡ true → Good r
 unfolding is_good good_frame length_of kind_of

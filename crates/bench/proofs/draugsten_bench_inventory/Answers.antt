@@ -1,5 +1,4 @@
 -- `draugsten_bench_inventory` meets its contract.
-use borrow.Author.Rules.{rules}
 use Rattle.bench.proofs.Counting.{none_listed, some_listed}
 use Rattle.bench.proofs.draugsten_bench_inventory.Goals as goal
 

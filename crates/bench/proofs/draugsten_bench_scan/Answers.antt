@@ -1,7 +1,6 @@
 -- `draugsten_bench_scan` meets its contract.
 use mathlib.Core.Path.{◌≡◌, sym, ap, ◌∙◌}
 use native.Mathlib.Omega.{arith}
-use borrow.Author.Rules.{rules}
 use Rattle.bench.proofs.Counting.{total_of, light_of}
 use Rattle.bench.specs.Inner.Bench.{reported_of}
 use Rattle.journal.specs.Reportable.{judgement_of}

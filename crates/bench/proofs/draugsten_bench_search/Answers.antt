@@ -1,10 +1,9 @@
 use mathlib.Core.Path.{refl, ap}
 use native.Mathlib.Omega.{arith}
-use borrow.Author.Rules.{rules}
 use Rattle.inventory.specs.Listing.{listed}
 use Rattle.inventory.specs.declared.locating.Located.{Located}
 use Rattle.inventory.proofs.Search.{NextMatch, next_match}
-use Rattle.bench.proofs.Searching.{Walked, walked_step, walked_end}
+use Rattle.bench.proofs.Searching.{walked_step, walked_end}
 use Rattle.bench.proofs.draugsten_bench_search.Goals as goal
 
 pub loop-left-init : goal.loop-left-init

@@ -1,5 +1,5 @@
 -- Terms of contracts inside the crate.
-use Rattle.std.specs.Prelude.{ℕ, zero, suc, ◌+◌, List, [], ◌++◌}
+use Rattle.std.specs.Prelude.{ℕ, zero, suc, List, [], ◌++◌}
 use Rattle.property_area.specs.Piece.{Piece}
 use Rattle.properties.specs.Changes.{Change}
 use Rattle.properties.specs.Filling.{area_room, fill}

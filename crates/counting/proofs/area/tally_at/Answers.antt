@@ -1,7 +1,6 @@
 -- `area::tally_at` meets its contract.
 use mathlib.Core.Path.{◌∙◌}
 use native.Mathlib.Omega.{arith}
-use borrow.Author.Rules.{rules}
 use lib.ListN.{length-take, length-drop}
 use Rattle.calls.specs.Lent.{part_at}
 use Rattle.calls.proofs.Memory.{part_lent}

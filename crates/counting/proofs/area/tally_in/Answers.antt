@@ -2,7 +2,6 @@
 use mathlib.Core.Path.{◌≡◌, refl, sym, ◌∙◌}
 use mathlib.Core.List.{List}
 use Prim.Native.Nat.{ℕ}
-use borrow.Author.Rules.{rules}
 use lib.ListN.{drop}
 use Rattle.words.specs.Numbers.{words}
 use Rattle.words.specs.Reading.{Reading, read, refused}

@@ -1,7 +1,5 @@
-use Prim.Native.Nat.{◌-◌}
 use native.Mathlib.Omega.{arith}
-use borrow.Author.Rules.{rules}
-use Rattle.counting.proofs.UsedWords.{Passed, passed_none, passed_out, passed_end, passed_more}
+use Rattle.counting.proofs.UsedWords.{passed_none, passed_out, passed_end, passed_more}
 use Rattle.counting.proofs.area.words_in.Goals as goal
 
 pub loop-at-init : goal.loop-at-init

@@ -1,8 +1,6 @@
 -- `area::words_in` meets its contract.
 use Prim.Native.Nat.{◌-◌}
-use native.Mathlib.Omega.{arith}
-use borrow.Author.Rules.{rules}
-use Rattle.counting.proofs.UsedWords.{Passed, passed_none, passed_out, passed_end, passed_more}
+use Rattle.counting.proofs.UsedWords.{Passed}
 use Rattle.counting.proofs.area.words_in.Given as goal
 
 abbrev pub invariant-loop-at : goal.invariant-loop-at

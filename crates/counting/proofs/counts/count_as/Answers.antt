@@ -1,6 +1,5 @@
 -- `counts::count_as` meets its contract.
 use native.Mathlib.Omega.{arith}
-use borrow.Author.Rules.{rules}
 use Rattle.counting.proofs.counts.count_as.Goals as goal
 
 pub overflow_add-rows : goal.overflow_add-rows

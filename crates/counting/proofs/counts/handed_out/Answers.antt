@@ -1,7 +1,6 @@
 -- `counts::handed_out` meets its contract.
 use mathlib.Core.Path.{sym, ap, ◌∙◌}
 use native.Mathlib.Omega.{arith}
-use borrow.Author.Rules.{rules}
 use Rattle.calls.specs.Status.{is_given}
 use Rattle.calls.proofs.Heads.{Whole, whole_buffer, asked}
 use Rattle.counting.proofs.Ways.{handed_not, handed_is}

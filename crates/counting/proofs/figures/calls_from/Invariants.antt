@@ -1,11 +1,8 @@
 -- `figures::calls_from` meets its contract.
-use mathlib.Core.Path.{◌≡◌, refl, sym}
-use Prim.Native.Nat.{◌+◌, ◌-◌, ◌≤◌}
-use native.Mathlib.Omega.{arith}
+use mathlib.Core.Path.{◌≡◌}
+use Prim.Native.Nat.{◌-◌, ◌≤◌}
 use lib.ListN.{drop}
-use borrow.Author.Rules.{rules}
 use Rattle.counting.specs.Figures.{sum_of}
-use Rattle.counting.proofs.Summing.{sum_next, sum_most}
 use Rattle.counting.proofs.figures.calls_from.Given as goal
 
 abbrev pub invariant-loop-i : goal.invariant-loop-i

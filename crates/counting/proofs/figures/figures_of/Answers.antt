@@ -1,7 +1,6 @@
 -- `figures::figures_of` meets its contract.
 use mathlib.Core.Path.{ap}
 use native.Mathlib.Omega.{arith}
-use borrow.Author.Rules.{rules}
 use Rattle.totals.specs.Adding.{totals_of}
 use Rattle.counting.proofs.Summing.{sum_most, seven_stores}
 use Rattle.counting.proofs.figures.figures_of.Goals as goal

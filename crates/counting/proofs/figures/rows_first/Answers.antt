@@ -1,8 +1,5 @@
 use mathlib.Core.Path.{◌≡◌, refl}
-use mathlib.Core.List.{◌++◌}
-use Prim.Native.Nat.{◌-◌, ◌≤◌}
 use native.Mathlib.Omega.{arith}
-use lib.ListN.{take, replicate}
 use lib.Seq.{take_all}
 use borrow.Author.Rules.{rules}
 use Rattle.counting.proofs.Summing.{rows_next}

@@ -1,12 +1,8 @@
 -- `figures::rows_first` meets its contract.
-use mathlib.Core.Path.{◌≡◌, refl}
+use mathlib.Core.Path.{◌≡◌}
 use mathlib.Core.List.{◌++◌}
 use Prim.Native.Nat.{◌-◌, ◌≤◌}
-use native.Mathlib.Omega.{arith}
 use lib.ListN.{take, replicate}
-use lib.Seq.{take_all}
-use borrow.Author.Rules.{rules}
-use Rattle.counting.proofs.Summing.{rows_next}
 use Rattle.counting.proofs.figures.rows_first.Given as goal
 
 abbrev pub invariant-loop-i : goal.invariant-loop-i

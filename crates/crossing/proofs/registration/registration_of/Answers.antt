@@ -1,6 +1,5 @@
 -- `registration::registration_of` meets its contract.
 use mathlib.Core.Path.{refl}
-use borrow.Author.Rules.{rules}
 use Rattle.crossing.proofs.Registrations.{faithful, registration_exactly}
 use Rattle.crossing.proofs.registration.registration_of.Goals as goal
 

@@ -1,7 +1,5 @@
 -- `calling::draugsten_call` meets its contract.
 use mathlib.Core.Path.{refl, sym, ◌∙◌}
-use borrow.Author.Rules.{rules}
-use borrow.Author.Tests.{not-true, not-false}
 use Rattle.draugsten.specs.Registration.{flat_call_of}
 use Rattle.draugsten.proofs.Promises.{call_promise}
 use Rattle.draugsten.proofs.calling.draugsten_call.Goals as goal

@@ -1,6 +1,5 @@
 -- `calling::draugsten_no_registration` meets its contract.
 use mathlib.Core.Path.{ap, ◌∙◌}
-use borrow.Author.Rules.{rules}
 use Rattle.crossing.specs.Registration.{flat_of}
 use Rattle.draugsten.proofs.Promises.{no_registration_promise}
 use Rattle.draugsten.proofs.calling.draugsten_no_registration.Goals as goal

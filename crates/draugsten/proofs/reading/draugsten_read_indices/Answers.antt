@@ -1,5 +1,4 @@
 -- `reading::draugsten_read_indices` meets its contract.
-use borrow.Author.Rules.{rules}
 use Rattle.draugsten.proofs.Promises.{read_indices_promise}
 use Rattle.draugsten.proofs.reading.draugsten_read_indices.Goals as goal
 

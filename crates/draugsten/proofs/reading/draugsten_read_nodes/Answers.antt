@@ -1,5 +1,4 @@
 -- `reading::draugsten_read_nodes` meets its contract.
-use borrow.Author.Rules.{rules}
 use Rattle.draugsten.proofs.Promises.{read_nodes_promise}
 use Rattle.draugsten.proofs.reading.draugsten_read_nodes.Goals as goal
 

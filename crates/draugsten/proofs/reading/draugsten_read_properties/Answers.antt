@@ -1,5 +1,4 @@
 -- `reading::draugsten_read_properties` meets its contract.
-use borrow.Author.Rules.{rules}
 use Rattle.draugsten.proofs.Promises.{read_properties_promise}
 use Rattle.draugsten.proofs.reading.draugsten_read_properties.Goals as goal
 

@@ -1,5 +1,4 @@
 -- `reading_record::draugsten_edit` meets its contract.
-use borrow.Author.Rules.{rules}
 use mathlib.Core.Path.{refl, sym, ◌∙◌}
 use Rattle.draugsten.specs.Record.{flat_edit_of}
 use Rattle.draugsten.proofs.Promises.{edit_promise}

@@ -1,5 +1,4 @@
 -- `reading_record::draugsten_no_reading` meets its contract.
-use borrow.Author.Rules.{rules}
 use mathlib.Core.Path.{refl}
 use Rattle.draugsten.proofs.Promises.{no_reading_promise}
 use Rattle.draugsten.proofs.reading_record.draugsten_no_reading.Goals as goal

@@ -1,7 +1,5 @@
 -- `running::draugsten_run_dump` meets its contract.
 use mathlib.Core.Path.{refl, sym, ◌∙◌}
-use borrow.Author.Rules.{rules}
-use borrow.Author.Tests.{not-true, not-false}
 use Rattle.draugsten_dump.specs.Running.{flat_run_of}
 use Rattle.draugsten_dump.proofs.Promises.{run_promise}
 use Rattle.draugsten_dump.proofs.running.draugsten_run_dump.Goals as goal

@@ -1,6 +1,5 @@
 -- `looking::draugsten_lookup` meets its contract.
 use mathlib.Core.Path.{ap, ◌∙◌}
-use borrow.Author.Rules.{rules}
 use Rattle.draugsten_locations.specs.Flat.{flat_location}
 use Rattle.draugsten_locations.proofs.Promises.{lookup_promise}
 use Rattle.draugsten_locations.proofs.looking.draugsten_lookup.Goals as goal

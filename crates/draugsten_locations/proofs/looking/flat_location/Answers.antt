@@ -1,6 +1,5 @@
 -- `looking::flat_location` meets its contract.
 use mathlib.Core.Path.{ap, sym}
-use borrow.Author.Rules.{rules}
 use Rattle.draugsten_locations.specs.Flat.{flat_location}
 use Rattle.draugsten_locations.proofs.looking.flat_location.Goals as goal
 

@@ -1,6 +1,5 @@
 -- `viewing::draugsten_view_step` meets its contract.
 use mathlib.Core.Path.{ap, ◌∙◌}
-use borrow.Author.Rules.{rules}
 use Rattle.draugsten_locations.specs.Flat.{flat_step}
 use Rattle.draugsten_locations.proofs.Promises.{view_promise}
 use Rattle.draugsten_locations.proofs.viewing.draugsten_view_step.Goals as goal

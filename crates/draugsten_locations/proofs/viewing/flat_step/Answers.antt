@@ -1,5 +1,4 @@
 -- `viewing::flat_step` meets its contract.
-use borrow.Author.Rules.{rules}
 use Rattle.draugsten_locations.proofs.viewing.flat_step.Goals as goal
 
 pub returns-in-Entry : goal.returns-in-Entry

@@ -1,8 +1,6 @@
 -- `feeding::draugsten_replay_end` meets its contract.
 use mathlib.Core.Path.{◌≡◌, refl, sym, ◌∙◌}
 use mathlib.Core.Bool.{true}
-use borrow.Author.Rules.{rules}
-use borrow.Author.Tests.{not-true, not-false}
 use Rattle.replay_states.specs.States.{is_state}
 use Rattle.draugsten_replay.specs.Feeding.{flat_end_of}
 use Rattle.replay_states.proofs.States.{few, narrow}

@@ -1,6 +1,5 @@
 -- `feeding::draugsten_replay_feed` meets its contract.
 use mathlib.Core.Path.{◌≡◌, sym, ◌∙◌}
-use borrow.Author.Rules.{rules}
 use Rattle.counting.specs.Counts.{no_counts}
 use Rattle.replay_states.specs.States.{judged}
 use Rattle.replay_states.proofs.States.{taken, narrow, ready}

@@ -1,7 +1,6 @@
 -- `feeding::draugsten_replay_start` meets its contract.
 use native.Mathlib.Omega.{arith}
 use mathlib.Core.Path.{ap, ◌∙◌}
-use borrow.Author.Rules.{rules}
 use Rattle.replay_states.specs.States.{flat_replay_of}
 use Rattle.draugsten_replay.proofs.Promises.{replay_promise}
 use Rattle.draugsten_replay.proofs.feeding.draugsten_replay_start.Goals as goal

@@ -1,6 +1,5 @@
 -- `month::add_counts` meets its contract.
 use mathlib.Core.Path.{ap, ◌∙◌}
-use borrow.Author.Rules.{rules}
 use Rattle.totals.specs.Adding.{added_to}
 use Rattle.draugsten_replay.specs.Month.{counts_added}
 use Rattle.draugsten_replay.proofs.month.add_counts.Goals as goal

@@ -3,7 +3,6 @@ use mathlib.Core.Path.{◌≡◌, refl, sym, ◌∙◌}
 use mathlib.Core.Bool.{true}
 use borrow.Author.Rules.{rules}
 use borrow.Author.Tests.{not-true, not-false}
-use lib.ListN.{length}
 use Rattle.counting.specs.Claims.Terms.{Within}
 use Rattle.counting.proofs.Growing.{within_later}
 use Rattle.replay.specs.Feeding.{end_of}

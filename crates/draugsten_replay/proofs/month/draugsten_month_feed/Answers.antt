@@ -1,7 +1,6 @@
 -- `month::draugsten_month_feed` meets its contract.
 use mathlib.Core.Path.{◌≡◌, sym, ◌∙◌}
 use borrow.Author.Rules.{rules}
-use lib.ListN.{length}
 use Rattle.counting.specs.Claims.Terms.{Within}
 use Rattle.replay_states.proofs.States.{taken, narrow, ready_with}
 use Rattle.replay_states.proofs.Counted.{counts_within_lem}

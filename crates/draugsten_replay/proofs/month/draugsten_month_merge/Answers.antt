@@ -1,8 +1,6 @@
 -- `month::draugsten_month_merge` meets its contract.
 use mathlib.Core.Path.{◌≡◌, sym, ◌∙◌}
 use mathlib.Core.Bool.{true}
-use borrow.Author.Rules.{rules}
-use borrow.Author.Tests.{not-true, not-false}
 use Rattle.totals.specs.Consistent.{consistent}
 use Rattle.draugsten_replay.specs.Month.{merged_to}
 use Rattle.draugsten_replay.proofs.Promises.{month_promise}

@@ -1,5 +1,4 @@
 -- `month::draugsten_month_share` meets its contract.
-use borrow.Author.Rules.{rules}
 use Rattle.draugsten_replay.proofs.Promises.{month_promise}
 use Rattle.draugsten_replay.proofs.month.draugsten_month_share.Goals as goal
 

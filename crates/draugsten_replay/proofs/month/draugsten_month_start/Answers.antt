@@ -1,6 +1,5 @@
 -- `month::draugsten_month_start` meets its contract.
 use native.Mathlib.Omega.{arith}
-use borrow.Author.Rules.{rules}
 use Rattle.draugsten_replay.proofs.Promises.{month_promise}
 use Rattle.draugsten_replay.proofs.month.draugsten_month_start.Goals as goal
 

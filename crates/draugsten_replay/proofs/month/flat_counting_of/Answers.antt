@@ -1,5 +1,4 @@
 -- `month::flat_counting_of` meets its contract.
-use borrow.Author.Rules.{rules}
 use Rattle.draugsten_replay.proofs.month.flat_counting_of.Goals as goal
 
 pub returns : goal.returns

@@ -1,6 +1,5 @@
 -- `month::is_counting` meets its contract.
 use mathlib.Core.Path.{sym, ◌∙◌}
-use borrow.Author.Rules.{rules}
 use Rattle.draugsten_replay.specs.Month.{is_counting_by}
 use Rattle.draugsten_replay.proofs.month.is_counting.Goals as goal
 

@@ -1,6 +1,5 @@
 -- `month::judge_counting` meets its contract.
 use mathlib.Core.Path.{◌≡◌, sym, ◌∙◌}
-use borrow.Author.Rules.{rules}
 use borrow.Author.Tests.{ne_eqb}
 use Rattle.replay_states.specs.States.{judged_by}
 use Rattle.replay_states.proofs.States.{taken_by}

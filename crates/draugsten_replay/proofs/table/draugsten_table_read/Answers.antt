@@ -1,5 +1,4 @@
 -- `table::draugsten_table_read` meets its contract.
-use borrow.Author.Rules.{rules}
 use Rattle.draugsten_replay.proofs.Promises.{table_promise}
 use Rattle.draugsten_replay.proofs.table.draugsten_table_read.Goals as goal
 

@@ -1,5 +1,4 @@
 -- `flat::flat_tallied` meets its contract.
-use borrow.Author.Rules.{rules}
 use Rattle.draugsten_tallies.proofs.flat.flat_tallied.Goals as goal
 
 pub returns : goal.returns

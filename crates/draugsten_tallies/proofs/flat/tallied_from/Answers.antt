@@ -1,5 +1,4 @@
 -- `flat::tallied_from` meets its contract.
-use borrow.Author.Rules.{rules}
 use Rattle.draugsten_tallies.proofs.flat.tallied_from.Goals as goal
 
 pub returns : goal.returns

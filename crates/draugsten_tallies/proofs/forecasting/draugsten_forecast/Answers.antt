@@ -1,6 +1,5 @@
 -- `forecasting::draugsten_forecast` meets its contract.
 use mathlib.Core.Path.{refl}
-use borrow.Author.Rules.{rules}
 use Rattle.draugsten_tallies.proofs.Promises.{forecast_promise}
 use Rattle.draugsten_tallies.proofs.forecasting.draugsten_forecast.Goals as goal
 

@@ -1,6 +1,5 @@
 -- `intakes::draugsten_intake_burst` meets its contract.
 use mathlib.Core.Path.{sym, ◌∙◌}
-use borrow.Author.Rules.{rules}
 use Rattle.draugsten_tallies.proofs.IntakeCrossed.{each_state}
 use Rattle.draugsten_tallies.proofs.Answers.{burst_refused, burst_taken}
 use Rattle.draugsten_tallies.proofs.Promises.{intake_promise}

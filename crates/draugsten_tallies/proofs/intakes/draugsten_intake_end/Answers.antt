@@ -1,6 +1,5 @@
 -- `intakes::draugsten_intake_end` meets its contract.
 use mathlib.Core.Path.{◌∙◌}
-use borrow.Author.Rules.{rules}
 use Rattle.draugsten_tallies.proofs.Answers.{end_refused, end_taken}
 use Rattle.draugsten_tallies.proofs.Promises.{intake_promise}
 use Rattle.draugsten_tallies.proofs.intakes.draugsten_intake_end.Goals as goal

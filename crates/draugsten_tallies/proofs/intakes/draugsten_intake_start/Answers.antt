@@ -1,6 +1,5 @@
 -- `intakes::draugsten_intake_start` meets its contract.
 use mathlib.Core.Path.{ap, ◌∙◌}
-use borrow.Author.Rules.{rules}
 use Rattle.intake.specs.Bursts.{start_of}
 use Rattle.draugsten_tallies.specs.Intakes.{flat_intake}
 use Rattle.draugsten_tallies.proofs.Promises.{intake_promise}

@@ -1,5 +1,4 @@
 -- `intakes::flat_end` meets its contract.
-use borrow.Author.Rules.{rules}
 use Rattle.draugsten_tallies.proofs.intakes.flat_end.Goals as goal
 
 pub returns-in-Nothing : goal.returns-in-Nothing

@@ -1,5 +1,4 @@
 -- `intakes::flat_intake` meets its contract.
-use borrow.Author.Rules.{rules}
 use Rattle.draugsten_tallies.proofs.intakes.flat_intake.Goals as goal
 
 pub returns : goal.returns

@@ -1,5 +1,4 @@
 -- `intakes::intake_from` meets its contract.
-use borrow.Author.Rules.{rules}
 use Rattle.draugsten_tallies.proofs.intakes.intake_from.Goals as goal
 
 pub returns : goal.returns

@@ -1,6 +1,5 @@
 -- `intakes::state_number` meets its contract.
 use mathlib.Core.Path.{sym, ◌∙◌}
-use borrow.Author.Rules.{rules}
 use borrow.Author.Tests.{lt-ltb, le-ltb}
 use Rattle.draugsten_tallies.specs.Intakes.{state_number}
 use Rattle.draugsten_tallies.proofs.intakes.state_number.Goals as goal

@@ -1,6 +1,5 @@
 -- `keeping::draugsten_tallies_append` meets its contract.
 use mathlib.Core.Path.{refl}
-use borrow.Author.Rules.{rules}
 use Rattle.draugsten_tallies.proofs.Promises.{tallies_promise}
 use Rattle.draugsten_tallies.proofs.keeping.draugsten_tallies_append.Goals as goal
 

@@ -1,6 +1,5 @@
 -- `keeping::draugsten_tallies_cleared` meets its contract.
 use mathlib.Core.Path.{ap, ◌∙◌}
-use borrow.Author.Rules.{rules}
 use Rattle.draugsten_tallies.specs.Flat.{flat_tallied}
 use Rattle.draugsten_tallies.proofs.Promises.{tallies_promise}
 use Rattle.draugsten_tallies.proofs.keeping.draugsten_tallies_cleared.Goals as goal

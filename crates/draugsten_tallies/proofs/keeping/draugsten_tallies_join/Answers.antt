@@ -1,6 +1,5 @@
 -- `keeping::draugsten_tallies_join` meets its contract.
 use mathlib.Core.Path.{refl}
-use borrow.Author.Rules.{rules}
 use Rattle.draugsten_tallies.proofs.Promises.{join_promise}
 use Rattle.draugsten_tallies.proofs.keeping.draugsten_tallies_join.Goals as goal
 

@@ -1,11 +1,8 @@
 -- `registration::copied` meets its contract.
-use mathlib.Core.Path.{◌≡◌, refl, ap, ◌∙◌}
+use mathlib.Core.Path.{◌≡◌}
 use Prim.Native.Nat.{◌-◌}
 use lib.ListN.{length, take}
-use lib.Seq.{take_all}
-use borrow.Author.Rules.{rules}
 use Rattle.dump.specs.Registration.{padded}
-use Rattle.dump.proofs.Copies.{padded_next}
 use Rattle.dump.proofs.registration.copied.Given as goal
 
 abbrev pub invariant-loop-i : goal.invariant-loop-i

@@ -1,7 +1,6 @@
 -- `registration::is_acceptable` meets its contract.
 use mathlib.Core.Path.{◌∙◌}
 use native.Mathlib.Nat.{add-sub_cancel_left}
-use borrow.Author.Rules.{rules}
 use borrow.Author.Tests.{le-leb, lt-leb}
 use Rattle.dump.specs.Registration.{acceptable}
 use Rattle.dump.proofs.registration.is_acceptable.Goals as goal

@@ -1,9 +1,7 @@
-use mathlib.Core.Path.{◌≡◌, refl, sym, ◌∙◌}
-use Prim.Native.Nat.{◌+◌, ◌*◌, ◌≤◌}
-use lib.ListN.{length}
+use mathlib.Core.Path.{refl, sym, ◌∙◌}
 use borrow.Author.Rules.{rules}
 use borrow.Author.Tests.{eq-eqb, ne_eqb}
-use Rattle.dump.specs.Structure.{section_size, requested, each_section}
+use Rattle.dump.specs.Structure.{requested}
 use Rattle.dump.proofs.StructureLaws.{each_none, each_bad, each_good}
 use Rattle.dump.proofs.structure.are_requested.Goals as goal
 

@@ -1,11 +1,8 @@
 -- `structure::are_requested` meets its contract.
-use mathlib.Core.Path.{◌≡◌, refl, sym, ◌∙◌}
+use mathlib.Core.Path.{◌≡◌}
 use Prim.Native.Nat.{◌+◌, ◌*◌, ◌≤◌}
 use lib.ListN.{length}
-use borrow.Author.Rules.{rules}
-use borrow.Author.Tests.{eq-eqb, ne_eqb}
 use Rattle.dump.specs.Structure.{section_size, requested, each_section}
-use Rattle.dump.proofs.StructureLaws.{each_none, each_bad, each_good}
 use Rattle.dump.proofs.structure.are_requested.Given as goal
 
 abbrev pub invariant-loop-left : goal.invariant-loop-left

@@ -1,9 +1,6 @@
-use mathlib.Core.Path.{◌≡◌, refl, sym, ◌∙◌}
-use Prim.Native.Nat.{◌+◌, ◌*◌, ◌≤◌}
-use lib.ListN.{length}
+use mathlib.Core.Path.{refl, sym, ◌∙◌}
 use borrow.Author.Rules.{rules}
-use borrow.Author.Tests.{not-true, not-false}
-use Rattle.dump.specs.Structure.{section_size, good_section, each_section}
+use Rattle.dump.specs.Structure.{good_section}
 use Rattle.dump.proofs.StructureLaws.{each_none, each_bad, each_good}
 use Rattle.dump.proofs.structure.are_sections.Goals as goal
 

@@ -1,11 +1,8 @@
 -- `structure::are_sections` meets its contract.
-use mathlib.Core.Path.{◌≡◌, refl, sym, ◌∙◌}
+use mathlib.Core.Path.{◌≡◌}
 use Prim.Native.Nat.{◌+◌, ◌*◌, ◌≤◌}
 use lib.ListN.{length}
-use borrow.Author.Rules.{rules}
-use borrow.Author.Tests.{not-true, not-false}
 use Rattle.dump.specs.Structure.{section_size, good_section, each_section}
-use Rattle.dump.proofs.StructureLaws.{each_none, each_bad, each_good}
 use Rattle.dump.proofs.structure.are_sections.Given as goal
 
 abbrev pub invariant-loop-left : goal.invariant-loop-left

@@ -1,6 +1,5 @@
 -- `structure::is_header` meets its contract.
 use mathlib.Core.Bool.{and-false}
-use borrow.Author.Rules.{rules}
 use borrow.Author.Tests.{le-leb, lt-leb, eq-eqb, ne_eqb}
 use Rattle.dump.specs.Structure.{header_size, section_limit, good_header}
 use Rattle.dump.proofs.structure.is_header.Goals as goal

@@ -2,7 +2,6 @@
 use mathlib.Core.Path.{◌≡◌}
 use mathlib.Core.Bool.{and-false}
 use lib.ListN.{length}
-use borrow.Author.Rules.{rules}
 use borrow.Author.Tests.{lt-ltb, le-ltb, le-leb, lt-leb}
 use Rattle.dump.specs.Structure.{header_size, good_path}
 use Rattle.dump.proofs.StructureLaws.{judged_path, path_outside, path_read}

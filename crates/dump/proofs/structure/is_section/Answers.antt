@@ -1,7 +1,6 @@
 -- `structure::is_section` meets its contract.
 use mathlib.Core.Bool.{and-false}
-use borrow.Author.Rules.{rules}
-use borrow.Author.Tests.{le-leb, lt-leb, eq-eqb, ne_eqb, not-true, not-false}
+use borrow.Author.Tests.{le-leb, lt-leb, eq-eqb, ne_eqb}
 use Rattle.dump.specs.Structure.{good_section}
 use Rattle.dump.proofs.structure.is_section.Goals as goal
 

@@ -5,7 +5,7 @@ use Prim.Native.Nat.{◌≤◌}
 use native.Mathlib.Omega.{arith}
 use lib.ListN.{length}
 use borrow.Author.Rules.{rules}
-use borrow.Author.Tests.{eq-eqb, ne_eqb, not-true, not-false}
+use borrow.Author.Tests.{eq-eqb, ne_eqb}
 use Rattle.dump.specs.Structure.{sections, first_section, sections_end, good_header, each_section, good_section, good_structure}
 use Rattle.dump.specs.Claims.Dump.{StructureCases}
 use Rattle.dump.specs.Claims.Structure.{StructureExactly}

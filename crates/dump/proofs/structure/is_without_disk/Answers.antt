@@ -1,6 +1,5 @@
 -- `structure::is_without_disk` meets its contract.
 use mathlib.Core.Bool.{and-false}
-use borrow.Author.Rules.{rules}
 use borrow.Author.Tests.{eq-eqb, ne_eqb}
 use Rattle.dump.specs.Structure.{without_disk}
 use Rattle.dump.proofs.structure.is_without_disk.Goals as goal

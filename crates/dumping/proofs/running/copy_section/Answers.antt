@@ -1,6 +1,5 @@
 -- `running::copy_section` meets its contract.
 use mathlib.Core.Path.{◌≡◌, sym, ◌∙◌}
-use borrow.Author.Rules.{rules}
 use borrow.Author.Tests.{eq-eqb, ne_eqb}
 use Rattle.dumping.specs.Running.{source_of}
 use Rattle.dumping.proofs.Runs.{not_asked, asked}

@@ -1,7 +1,6 @@
 -- `running::load_section` meets its contract.
 use native.Mathlib.Omega.{arith}
 use lib.ListN.{length}
-use borrow.Author.Rules.{rules}
 use Rattle.dumping.proofs.Claims.{section_claims}
 use Rattle.dumping.proofs.Runs.{none_stored}
 use Rattle.dumping.proofs.running.load_section.Goals as goal

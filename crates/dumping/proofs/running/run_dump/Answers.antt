@@ -1,6 +1,5 @@
 -- `running::run_dump` meets its contract.
 use mathlib.Core.Path.{refl}
-use borrow.Author.Rules.{rules}
 use Rattle.dumping.proofs.RunClaims.{run_claims}
 use Rattle.dumping.proofs.Runs.{run_refused, verdict_active, verdict_none}
 use Rattle.dumping.proofs.running.run_dump.Goals as goal

@@ -1,8 +1,6 @@
 -- `running::run_registered` meets its contract.
 use mathlib.Core.Path.{◌≡◌, refl, sym, ◌∙◌}
 use mathlib.Core.Bool.{true}
-use borrow.Author.Rules.{rules}
-use borrow.Author.Tests.{not-true, not-false}
 use Rattle.dumping.specs.Running.{good_copy}
 use Rattle.dumping.proofs.Runs.{good_room, run_refused, run_done, verdict_good, verdict_bad}
 use Rattle.dumping.proofs.running.run_registered.Goals as goal

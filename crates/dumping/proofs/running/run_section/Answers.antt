@@ -1,5 +1,4 @@
 -- `running::run_section` meets its contract.
-use borrow.Author.Rules.{rules}
 use Rattle.dumping.specs.Running.{section_run}
 use Rattle.dumping.proofs.running.run_section.Goals as goal
 

@@ -1,7 +1,6 @@
 use mathlib.Core.Path.{◌∙◌}
 use native.Mathlib.Omega.{arith}
-use borrow.Author.Rules.{rules}
-use Rattle.dumping.proofs.Runs.{Going, going_start, going_next, going_end}
+use Rattle.dumping.proofs.Runs.{going_start, going_next, going_end}
 use Rattle.dumping.proofs.running.run_structure.Goals as goal
 
 pub loop-left-init : goal.loop-left-init

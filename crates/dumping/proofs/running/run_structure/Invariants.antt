@@ -1,8 +1,5 @@
 -- `running::run_structure` meets its contract.
-use mathlib.Core.Path.{◌∙◌}
-use native.Mathlib.Omega.{arith}
-use borrow.Author.Rules.{rules}
-use Rattle.dumping.proofs.Runs.{Going, going_start, going_next, going_end}
+use Rattle.dumping.proofs.Runs.{Going}
 use Rattle.dumping.proofs.running.run_structure.Given as goal
 
 abbrev pub invariant-loop-left : goal.invariant-loop-left

@@ -1,5 +1,4 @@
 -- `running::section_at` meets its contract.
-use borrow.Author.Rules.{rules}
 use Rattle.dumping.proofs.running.section_at.Goals as goal
 
 pub returns : goal.returns

@@ -1,5 +1,4 @@
 -- `running::status_flags` meets its contract.
-use borrow.Author.Rules.{rules}
 use Rattle.dumping.proofs.running.status_flags.Goals as goal
 
 pub returns-then-failed : goal.returns-then-failed

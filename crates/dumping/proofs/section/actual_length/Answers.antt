@@ -1,5 +1,4 @@
 -- `section::actual_length` meets its contract.
-use borrow.Author.Rules.{rules}
 use Rattle.dumping.specs.Section.{actual_length}
 use Rattle.dumping.proofs.Claims.{section_claims}
 use Rattle.dumping.proofs.section.actual_length.Goals as goal

@@ -2,7 +2,6 @@
 use Prim.Native.Nat.{◌≤◌}
 use native.Mathlib.Omega.{arith}
 use lib.Dec.{leb, ltb}
-use borrow.Author.Rules.{rules}
 use Rattle.dumping.specs.Section.{error_flags}
 use Rattle.dumping.proofs.Flags.{flag_most}
 use Rattle.dumping.proofs.Claims.{section_claims}

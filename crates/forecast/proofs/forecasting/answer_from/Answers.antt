@@ -2,8 +2,6 @@
 use mathlib.Core.Path.{◌≡◌, sym, ◌∙◌}
 use Prim.Native.Nat.{◌+◌}
 use native.Mathlib.Omega.{arith}
-use borrow.Author.Rules.{rules}
-use borrow.Author.Tests.{not-true, not-false}
 use Rattle.node_area.specs.State.{total}
 use Rattle.forecast.specs.Forecast.{answer_from}
 use Rattle.forecast.proofs.Told.{run_few, answered, told_outside, told_inside}

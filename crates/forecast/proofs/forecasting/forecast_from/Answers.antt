@@ -1,5 +1,4 @@
 -- `forecasting::forecast_from` meets its contract.
-use borrow.Author.Rules.{rules}
 use borrow.Author.Tests.{le-leb, lt-leb, eq-eqb, ne_eqb}
 use Rattle.journal.specs.Scope.{negative}
 use Rattle.forecast.specs.Forecast.{forecast_of}

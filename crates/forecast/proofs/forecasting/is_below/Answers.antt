@@ -1,7 +1,6 @@
 -- `forecasting::is_below` meets its contract.
 use mathlib.Core.Path.{sym}
 use native.Mathlib.Omega.{arith}
-use borrow.Author.Rules.{rules}
 use borrow.Author.Tests.{lt-ltb}
 use Rattle.forecast.proofs.Told.{below_rest}
 use Rattle.forecast.proofs.forecasting.is_below.Goals as goal

@@ -1,5 +1,4 @@
 -- `forecasting::is_within` meets its contract.
-use borrow.Author.Rules.{rules}
 use borrow.Author.Tests.{eq-eqb, ne_eqb}
 use Rattle.forecast.proofs.forecasting.is_within.Goals as goal
 

@@ -2,8 +2,6 @@
 use mathlib.Core.Path.{sym, ◌∙◌}
 use Prim.Native.Nat.{◌≤◌}
 use native.Mathlib.Omega.{arith}
-use borrow.Author.Rules.{rules}
-use borrow.Author.Tests.{not-true, not-false}
 use Rattle.calls.specs.GetIndices.{number_in}
 use Rattle.index_calls.proofs.Lists.{due_is, among_is, left_misnumbered, Ran, ran_few, left_unfit, left_again, left_done}
 use Rattle.index_calls.proofs.getting.answer_counted.Goals as goal

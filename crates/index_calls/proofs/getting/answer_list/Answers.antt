@@ -1,5 +1,4 @@
 -- `getting::answer_list` meets its contract.
-use borrow.Author.Rules.{rules}
 use Rattle.index_calls.proofs.Lists.{left_malformed}
 use Rattle.index_calls.proofs.getting.answer_list.Goals as goal
 

@@ -2,10 +2,6 @@
 use mathlib.Core.Bool.{true}
 use mathlib.Core.Path.{◌≡◌, refl, sym, ◌∙◌}
 use borrow.Author.Rules.{rules}
-use borrow.Author.Tests.{not-true, not-false}
-use Rattle.inventory.specs.declared.edition.Edition.{Edition}
-use Rattle.calls.specs.declared.request.Request.{Request}
-use Rattle.calls.specs.declared.reading_record.ReadingRecord.{ReadingRecord}
 use Rattle.calls.specs.declared.status.Status.TheVariants.{Parameter, Changed}
 use Rattle.calls.specs.ReadingRecord.{is_named, is_current}
 use Rattle.calls.specs.GetIndices.{askable, lendable, reading_status, indices_status}

@@ -1,5 +1,4 @@
 -- `getting::is_lendable` meets its contract.
-use borrow.Author.Rules.{rules}
 use borrow.Author.Tests.{le-leb, lt-leb}
 use Rattle.calls.specs.GetIndices.{lendable}
 use Rattle.index_calls.proofs.getting.is_lendable.Goals as goal

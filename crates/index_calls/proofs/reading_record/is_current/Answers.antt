@@ -1,5 +1,4 @@
 -- `reading_record::is_current` meets its contract.
-use borrow.Author.Rules.{rules}
 use Rattle.calls.specs.ReadingRecord.{begins, is_current}
 use Rattle.index_calls.proofs.reading_record.is_current.Goals as goal
 

@@ -1,5 +1,4 @@
 -- `reading_record::is_named` meets its contract.
-use borrow.Author.Rules.{rules}
 use borrow.Author.Tests.{eq-eqb, ne_eqb}
 use Rattle.calls.specs.ReadingRecord.{begins, is_named}
 use Rattle.index_calls.proofs.reading_record.is_named.Goals as goal

@@ -1,5 +1,4 @@
 -- `reading_record::no_reading` meets its contract.
-use borrow.Author.Rules.{rules}
 use Rattle.index_calls.proofs.reading_record.no_reading.Goals as goal
 
 pub returns : goal.returns

@@ -4,8 +4,7 @@ use mathlib.Core.Bool.{true, false}
 use Prim.Native.Nat.{◌+◌, ◌-◌}
 use lib.Dec.{ltb}
 use lib.ListN.{length}
-use borrow.Author.Tests.{lt-ltb, le-ltb, not-false}
-use borrow.Author.Rules.{rules}
+use borrow.Author.Tests.{lt-ltb, le-ltb}
 use Rattle.indices.proofs.IndexLaws.{field_part}
 use Rattle.indices.specs.Reading.{length_at, field_at, good_length, good_field, fault_at}
 use Rattle.indices.proofs.reading.fault_of.Goals as goal

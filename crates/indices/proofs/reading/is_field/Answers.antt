@@ -1,7 +1,6 @@
 -- `reading::is_field` meets its contract.
 use mathlib.Core.Path.{◌∙◌}
 use native.Mathlib.Omega.{arith}
-use borrow.Author.Rules.{rules}
 use Rattle.indices.proofs.IndexLaws.{field_empty, field_open, field_long, field_zeros}
 use Rattle.indices.proofs.reading.is_field.Goals as goal
 

@@ -1,6 +1,5 @@
 -- `writing::filled_size` meets its contract.
 use native.Mathlib.Omega.{arith}
-use borrow.Author.Rules.{rules}
 use Rattle.inventory.proofs.Codes.{code_in_word}
 use Rattle.indices.proofs.writing.filled_size.Goals as goal
 

@@ -1,7 +1,6 @@
 -- `writing::store_entry` meets its contract.
 use mathlib.Core.Path.{◌∙◌}
 use native.Mathlib.Omega.{arith}
-use borrow.Author.Rules.{rules}
 use Rattle.inventory.specs.Inner.Located.{entry_in}
 use Rattle.inventory.proofs.Codes.{code_in_word}
 use Rattle.inventory.proofs.LocatedLaws.{code_sized}

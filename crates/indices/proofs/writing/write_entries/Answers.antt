@@ -1,15 +1,12 @@
 use mathlib.Core.Path.{ap}
-use Prim.Native.Nat.{ℕ, ◌+◌, ◌-◌, ◌≤◌}
+use Prim.Native.Nat.{ℕ, ◌+◌, ◌≤◌}
 use native.Mathlib.Omega.{arith}
 use lib.ListN.{length}
-use borrow.Author.Rules.{rules}
 use Rattle.inventory.specs.Inventory.{code_limit}
-use Rattle.inventory.specs.Claims.Scanning.{ahead}
 use Rattle.inventory.proofs.Codes.{code_in_word}
 use Rattle.inventory.proofs.LocatedLaws.{located_inside, located_few}
 use Rattle.inventory.proofs.Search.{NextMatch, next_match}
-use Rattle.indices.specs.Area.{fitting}
-use Rattle.indices.proofs.Writes.{Writing, writing_start, writing_full, writing_next, writing_end}
+use Rattle.indices.proofs.Writes.{writing_start, writing_full, writing_next, writing_end}
 use Rattle.indices.proofs.writing.write_entries.Goals as goal
 
 pub loop-handed-init : goal.loop-handed-init

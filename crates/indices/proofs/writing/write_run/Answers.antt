@@ -1,6 +1,5 @@
 -- `writing::write_run` meets its contract.
 use native.Mathlib.Omega.{arith}
-use borrow.Author.Rules.{rules}
 use Rattle.indices.proofs.Bounds.{entries_bounded}
 use Rattle.indices.proofs.Longest.{longest_run}
 use Rattle.indices.proofs.OtherCodes.{writer_agrees}

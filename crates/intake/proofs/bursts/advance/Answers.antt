@@ -1,5 +1,4 @@
 -- `bursts::advance` meets its contract.
-use borrow.Author.Rules.{rules}
 use native.Mathlib.Omega.{arith}
 use Rattle.intake.proofs.Sweeps.{advance_takeable, advance_all, advance_one}
 use Rattle.intake.proofs.bursts.advance.Goals as goal

@@ -1,5 +1,4 @@
 -- `bursts::burst` meets its contract.
-use borrow.Author.Rules.{rules}
 use Rattle.tallies.proofs.Claims.{tally_claims}
 use Rattle.intake.proofs.Claims.{intake_claims}
 use Rattle.intake.proofs.Sweeps.{burst_all}

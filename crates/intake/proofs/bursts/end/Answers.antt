@@ -1,5 +1,4 @@
 -- `bursts::end` meets its contract.
-use borrow.Author.Rules.{rules}
 use Rattle.intake.proofs.Standings.{end_is, end_nothing, end_unfinished}
 use Rattle.tallies.proofs.Claims.{tally_claims}
 use Rattle.intake.proofs.Claims.{intake_claims}

@@ -1,6 +1,5 @@
 -- `bursts::finish` meets its contract.
 use mathlib.Core.Path.{sym}
-use borrow.Author.Rules.{rules}
 use lib.Seq.{length-take-le}
 use Rattle.records.proofs.Holding.{Gathered}
 use Rattle.intake.specs.Taking.{good_front}

@@ -1,12 +1,8 @@
 use mathlib.Core.Path.{sym, ◌∙◌}
-use Prim.Native.Nat.{◌-◌}
-use borrow.Author.Rules.{rules}
-use borrow.Author.Tests.{not-true, not-false}
-use lib.ListN.{length}
 use native.Mathlib.Omega.{arith}
 use Rattle.records.proofs.Behind.{ripe_is}
 use Rattle.intake.specs.Taking.{good_front}
-use Rattle.intake.proofs.Standings.{Passing, pass_starts, pass_over, pass_held, pass_on}
+use Rattle.intake.proofs.Standings.{pass_starts, pass_over, pass_held, pass_on}
 use Rattle.intake.proofs.bursts.pass.Goals as goal
 
 pub loop-place-init : goal.loop-place-init

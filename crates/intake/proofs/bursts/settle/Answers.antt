@@ -1,5 +1,4 @@
 -- `bursts::settle` meets its contract.
-use borrow.Author.Rules.{rules}
 use native.Mathlib.Omega.{arith}
 use Rattle.intake.proofs.Standings.{settle_still, settle_past}
 use Rattle.intake.proofs.bursts.settle.Goals as goal

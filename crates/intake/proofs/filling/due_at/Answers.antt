@@ -1,6 +1,5 @@
 -- `filling::due_at` meets its contract.
 use mathlib.Core.Path.{◌∙◌, ap}
-use borrow.Author.Rules.{rules}
 use Rattle.records.specs.declared.framing.Frame.{Frame}
 use Rattle.intake.specs.Inner.Terms.{due_by}
 use Rattle.intake.proofs.Fronts.{due_frame}

@@ -1,6 +1,5 @@
 -- `filling::due_by` meets its contract.
 use mathlib.Core.Path.{sym, ◌∙◌}
-use borrow.Author.Rules.{rules}
 use Rattle.intake.proofs.Fronts.{due_good, due_bad}
 use Rattle.intake.proofs.filling.due_by.Goals as goal
 

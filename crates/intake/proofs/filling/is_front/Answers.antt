@@ -1,7 +1,6 @@
 -- `filling::is_front` meets its contract.
 use mathlib.Core.Path.{◌∙◌}
 use native.Mathlib.Omega.{arith}
-use borrow.Author.Rules.{rules}
 use borrow.Author.Tests.{ne_eqb}
 use Rattle.intake.proofs.Fronts.{front_zero, front_node, front_short, front_changed, front_gone, front_above}
 use Rattle.intake.proofs.filling.is_front.Goals as goal

@@ -1,7 +1,6 @@
 -- `states::is_ready` meets its contract.
 use mathlib.Core.Path.{sym, ◌∙◌}
-use borrow.Author.Rules.{rules}
-use borrow.Author.Tests.{le-leb, lt-leb, not-true, not-false}
+use borrow.Author.Tests.{le-leb, lt-leb}
 use Rattle.intake.specs.States.{ready_for}
 use Rattle.intake.proofs.Taken.{ready_exactly}
 use Rattle.intake.proofs.states.is_ready.Goals as goal

@@ -1,7 +1,6 @@
 -- `sweeping::begin_stretch` meets its contract.
 use mathlib.Core.Path.{refl, sym}
 use native.Mathlib.Omega.{arith}
-use borrow.Author.Rules.{rules}
 use lib.Seq.{length-take-le}
 use Rattle.intake.proofs.Completing.{completed_far}
 use Rattle.intake.proofs.Covering.{Stored, begins_none, judged_inside, begins_not, begun_known, begun_size, begins}

@@ -1,6 +1,5 @@
 -- `sweeping::can_sweep` meets its contract.
 use native.Mathlib.Omega.{arith}
-use borrow.Author.Rules.{rules}
 use borrow.Author.Tests.{eq-eqb, ne_eqb, lt-ltb}
 use Rattle.intake.proofs.sweeping.can_sweep.Goals as goal
 

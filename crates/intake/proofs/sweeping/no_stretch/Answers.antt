@@ -1,5 +1,4 @@
 -- `sweeping::no_stretch` meets its contract.
-use borrow.Author.Rules.{rules}
 use Rattle.intake.proofs.sweeping.no_stretch.Goals as goal
 
 pub returns : goal.returns

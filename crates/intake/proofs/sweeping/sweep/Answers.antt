@@ -1,9 +1,6 @@
 -- `sweeping::sweep` meets its contract.
 use mathlib.Core.Path.{◌≡◌, refl, sym, ◌∙◌}
 use mathlib.Core.Bool.{true}
-use borrow.Author.Rules.{rules}
-use borrow.Author.Tests.{not-true, not-false}
-use lib.Seq.{length-take-le}
 use native.Mathlib.Omega.{arith}
 use Rattle.tallies.specs.Keeping.{is_done}
 use Rattle.intake.proofs.Completing.{completed_far}

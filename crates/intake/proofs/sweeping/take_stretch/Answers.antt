@@ -1,7 +1,6 @@
 -- `sweeping::take_stretch` meets its contract.
 use mathlib.Core.Path.{sym}
 use native.Mathlib.Omega.{arith}
-use borrow.Author.Rules.{rules}
 use lib.Seq.{length-take-le}
 use Rattle.intake.specs.Inner.Terms.{Takeable}
 use Rattle.intake.proofs.Covering.{room_behind_lem, counts_extend, cut_light, takeable_on, stretch_taken}

@@ -1,8 +1,6 @@
 -- `taking::take` meets its contract.
 use mathlib.Core.Path.{sym, ap, ◌∙◌}
 use mathlib.Core.Bool.{not}
-use borrow.Author.Rules.{rules}
-use borrow.Author.Tests.{not-false}
 use Rattle.intake.proofs.Steps.{sticky, step_done, step_refused}
 use Rattle.intake.proofs.taking.take.Goals as goal
 

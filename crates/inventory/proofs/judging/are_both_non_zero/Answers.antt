@@ -3,7 +3,6 @@ use mathlib.Core.Path.{◌≡◌, sym, ◌∙◌}
 use mathlib.Core.Bool.{◌&&◌}
 use lib.Seq.{slice}
 use borrow.Author.Rules.{rules}
-use borrow.Author.Tests.{not-true, not-false}
 use Rattle.inventory.specs.Inventory.{all_non_zero}
 use Rattle.inventory.proofs.Codes.{non_zero_parts}
 use Rattle.inventory.proofs.judging.are_both_non_zero.Goals as goal

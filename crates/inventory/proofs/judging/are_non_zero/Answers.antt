@@ -1,11 +1,7 @@
-use mathlib.Core.Path.{◌≡◌, refl, sym, ◌∙◌}
-use mathlib.Core.Bool.{◌&&◌, and-true}
-use Prim.Native.Nat.{ℕ, ◌+◌, ◌-◌, ◌≤◌}
+use mathlib.Core.Path.{refl, sym, ◌∙◌}
+use mathlib.Core.Bool.{and-true}
 use native.Mathlib.Omega.{arith}
-use lib.Dec.{ltb}
-use lib.Seq.{slice}
 use borrow.Author.Rules.{rules}
-use Rattle.inventory.specs.Inventory.{all_non_zero}
 use Rattle.inventory.proofs.Codes.{least_next, non_zero_end}
 use Rattle.inventory.proofs.judging.are_non_zero.Goals as goal
 

@@ -1,13 +1,10 @@
 -- `judging::are_non_zero` meets its contract.
-use mathlib.Core.Path.{◌≡◌, refl, sym, ◌∙◌}
-use mathlib.Core.Bool.{◌&&◌, and-true}
-use Prim.Native.Nat.{ℕ, ◌+◌, ◌-◌, ◌≤◌}
-use native.Mathlib.Omega.{arith}
+use mathlib.Core.Path.{◌≡◌}
+use mathlib.Core.Bool.{◌&&◌}
+use Prim.Native.Nat.{◌-◌, ◌≤◌}
 use lib.Dec.{ltb}
 use lib.Seq.{slice}
-use borrow.Author.Rules.{rules}
 use Rattle.inventory.specs.Inventory.{all_non_zero}
-use Rattle.inventory.proofs.Codes.{least_next, non_zero_end}
 use Rattle.inventory.proofs.judging.are_non_zero.Given as goal
 
 abbrev pub invariant-loop-i : goal.invariant-loop-i

@@ -1,6 +1,5 @@
 -- `judging::has_type` meets its contract.
 use native.Mathlib.Omega.{arith}
-use borrow.Author.Rules.{rules}
 use borrow.Author.Tests.{eq-eqb, ne_eqb}
 use Rattle.inventory.proofs.RecordLaws.{matches_at}
 use Rattle.inventory.proofs.judging.has_type.Goals as goal

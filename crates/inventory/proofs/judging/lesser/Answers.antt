@@ -1,6 +1,4 @@
 -- `judging::lesser` meets its contract.
-use mathlib.Core.Path.{◌≡◌}
-use native.Mathlib.Omega.{arith}
 use borrow.Author.Tests.{lt-ltb, le-ltb}
 use Rattle.inventory.proofs.judging.lesser.Goals as goal
 

@@ -3,7 +3,6 @@ use mathlib.Core.Path.{◌≡◌, ap, ◌∙◌}
 use Prim.Native.Nat.{◌+◌}
 use native.Mathlib.Omega.{arith}
 use lib.ListN.{drop}
-use borrow.Author.Rules.{rules}
 use Rattle.records.specs.Records.{size_of}
 use Rattle.records.specs.declared.framing.Frame.{Frame}
 use Rattle.inventory.proofs.LocatedLaws.{located_read}

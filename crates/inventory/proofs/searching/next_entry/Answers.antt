@@ -1,13 +1,11 @@
 use mathlib.Core.Path.{◌≡◌, sym, ap, ◌∙◌}
-use Prim.Native.Nat.{◌+◌, ◌-◌}
+use Prim.Native.Nat.{◌+◌}
 use native.Mathlib.Omega.{arith}
-use lib.ListN.{length, drop}
-use borrow.Author.Rules.{rules}
-use borrow.Author.Tests.{not-true, not-false}
+use lib.ListN.{drop}
 use Rattle.records.specs.Records.{size_of}
 use Rattle.records.specs.declared.framing.Frame.{Frame}
 use Rattle.inventory.proofs.OtherCodes.{search_agrees, search_witness, others_unjudged}
-use Rattle.inventory.proofs.Search.{Sought, sought_start, record_sought, sought_step, sought_place}
+use Rattle.inventory.proofs.Search.{sought_start, record_sought, sought_step, sought_place}
 use Rattle.inventory.proofs.searching.next_entry.Goals as goal
 
 pub loop-at-init : goal.loop-at-init

@@ -1,5 +1,4 @@
 -- `judging::length_of` meets its contract.
-use borrow.Author.Rules.{rules}
 use Rattle.journal.proofs.RecordLaws.{length_is}
 use Rattle.journal.proofs.judging.length_of.Goals as goal
 

@@ -1,6 +1,5 @@
 -- `judging::node_size` meets its contract.
 use mathlib.Core.Path.{ap}
-use borrow.Author.Rules.{rules}
 use Rattle.journal.specs.declared.judging.Shape.{Shape}
 use Rattle.journal.proofs.RecordLaws.{given_bad, given_good}
 use Rattle.journal.proofs.judging.node_size.Goals as goal

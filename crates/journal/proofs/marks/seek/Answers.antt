@@ -1,8 +1,6 @@
-use mathlib.Core.Path.{◌≡◌, refl, sym, ◌∙◌}
-use Prim.Native.Nat.{◌≤◌}
+use mathlib.Core.Path.{refl, sym, ◌∙◌}
 use borrow.Author.Rules.{rules}
 use Rattle.journal.proofs.MarkLaws.{sought_here, sought_earlier, sought_start}
-use Rattle.journal.specs.Inner.Terms.{sought}
 use Rattle.journal.proofs.marks.seek.Goals as goal
 
 pub loop-n-init : goal.loop-n-init

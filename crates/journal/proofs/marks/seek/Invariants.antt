@@ -1,8 +1,6 @@
 -- `marks::seek` meets its contract.
-use mathlib.Core.Path.{◌≡◌, refl, sym, ◌∙◌}
+use mathlib.Core.Path.{◌≡◌}
 use Prim.Native.Nat.{◌≤◌}
-use borrow.Author.Rules.{rules}
-use Rattle.journal.proofs.MarkLaws.{sought_here, sought_earlier, sought_start}
 use Rattle.journal.specs.Inner.Terms.{sought}
 use Rattle.journal.proofs.marks.seek.Given as goal
 

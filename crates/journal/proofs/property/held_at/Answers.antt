@@ -3,8 +3,6 @@ use mathlib.Core.Path.{refl}
 use Prim.Native.Nat.{◌+◌, ◌≤◌}
 use native.Mathlib.Omega.{arith}
 use lib.ListN.{length}
-use borrow.Author.Rules.{rules}
-use borrow.Author.Tests.{not-true, not-false}
 use Rattle.journal.proofs.PropertyLaws.{NameFound, held_short, held_frame, held_fits, held_name, held_some}
 use Rattle.journal.proofs.property.held_at.Goals as goal
 

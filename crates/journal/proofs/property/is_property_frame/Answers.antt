@@ -4,7 +4,6 @@ use mathlib.Core.Bool.{◌&&◌, and-false}
 use Prim.Native.Nat.{ℕ, ◌+◌, ◌≤◌}
 use native.Mathlib.Omega.{arith}
 use lib.Dec.{leb}
-use borrow.Author.Rules.{rules}
 use borrow.Author.Tests.{le-leb, lt-leb, leb-true, leb-false}
 use Rattle.words.proofs.Choice.{decide}
 use Rattle.journal.specs.Property.{value_most, property_frame}

@@ -3,7 +3,6 @@ use mathlib.Core.Path.{◌≡◌, ap, ◌∙◌}
 use Prim.Native.Nat.{◌+◌, ◌-◌, ◌≤◌}
 use native.Mathlib.Omega.{arith}
 use lib.ListN.{length, drop}
-use borrow.Author.Rules.{rules}
 use Rattle.records.specs.Records.{length_of, size_of, first_record}
 use Rattle.records.specs.declared.framing.Frame.{Frame}
 use Rattle.journal.specs.Property.{name_of}

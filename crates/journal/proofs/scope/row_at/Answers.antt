@@ -1,6 +1,5 @@
 -- `scope::row_at` meets its contract.
 use mathlib.Core.Path.{refl}
-use borrow.Author.Rules.{rules}
 use Rattle.journal.specs.Scope.{rows}
 use Rattle.journal.proofs.scope.row_at.Goals as goal
 

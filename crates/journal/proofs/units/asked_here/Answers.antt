@@ -4,7 +4,6 @@ use mathlib.Core.Bool.{cond}
 use Prim.Native.Nat.{◌+◌, ◌*◌, ◌/◌, ◌≤◌}
 use native.Mathlib.Omega.{arith}
 use lib.ListN.{length}
-use borrow.Author.Rules.{rules}
 use Rattle.words.specs.Numbers.{le}
 use Rattle.records.proofs.Choosing.{one_if_le}
 use Rattle.journal.specs.Inner.Terms.{is_unit}

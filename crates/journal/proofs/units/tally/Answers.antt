@@ -1,5 +1,4 @@
 -- `units::tally` meets its contract.
-use borrow.Author.Rules.{rules}
 use Rattle.journal.proofs.units.tally.Goals as goal
 
 pub returns-in-All : goal.returns-in-All

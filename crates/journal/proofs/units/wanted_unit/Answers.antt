@@ -1,5 +1,4 @@
 -- `units::wanted_unit` meets its contract.
-use borrow.Author.Rules.{rules}
 use Rattle.journal.proofs.units.wanted_unit.Goals as goal
 
 pub returns-in-All : goal.returns-in-All

@@ -1,6 +1,5 @@
 -- `walking::reported` meets its contract.
 use mathlib.Core.Path.{◌∙◌}
-use borrow.Author.Rules.{rules}
 use borrow.Author.Tests.{eq-eqb, ne_eqb}
 use Rattle.journal.proofs.walking.reported.Goals as goal
 

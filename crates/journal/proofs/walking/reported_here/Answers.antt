@@ -5,7 +5,6 @@ use Prim.Native.Nat.{ℕ, ◌+◌, ◌/◌, ◌≤◌}
 use native.Mathlib.Omega.{arith}
 use lib.Dec.{eqb}
 use lib.ListN.{get_or, drop}
-use borrow.Author.Rules.{rules}
 use Rattle.words.specs.Numbers.{le}
 use Rattle.records.specs.Records.{kind_of, first_record}
 use Rattle.records.proofs.Choosing.{one_if_le}

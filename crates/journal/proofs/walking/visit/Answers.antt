@@ -4,7 +4,6 @@ use mathlib.Core.Bool.{true}
 use Prim.Native.Nat.{◌+◌, ◌≤◌}
 use native.Mathlib.Omega.{arith}
 use lib.ListN.{length}
-use borrow.Author.Rules.{rules}
 use Rattle.records.specs.declared.framing.Frame.{Frame}
 use Rattle.journal.specs.Scope.{asking}
 use Rattle.journal.specs.Holding.{good_here}

@@ -1,6 +1,6 @@
 use borrow.Author.Rules.{rules}
 use borrow.Author.Tests.{ltb-false}
-use Rattle.locations.proofs.NulLaws.{nul_inside, Seeks, seeks_next, seeks_none, seeks_end}
+use Rattle.locations.proofs.NulLaws.{nul_inside, seeks_next, seeks_none, seeks_end}
 use Rattle.locations.proofs.fixed.entry_start.Goals as goal
 
 pub loop-left-init : goal.loop-left-init

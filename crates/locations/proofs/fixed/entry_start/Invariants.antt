@@ -1,7 +1,5 @@
 -- `fixed::entry_start` meets its contract.
-use borrow.Author.Rules.{rules}
-use borrow.Author.Tests.{ltb-false}
-use Rattle.locations.proofs.NulLaws.{nul_inside, Seeks, seeks_next, seeks_none, seeks_end}
+use Rattle.locations.proofs.NulLaws.{Seeks}
 use Rattle.locations.proofs.fixed.entry_start.Given as goal
 
 abbrev pub invariant-loop-left : goal.invariant-loop-left

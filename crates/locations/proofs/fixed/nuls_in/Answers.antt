@@ -1,14 +1,13 @@
 use mathlib.Core.Path.{◌≡◌, refl}
 use mathlib.Core.Bool.{cond}
 use mathlib.Core.Logic.{⊎_elim}
-use Prim.Native.Nat.{◌+◌, ◌-◌, ◌≤◌}
+use Prim.Native.Nat.{◌+◌, ◌≤◌}
 use native.Mathlib.Nat.{add-zero, zero-add, add_assoc}
 use native.Mathlib.Omega.{arith}
 use lib.Dec.{eqb}
 use lib.ListN.{get_or}
-use borrow.Author.Rules.{rules}
 use borrow.Author.Tests.{eq-eqb, ne_eqb}
-use Rattle.locations.proofs.NulLaws.{Counts, counts_next, counts_end}
+use Rattle.locations.proofs.NulLaws.{counts_next, counts_end}
 use Rattle.locations.proofs.fixed.nuls_in.Goals as goal
 
 pub loop-i-init : goal.loop-i-init

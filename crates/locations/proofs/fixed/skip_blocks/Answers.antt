@@ -1,9 +1,6 @@
 use mathlib.Core.Path.{refl}
-use Prim.Native.Nat.{◌-◌}
 use native.Mathlib.Omega.{arith}
-use lib.ListN.{length}
-use borrow.Author.Rules.{rules}
-use Rattle.locations.proofs.NulLaws.{Seeks, seeks_block}
+use Rattle.locations.proofs.NulLaws.{seeks_block}
 use Rattle.locations.proofs.fixed.skip_blocks.Goals as goal
 
 pub loop-at-init : goal.loop-at-init

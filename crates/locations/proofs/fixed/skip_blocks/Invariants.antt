@@ -1,10 +1,7 @@
 -- `fixed::skip_blocks` meets its contract.
-use mathlib.Core.Path.{refl}
 use Prim.Native.Nat.{◌-◌}
-use native.Mathlib.Omega.{arith}
 use lib.ListN.{length}
-use borrow.Author.Rules.{rules}
-use Rattle.locations.proofs.NulLaws.{Seeks, seeks_block}
+use Rattle.locations.proofs.NulLaws.{Seeks}
 use Rattle.locations.proofs.fixed.skip_blocks.Given as goal
 
 abbrev pub invariant-loop-at : goal.invariant-loop-at

@@ -1,5 +1,5 @@
 use mathlib.Core.Path.{◌≡◌, sym, ap, ◌∙◌}
-use Prim.Native.Nat.{ℕ, ◌-◌}
+use Prim.Native.Nat.{ℕ}
 use lib.Dec.{eqb}
 use borrow.Author.Rules.{rules}
 use borrow.Author.Tests.{lt-ltb}
@@ -7,7 +7,7 @@ use Rattle.indices.specs.declared.reading.Fault.TheVariants.{Bad}
 use Rattle.indices.specs.declared.reading.Refusal.TheVariants.{Past}
 use Rattle.indices.specs.Reading.{length_at, fault_at, reading}
 use Rattle.locations.specs.Inner.Terms.{listing_of}
-use Rattle.locations.proofs.Listings.{Sought, sought_first, sought_end, sought_bad, sought_fine}
+use Rattle.locations.proofs.Listings.{sought_first, sought_end, sought_bad, sought_fine}
 use Rattle.locations.proofs.listed.find_listed.Goals as goal
 
 pub returns-then-area-lt4 : goal.returns-then-area-lt4

@@ -1,6 +1,5 @@
 -- `lookups::check` meets its contract.
 use mathlib.Core.Path.{ap, sym, ◌∙◌}
-use borrow.Author.Rules.{rules}
 use Rattle.locations.specs.Locations.{answer_of}
 use Rattle.locations.proofs.LookupClaims.{location_claims}
 use Rattle.locations.proofs.lookups.check.Goals as goal

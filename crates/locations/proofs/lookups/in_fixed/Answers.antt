@@ -1,5 +1,4 @@
 -- `lookups::in_fixed` meets its contract.
-use borrow.Author.Rules.{rules}
 use borrow.Author.Tests.{eq-eqb, ne_eqb}
 use Rattle.locations.specs.Locations.{fixed_location}
 use Rattle.locations.proofs.lookups.in_fixed.Goals as goal

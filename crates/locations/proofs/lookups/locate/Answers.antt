@@ -1,6 +1,5 @@
 -- `lookups::locate` meets its contract.
 use mathlib.Core.Path.{ap, sym, ◌∙◌}
-use borrow.Author.Rules.{rules}
 use Rattle.locations.specs.declared.listed.Part.{Part}
 use Rattle.locations.specs.declared.lookups.Location.TheVariants as location
 use Rattle.locations.proofs.Listings.{located_refused, located_reserved, located_fixed, located_area, first_good}

@@ -1,7 +1,6 @@
 -- `views::advance_at` meets its contract.
 use mathlib.Core.Path.{sym, ◌∙◌}
 use native.Mathlib.Omega.{arith}
-use borrow.Author.Rules.{rules}
 use Rattle.locations.proofs.Stepping.{advance_short, advance_end, advance_set}
 use Rattle.locations.proofs.ViewClaims.{view_claims}
 use Rattle.locations.proofs.views.advance_at.Goals as goal

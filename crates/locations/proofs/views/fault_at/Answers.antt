@@ -1,6 +1,5 @@
 -- `views::fault_at` meets its contract.
 use native.Mathlib.Omega.{arith}
-use borrow.Author.Rules.{rules}
 use Rattle.indices.specs.Reading.{length_at}
 use Rattle.locations.proofs.Stepping.{fault_past}
 use Rattle.locations.proofs.views.fault_at.Goals as goal

@@ -1,6 +1,5 @@
 use native.Mathlib.Omega.{arith}
-use borrow.Author.Rules.{rules}
-use Rattle.moving.proofs.Pieces.{Back, back_start, back_next, back_end}
+use Rattle.moving.proofs.Pieces.{back_start, back_next, back_end}
 use Rattle.moving.proofs.moving.move_backward.Goals as goal
 
 pub loop-left-init : goal.loop-left-init

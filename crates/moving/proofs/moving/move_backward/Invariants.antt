@@ -1,7 +1,5 @@
 -- `moving::move_backward` meets its contract.
-use native.Mathlib.Omega.{arith}
-use borrow.Author.Rules.{rules}
-use Rattle.moving.proofs.Pieces.{Back, back_start, back_next, back_end}
+use Rattle.moving.proofs.Pieces.{Back}
 use Rattle.moving.proofs.moving.move_backward.Given as goal
 
 abbrev pub invariant-loop-left : goal.invariant-loop-left

@@ -1,7 +1,5 @@
-use Prim.Native.Nat.{◌-◌}
 use native.Mathlib.Omega.{arith}
-use borrow.Author.Rules.{rules}
-use Rattle.moving.proofs.Pieces.{Front, front_start, front_next, front_end}
+use Rattle.moving.proofs.Pieces.{front_start, front_next, front_end}
 use Rattle.moving.proofs.moving.move_forward.Goals as goal
 
 pub loop-done-init : goal.loop-done-init

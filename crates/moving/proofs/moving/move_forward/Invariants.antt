@@ -1,8 +1,6 @@
 -- `moving::move_forward` meets its contract.
 use Prim.Native.Nat.{◌-◌}
-use native.Mathlib.Omega.{arith}
-use borrow.Author.Rules.{rules}
-use Rattle.moving.proofs.Pieces.{Front, front_start, front_next, front_end}
+use Rattle.moving.proofs.Pieces.{Front}
 use Rattle.moving.proofs.moving.move_forward.Given as goal
 
 abbrev pub invariant-loop-done : goal.invariant-loop-done

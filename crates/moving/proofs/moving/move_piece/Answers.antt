@@ -1,6 +1,5 @@
 -- `moving::move_piece` meets its contract.
 use native.Mathlib.Omega.{arith}
-use borrow.Author.Rules.{rules}
 use Rattle.moving.proofs.Pieces.{piece_moved}
 use Rattle.moving.proofs.moving.move_piece.Goals as goal
 

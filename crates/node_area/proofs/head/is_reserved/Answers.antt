@@ -2,7 +2,6 @@
 use Prim.Native.Nat.{ℕ, ◌≤◌}
 use native.Mathlib.Omega.{arith}
 use lib.Dec.{eqb}
-use borrow.Author.Rules.{rules}
 use Rattle.words.proofs.Choice.{choose}
 use Rattle.node_area.specs.Head.{head_size, reserved_from, is_reserved}
 use Rattle.node_area.proofs.head.is_reserved.Goals as goal

@@ -1,7 +1,6 @@
 -- `head::write_head` meets its contract.
 use mathlib.Core.List.{[], ◌∷◌}
 use mathlib.Core.Path.{refl}
-use borrow.Author.Rules.{rules}
 use Prim.Native.Nat.{◌/◌, ◌%◌}
 use Rattle.node_area.specs.Head.{address_of}
 use Rattle.words.proofs.Stores.{store_next}

@@ -1,5 +1,4 @@
 -- `reading::check_area` meets its contract.
-use borrow.Author.Rules.{rules}
 use borrow.Author.Tests.{eq-eqb, ne_eqb}
 use Rattle.node_area.specs.Head.{area_size}
 use Rattle.node_area.specs.Reading.{reading}

@@ -1,11 +1,7 @@
 -- `reading::check_operators` meets its contract.
-use mathlib.Core.Path.{sym, ◌∙◌}
-use Prim.Native.Nat.{◌+◌, ◌-◌, ◌*◌}
-use native.Mathlib.Omega.{arith}
-use borrow.Author.Rules.{rules}
-use Rattle.node_area.proofs.Verdicts.{Stands, stands_first, stands_out, stands_end, stands_bad, stands_fine}
+use Prim.Native.Nat.{◌-◌}
+use Rattle.node_area.proofs.Verdicts.{Stands}
 use Rattle.node_area.specs.Head.{area_size}
-use Rattle.node_area.specs.Reading.{count_in, last_after}
 use Rattle.node_area.proofs.reading.check_operators.Given as goal
 
 abbrev pub invariant-loop-at : goal.invariant-loop-at

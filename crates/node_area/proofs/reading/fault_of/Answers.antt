@@ -3,7 +3,6 @@ use mathlib.Core.Bool.{true, false, ◌&&◌}
 use mathlib.Core.Path.{◌≡◌, sym, ◌∙◌}
 use Prim.Native.Nat.{◌%◌}
 use lib.Dec.{leb, eqb}
-use borrow.Author.Rules.{rules}
 use borrow.Author.Tests.{lt-leb, le-leb, eq-eqb, ne_eqb, lt-ltb, le-ltb}
 use Rattle.node_area.specs.Reading.{opcode_in, count_in, fault_of}
 use Rattle.node_area.proofs.reading.fault_of.Goals as goal

@@ -1,5 +1,4 @@
 -- `reading::has_word` meets its contract.
-use borrow.Author.Rules.{rules}
 use Rattle.node_area.proofs.reading.has_word.Goals as goal
 
 pub returns : goal.returns

@@ -1,5 +1,4 @@
 -- `reading::last_after` meets its contract.
-use borrow.Author.Rules.{rules}
 use borrow.Author.Tests.{eq-eqb, ne_eqb}
 use Rattle.node_area.specs.Reading.{last_after}
 use Rattle.node_area.proofs.reading.last_after.Goals as goal

@@ -2,7 +2,6 @@
 use Prim.Native.Nat.{◌+◌, ◌≤◌}
 use native.Mathlib.Omega.{arith}
 use lib.ListN.{length}
-use borrow.Author.Rules.{rules}
 use Rattle.node_area.proofs.Steps.{room, no_room, ends_out, ends_half, gives_single, gives_pair}
 use Rattle.node_area.proofs.reading.operation_at.Goals as goal
 

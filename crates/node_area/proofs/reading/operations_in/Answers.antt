@@ -1,5 +1,4 @@
 -- `reading::operations_in` meets its contract.
-use borrow.Author.Rules.{rules}
 use borrow.Author.Tests.{eq-eqb, ne_eqb}
 use Rattle.node_area.proofs.reading.operations_in.Goals as goal
 

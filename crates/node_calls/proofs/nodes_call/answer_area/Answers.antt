@@ -1,6 +1,5 @@
 -- `nodes_call::answer_area` meets its contract.
 use mathlib.Core.Path.{refl}
-use borrow.Author.Rules.{rules}
 use Rattle.journal.specs.Scope.{units_of, asking}
 use Rattle.node_area.specs.Head.{unit_in}
 use Rattle.calls.proofs.Areas.{scanned_malformed, scanned_counted}

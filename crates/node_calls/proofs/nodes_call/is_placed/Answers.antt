@@ -1,5 +1,4 @@
 -- `nodes_call::is_placed` meets its contract.
-use borrow.Author.Rules.{rules}
 use borrow.Author.Tests.{eq-eqb, ne_eqb}
 use Rattle.calls.specs.UpdateNodes.{placed}
 use Rattle.node_calls.proofs.nodes_call.is_placed.Goals as goal

@@ -1,6 +1,5 @@
 -- `nodes_call::units_in` meets its contract.
 use mathlib.Core.Path.{◌∙◌}
-use borrow.Author.Rules.{rules}
 use Rattle.node_calls.proofs.nodes_call.units_in.Goals as goal
 
 pub returns : goal.returns

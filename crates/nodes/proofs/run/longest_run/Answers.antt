@@ -1,5 +1,4 @@
 -- `run::longest_run` meets its contract.
-use borrow.Author.Rules.{rules}
 use Rattle.nodes.specs.Run.{cut}
 use Rattle.nodes.proofs.Cut.{cut_is_longest}
 use Rattle.nodes.proofs.run.longest_run.Goals as goal

@@ -1,6 +1,5 @@
 -- `run::room_after` meets its contract.
 use native.Mathlib.Omega.{arith}
-use borrow.Author.Rules.{rules}
 use Rattle.nodes.proofs.Runs.{operator_zero, operator_pos}
 use Rattle.nodes.proofs.run.room_after.Goals as goal
 

@@ -2,7 +2,6 @@
 use mathlib.Core.List.{[], ◌∷◌}
 use mathlib.Core.Path.{refl, ◌∙◌}
 use native.Mathlib.Omega.{arith}
-use borrow.Author.Rules.{rules}
 use Rattle.nodes.proofs.Writes.{width_some, width_three, operands_three, operands_other}
 use Rattle.words.proofs.Stores.{store_first, store_next}
 use Rattle.nodes.proofs.writing.store_operands.Goals as goal

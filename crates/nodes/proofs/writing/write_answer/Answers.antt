@@ -3,7 +3,6 @@ use mathlib.Core.Path.{◌≡◌, ap, ◌∙◌}
 use Prim.Native.Nat.{ℕ, ◌+◌, ◌≤◌}
 use native.Mathlib.Omega.{arith}
 use lib.Seq.{sets}
-use borrow.Author.Rules.{rules}
 use Rattle.journal.specs.Scope.{asking}
 use Rattle.nodes.proofs.Answers.{counts_small, handed, answer_stored}
 use Rattle.nodes.proofs.Claims.{area_claims}

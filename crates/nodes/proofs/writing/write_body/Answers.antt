@@ -1,7 +1,6 @@
 -- `writing::write_body` meets its contract.
 use mathlib.Core.Path.{◌∙◌}
 use native.Mathlib.Omega.{arith}
-use borrow.Author.Rules.{rules}
 use Rattle.journal.specs.Scope.{asking}
 use Rattle.nodes.proofs.Answers.{body_stored}
 use Rattle.nodes.proofs.Writes.{part_length}

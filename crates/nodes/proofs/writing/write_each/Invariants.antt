@@ -1,17 +1,11 @@
 -- `writing::write_each` meets its contract.
-use mathlib.Core.Path.{◌≡◌, refl, ap, ◌∙◌}
-use Prim.Native.Nat.{ℕ, ◌+◌, ◌-◌, ◌*◌, ◌≤◌}
-use native.Mathlib.Omega.{arith}
-use lib.ListN.{length, drop}
+use mathlib.Core.Path.{◌≡◌}
+use Prim.Native.Nat.{◌-◌, ◌*◌}
+use lib.ListN.{length}
 use lib.Seq.{sets}
-use borrow.Author.Rules.{rules}
 use Rattle.journal.specs.Scope.{asking}
-use Rattle.records.proofs.Choosing.{one_if_le}
-use Rattle.journal.specs.Journal.{entry_of}
-use Rattle.journal.specs.Reportable.{reports}
-use Rattle.nodes.proofs.Writes.{width_some, Writing, writing_start, writing_end, due_inside, due_record, mul_one_le, once_le, turn}
+use Rattle.nodes.proofs.Writes.{Writing}
 use Rattle.nodes.specs.Inner.Writing.{width, due_words}
-use Rattle.records.specs.Records.{first_record}
 use Rattle.words.specs.Numbers.{word_bytes}
 use Rattle.nodes.proofs.writing.write_each.Given as goal
 

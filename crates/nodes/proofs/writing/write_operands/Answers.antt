@@ -1,5 +1,4 @@
 -- `writing::write_operands` meets its contract.
-use borrow.Author.Rules.{rules}
 use Rattle.nodes.proofs.writing.write_operands.Goals as goal
 
 pub write_each-requires : goal.write_each-requires

@@ -1,7 +1,5 @@
-use Prim.Native.Nat.{◌-◌}
 use borrow.Author.Rules.{rules}
-use lib.ListN.{length}
-use Rattle.playing.proofs.Leaves.{Alike, common_start, common_later, common_first, common_second, common_here}
+use Rattle.playing.proofs.Leaves.{common_start, common_later, common_first, common_second, common_here}
 use Rattle.playing.proofs.comparing.common_length.Goals as goal
 
 pub loop-i-init : goal.loop-i-init

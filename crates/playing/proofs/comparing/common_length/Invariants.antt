@@ -1,8 +1,7 @@
 -- `comparing::common_length` meets its contract.
 use Prim.Native.Nat.{◌-◌}
-use borrow.Author.Rules.{rules}
 use lib.ListN.{length}
-use Rattle.playing.proofs.Leaves.{Alike, common_start, common_later, common_first, common_second, common_here}
+use Rattle.playing.proofs.Leaves.{Alike}
 use Rattle.playing.proofs.comparing.common_length.Given as goal
 
 abbrev pub invariant-loop-i : goal.invariant-loop-i

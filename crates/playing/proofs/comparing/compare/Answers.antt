@@ -1,5 +1,4 @@
 -- `comparing::compare` meets its contract.
-use borrow.Author.Rules.{rules}
 use native.Mathlib.Omega.{arith}
 use Rattle.playing.proofs.Leaves.{common_most, compared_other, compared_longer, compared_same}
 use Rattle.playing.proofs.comparing.compare.Goals as goal

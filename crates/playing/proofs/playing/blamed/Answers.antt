@@ -1,5 +1,4 @@
 -- `playing::blamed` meets its contract.
-use borrow.Author.Rules.{rules}
 use Rattle.playing.proofs.playing.blamed.Goals as goal
 
 pub returns : goal.returns

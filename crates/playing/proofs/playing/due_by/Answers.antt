@@ -1,6 +1,5 @@
 -- `playing::due_by` meets its contract.
 use mathlib.Core.Path.{sym, ◌∙◌}
-use borrow.Author.Rules.{rules}
 use Rattle.playing.proofs.Leaves.{due_good_frame, due_bad_frame}
 use Rattle.playing.proofs.playing.due_by.Goals as goal
 

@@ -1,5 +1,4 @@
 -- `playing::fault` meets its contract.
-use borrow.Author.Rules.{rules}
 use Rattle.playing.proofs.playing.fault.Goals as goal
 
 pub returns : goal.returns

@@ -1,6 +1,5 @@
 -- `playing::keep` meets its contract.
 use mathlib.Core.Path.{refl}
-use borrow.Author.Rules.{rules}
 use Rattle.playing.proofs.Leaves.{kept_body}
 use Rattle.playing.proofs.playing.keep.Goals as goal
 

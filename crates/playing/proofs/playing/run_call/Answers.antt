@@ -4,7 +4,6 @@ use Prim.Native.Nat.{◌≤◌}
 use native.Mathlib.Omega.{arith}
 use lib.ListN.{length, length-drop}
 use lib.Seq.{length-take-le}
-use borrow.Author.Rules.{rules}
 use Rattle.playing.proofs.Parts.{back_inside, back_front, back_stored, behind}
 use Rattle.playing.proofs.playing.run_call.Goals as goal
 

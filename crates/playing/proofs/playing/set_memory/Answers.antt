@@ -1,5 +1,4 @@
 -- `playing::set_memory` meets its contract.
-use borrow.Author.Rules.{rules}
 use native.Mathlib.Omega.{arith}
 use Rattle.playing.proofs.Leaves.{set_short, set_past, set_not, set_done}
 use Rattle.playing.proofs.playing.set_memory.Goals as goal

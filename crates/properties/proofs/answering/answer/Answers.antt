@@ -1,7 +1,5 @@
 -- `answering::answer` meets its contract.
 use mathlib.Core.Path.{sym, ◌∙◌}
-use borrow.Author.Rules.{rules}
-use borrow.Author.Tests.{not-true, not-false}
 use Rattle.journal.proofs.Walks.{within_limit}
 use Rattle.properties.specs.Inner.Following.{FollowFinds}
 use Rattle.properties.specs.declared.following.Followed.TheVariants.{Resumed}

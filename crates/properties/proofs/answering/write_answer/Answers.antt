@@ -1,6 +1,5 @@
 -- `answering::write_answer` meets its contract.
 use native.Mathlib.Omega.{arith}
-use borrow.Author.Rules.{rules}
 use Rattle.properties.proofs.Answers.{answer_stored, answer_more, answer_done}
 use Rattle.properties.proofs.answering.write_answer.Goals as goal
 

@@ -1,10 +1,9 @@
 use mathlib.Core.Path.{◌∙◌}
 use mathlib.Core.Logic.{⊎_elim}
-use Prim.Native.Nat.{◌+◌, ◌-◌, ◌≤◌}
+use Prim.Native.Nat.{◌+◌, ◌≤◌}
 use native.Mathlib.Omega.{arith}
 use lib.ListN.{length}
-use borrow.Author.Rules.{rules}
-use Rattle.properties.proofs.Passing.{Passed, pass_start, Told, told, node_fits, pass_told, pass_sized, pass_bad, pass_formed, pass_carried, pass_resumes, pass_oversized}
+use Rattle.properties.proofs.Passing.{pass_start, Told, told, node_fits, pass_told, pass_sized, pass_bad, pass_formed, pass_carried, pass_resumes, pass_oversized}
 use Rattle.properties.proofs.following.follow.Goals as goal
 
 pub returns-then-j-gt-SIZE_LIMIT : goal.returns-then-j-gt-SIZE_LIMIT

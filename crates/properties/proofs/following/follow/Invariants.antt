@@ -1,11 +1,7 @@
 -- `following::follow` meets its contract.
-use mathlib.Core.Path.{◌∙◌}
-use mathlib.Core.Logic.{⊎_elim}
-use Prim.Native.Nat.{◌+◌, ◌-◌, ◌≤◌}
-use native.Mathlib.Omega.{arith}
+use Prim.Native.Nat.{◌-◌}
 use lib.ListN.{length}
-use borrow.Author.Rules.{rules}
-use Rattle.properties.proofs.Passing.{Passed, pass_start, Told, told, node_fits, pass_told, pass_sized, pass_bad, pass_formed, pass_carried, pass_resumes, pass_oversized}
+use Rattle.properties.proofs.Passing.{Passed}
 use Rattle.properties.proofs.following.follow.Given as goal
 
 abbrev pub invariant-loop-at : goal.invariant-loop-at

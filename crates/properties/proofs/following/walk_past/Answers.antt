@@ -1,7 +1,6 @@
 -- `following::walk_past` meets its contract.
 use mathlib.Core.Path.{◌∙◌}
 use native.Mathlib.Omega.{arith}
-use borrow.Author.Rules.{rules}
 use borrow.Author.Tests.{eq-eqb, ne_eqb}
 use Rattle.properties.proofs.following.walk_past.Goals as goal
 

@@ -1,5 +1,4 @@
 -- `walk::go_over` meets its contract.
-use borrow.Author.Rules.{rules}
 use Rattle.properties.proofs.Going.{over_part, over_hit, over_miss}
 use Rattle.properties.proofs.walk.go_over.Goals as goal
 

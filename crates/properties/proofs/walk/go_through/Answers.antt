@@ -1,7 +1,5 @@
 use mathlib.Core.Path.{refl}
-use Prim.Native.Nat.{◌+◌, ◌-◌}
-use borrow.Author.Rules.{rules}
-use Rattle.properties.proofs.Going.{Going, going_hit, going_miss, going_end}
+use Rattle.properties.proofs.Going.{going_hit, going_miss, going_end}
 use Rattle.properties.proofs.walk.go_through.Goals as goal
 
 pub loop-r-init : goal.loop-r-init

@@ -1,8 +1,6 @@
 -- `walk::go_through` meets its contract.
-use mathlib.Core.Path.{refl}
 use Prim.Native.Nat.{◌+◌, ◌-◌}
-use borrow.Author.Rules.{rules}
-use Rattle.properties.proofs.Going.{Going, going_hit, going_miss, going_end}
+use Rattle.properties.proofs.Going.{Going}
 use Rattle.properties.proofs.walk.go_through.Given as goal
 
 abbrev pub invariant-loop-r : goal.invariant-loop-r

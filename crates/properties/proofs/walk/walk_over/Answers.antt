@@ -1,5 +1,4 @@
 -- `walk::walk_over` meets its contract.
-use borrow.Author.Rules.{rules}
 use Rattle.properties.proofs.Going.{walked_whole, walked_hit, walked_miss}
 use Rattle.properties.proofs.walk.walk_over.Goals as goal
 

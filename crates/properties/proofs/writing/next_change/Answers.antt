@@ -1,13 +1,12 @@
 use mathlib.Core.Path.{◌≡◌, sym, ap, ◌∙◌}
-use Prim.Native.Nat.{◌+◌, ◌-◌, ◌≤◌}
+use Prim.Native.Nat.{◌+◌, ◌≤◌}
 use native.Mathlib.Omega.{arith}
 use lib.ListN.{length, drop}
-use borrow.Author.Rules.{rules}
 use Rattle.records.specs.Records.{size_of, length_of, first_record}
 use Rattle.records.specs.declared.framing.Frame.{Frame}
 use Rattle.journal.proofs.Sizes.{sized_here}
 use Rattle.properties.specs.Changes.{is_of}
-use Rattle.properties.proofs.Seeking.{Sought, sought_start, sought_step, sought_here, sought_end, good_here_lem}
+use Rattle.properties.proofs.Seeking.{sought_start, sought_step, sought_here, sought_end, good_here_lem}
 use Rattle.properties.proofs.writing.next_change.Goals as goal
 
 pub loop-at-init : goal.loop-at-init

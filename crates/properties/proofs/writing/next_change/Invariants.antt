@@ -1,14 +1,7 @@
 -- `writing::next_change` meets its contract.
-use mathlib.Core.Path.{◌≡◌, sym, ap, ◌∙◌}
-use Prim.Native.Nat.{◌+◌, ◌-◌, ◌≤◌}
-use native.Mathlib.Omega.{arith}
-use lib.ListN.{length, drop}
-use borrow.Author.Rules.{rules}
-use Rattle.records.specs.Records.{size_of, length_of, first_record}
-use Rattle.records.specs.declared.framing.Frame.{Frame}
-use Rattle.journal.proofs.Sizes.{sized_here}
-use Rattle.properties.specs.Changes.{is_of}
-use Rattle.properties.proofs.Seeking.{Sought, sought_start, sought_step, sought_here, sought_end, good_here_lem}
+use Prim.Native.Nat.{◌-◌}
+use lib.ListN.{length}
+use Rattle.properties.proofs.Seeking.{Sought}
 use Rattle.properties.proofs.writing.next_change.Given as goal
 
 abbrev pub invariant-loop-at : goal.invariant-loop-at

@@ -2,7 +2,6 @@
 use Prim.Native.Nat.{◌+◌, ◌≤◌}
 use native.Mathlib.Omega.{arith}
 use lib.ListN.{length}
-use borrow.Author.Rules.{rules}
 use Rattle.properties.proofs.Standing.{record_fits, stands, portion_inside, portion_is}
 use Rattle.properties.proofs.writing.portion_at.Goals as goal
 

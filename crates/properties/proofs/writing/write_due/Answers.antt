@@ -1,12 +1,9 @@
 use mathlib.Core.Path.{refl}
-use Prim.Native.Nat.{◌+◌, ◌-◌, ◌≤◌}
+use Prim.Native.Nat.{◌+◌, ◌≤◌}
 use native.Mathlib.Omega.{arith}
 use lib.ListN.{length}
-use borrow.Author.Rules.{rules}
-use Rattle.properties.specs.Changes.{changes, due_at}
-use Rattle.properties.specs.Filling.{area_room, fill}
 use Rattle.properties.proofs.Seeking.{Next, next_found}
-use Rattle.properties.proofs.Writes.{Writing, writing_start, writing_end, holds, first_within, portion_fits, portion_onward, writing_next, writing_last, handed_out}
+use Rattle.properties.proofs.Writes.{writing_start, writing_end, holds, first_within, portion_fits, portion_onward, writing_next, writing_last, handed_out}
 use Rattle.properties.proofs.writing.write_due.Goals as goal
 
 pub next_change-at-requires : goal.next_change-at-requires

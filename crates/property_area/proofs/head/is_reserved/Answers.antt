@@ -1,5 +1,4 @@
 -- `head::is_reserved` meets its contract.
-use borrow.Author.Rules.{rules}
 use Rattle.property_area.specs.Head.{is_reserved}
 use Rattle.property_area.proofs.head.is_reserved.Goals as goal
 

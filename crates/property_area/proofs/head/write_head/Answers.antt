@@ -4,7 +4,6 @@ use mathlib.Core.List.{List, ◌++◌}
 use Prim.Native.Nat.{ℕ}
 use lib.ListN.{replicate}
 use lib.Seq.{sets}
-use borrow.Author.Rules.{rules}
 use Rattle.words.specs.Numbers.{word_bytes, be_bytes}
 use Rattle.property_area.specs.Head.{carried_head}
 use Rattle.property_area.proofs.head.write_head.Goals as goal

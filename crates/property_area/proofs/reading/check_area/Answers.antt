@@ -1,12 +1,11 @@
 use mathlib.Core.Path.{sym, ◌∙◌}
-use Prim.Native.Nat.{◌-◌}
 use borrow.Author.Rules.{rules}
-use borrow.Author.Tests.{eq-eqb, ne_eqb, not-false}
+use borrow.Author.Tests.{eq-eqb, ne_eqb}
 use Rattle.property_area.specs.Reading.{reading}
 use Rattle.property_area.proofs.Claims.{area_claims}
 use Rattle.property_area.proofs.ReaderClaims.{property_reader_exactly}
 use Rattle.property_area.proofs.Judging.{fine_told}
-use Rattle.property_area.proofs.PropertyLaws.{Stands, stands_first, stands_end, stands_bad, stands_fine}
+use Rattle.property_area.proofs.PropertyLaws.{stands_first, stands_end, stands_bad, stands_fine}
 use Rattle.property_area.proofs.reading.check_area.Goals as goal
 
 pub returns-then-area-ne-AREA_SIZE : goal.returns-then-area-ne-AREA_SIZE

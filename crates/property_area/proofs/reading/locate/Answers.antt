@@ -3,7 +3,6 @@ use mathlib.Core.Path.{◌≡◌}
 use Prim.Native.Nat.{◌+◌, ◌-◌, ◌≤◌}
 use native.Mathlib.Omega.{arith}
 use lib.ListN.{length}
-use borrow.Author.Rules.{rules}
 use Rattle.property_area.specs.Reading.{name_at}
 use Rattle.property_area.proofs.Judging.{fine_begins, fine_named}
 use Rattle.property_area.proofs.reading.locate.Goals as goal

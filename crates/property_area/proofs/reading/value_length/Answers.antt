@@ -1,5 +1,4 @@
 -- `reading::value_length` meets its contract.
-use borrow.Author.Rules.{rules}
 use borrow.Author.Tests.{eq-eqb, ne_eqb, lt-ltb, le-ltb}
 use Rattle.property_area.specs.Piece.{deletion}
 use Rattle.property_area.proofs.reading.value_length.Goals as goal

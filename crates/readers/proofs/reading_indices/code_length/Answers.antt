@@ -2,7 +2,6 @@
 use Prim.Native.Nat.{◌+◌, ◌≤◌}
 use native.Mathlib.Omega.{arith}
 use lib.ListN.{length}
-use borrow.Author.Rules.{rules}
 use Rattle.readers.proofs.IndexWords.{field_stands, field_ends, nul_last, code_last}
 use Rattle.readers.proofs.reading_indices.code_length.Goals as goal
 

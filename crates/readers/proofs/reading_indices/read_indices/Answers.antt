@@ -1,7 +1,6 @@
 -- `reading_indices::read_indices` meets its contract.
 use mathlib.Core.Path.{sym, ◌∙◌}
 use native.Mathlib.Omega.{arith}
-use borrow.Author.Rules.{rules}
 use Rattle.indices.specs.Reading.{reading}
 use Rattle.indices.proofs.Fine.{area_reads}
 use Rattle.readers.proofs.IndexWords.{refusal_told, entries_told_lem}

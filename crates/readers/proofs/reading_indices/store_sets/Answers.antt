@@ -2,10 +2,9 @@ use mathlib.Core.Path.{◌≡◌}
 use Prim.Native.Nat.{◌+◌, ◌-◌, ◌≤◌}
 use native.Mathlib.Omega.{arith}
 use lib.ListN.{length}
-use borrow.Author.Rules.{rules}
 use Rattle.indices.specs.Reading.{length_at}
 use Rattle.readers.proofs.EntryWords.{storing_first}
-use Rattle.readers.proofs.IndexWords.{Storing, storing_fine, storing_room, storing_next, storing_end}
+use Rattle.readers.proofs.IndexWords.{storing_fine, storing_room, storing_next, storing_end}
 use Rattle.readers.proofs.reading_indices.store_sets.Goals as goal
 
 pub loop-i-init : goal.loop-i-init

@@ -1,7 +1,6 @@
 -- `reading_nodes::read_nodes` meets its contract.
 use mathlib.Core.Path.{refl}
 use native.Mathlib.Omega.{arith}
-use borrow.Author.Rules.{rules}
 use Rattle.readers.proofs.NodeWords.{refused_reading, Good, good, good_out}
 use Rattle.readers.proofs.reading_nodes.read_nodes.Goals as goal
 

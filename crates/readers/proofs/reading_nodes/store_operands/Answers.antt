@@ -3,7 +3,6 @@ use native.Mathlib.Omega.{arith}
 use lib.ListN.{drop, length-drop}
 use Rattle.node_area.proofs.Walks.{words_inside}
 use Rattle.readers.proofs.NodeWords.{operands_pairs, operands_singles}
-use borrow.Author.Rules.{rules}
 use Rattle.readers.proofs.reading_nodes.store_operands.Goals as goal
 
 pub store_pairs-requires : goal.store_pairs-requires

@@ -1,8 +1,5 @@
-use Prim.Native.Nat.{◌-◌}
 use native.Mathlib.Omega.{arith}
-use lib.ListN.{length}
-use Rattle.readers.proofs.NodeWords.{Walking, walking_first, walking_length, walking_all, walking_fits, walking_operator, walking_inside, walking_next}
-use borrow.Author.Rules.{rules}
+use Rattle.readers.proofs.NodeWords.{walking_first, walking_length, walking_all, walking_fits, walking_operator, walking_inside, walking_next}
 use Rattle.readers.proofs.reading_nodes.store_operations.Goals as goal
 
 pub loop-i-init : goal.loop-i-init

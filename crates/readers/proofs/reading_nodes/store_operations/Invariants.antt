@@ -1,9 +1,7 @@
 -- `reading_nodes::store_operations` meets its contract.
 use Prim.Native.Nat.{◌-◌}
-use native.Mathlib.Omega.{arith}
 use lib.ListN.{length}
-use Rattle.readers.proofs.NodeWords.{Walking, walking_first, walking_length, walking_all, walking_fits, walking_operator, walking_inside, walking_next}
-use borrow.Author.Rules.{rules}
+use Rattle.readers.proofs.NodeWords.{Walking}
 use Rattle.readers.proofs.reading_nodes.store_operations.Given as goal
 
 abbrev pub invariant-loop-i : goal.invariant-loop-i

@@ -1,8 +1,6 @@
 -- `reading_nodes::store_pairs` meets its contract.
 use Prim.Native.Nat.{◌+◌, ◌-◌}
-use native.Mathlib.Omega.{arith}
-use Rattle.readers.proofs.NodeWords.{Partly, partly_first, partly_length, partly_all, pairs_next}
-use borrow.Author.Rules.{rules}
+use Rattle.readers.proofs.NodeWords.{Partly}
 use Rattle.readers.proofs.reading_nodes.store_pairs.Given as goal
 
 abbrev pub invariant-loop-i : goal.invariant-loop-i

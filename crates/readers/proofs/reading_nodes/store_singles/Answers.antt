@@ -1,7 +1,5 @@
-use Prim.Native.Nat.{◌-◌}
 use native.Mathlib.Omega.{arith}
-use Rattle.readers.proofs.NodeWords.{Partly, partly_first, partly_length, partly_all, singles_next}
-use borrow.Author.Rules.{rules}
+use Rattle.readers.proofs.NodeWords.{partly_first, partly_length, partly_all, singles_next}
 use Rattle.readers.proofs.reading_nodes.store_singles.Goals as goal
 
 pub loop-i-init : goal.loop-i-init

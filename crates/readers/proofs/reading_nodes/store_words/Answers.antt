@@ -2,7 +2,6 @@
 use native.Mathlib.Numerals.{towards_suc}
 use native.Mathlib.Omega.{arith}
 use lib.ListN.{length-set}
-use borrow.Author.Rules.{rules}
 use Rattle.readers.proofs.reading_nodes.store_words.Goals as goal
 
 pub bounds-out-to-2 : goal.bounds-out-to-2

@@ -1,7 +1,6 @@
 -- `reading_properties::read_properties` meets its contract.
 use mathlib.Core.Path.{◌≡◌, sym, ◌∙◌}
 use native.Mathlib.Omega.{arith}
-use borrow.Author.Rules.{rules}
 use Rattle.property_area.specs.declared.reading.Check.TheVariants.{Properties}
 use Rattle.property_area.specs.Reading.{reading, check_of}
 use Rattle.readers.proofs.PropertyWords.{check_passed, refusal_told, properties_told}

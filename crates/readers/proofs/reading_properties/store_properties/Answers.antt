@@ -1,8 +1,6 @@
-use Prim.Native.Nat.{◌-◌}
 use native.Mathlib.Omega.{arith}
-use borrow.Author.Rules.{rules}
 use Rattle.readers.proofs.EntryWords.{storing_first}
-use Rattle.readers.proofs.PropertyWords.{Storing, storing_fine, storing_next, storing_end}
+use Rattle.readers.proofs.PropertyWords.{storing_fine, storing_next, storing_end}
 use Rattle.readers.proofs.reading_properties.store_properties.Goals as goal
 
 pub loop-i-init : goal.loop-i-init

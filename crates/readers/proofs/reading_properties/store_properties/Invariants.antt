@@ -1,9 +1,6 @@
 -- `reading_properties::store_properties` meets its contract.
 use Prim.Native.Nat.{◌-◌}
-use native.Mathlib.Omega.{arith}
-use borrow.Author.Rules.{rules}
-use Rattle.readers.proofs.EntryWords.{storing_first}
-use Rattle.readers.proofs.PropertyWords.{Storing, storing_fine, storing_next, storing_end}
+use Rattle.readers.proofs.PropertyWords.{Storing}
 use Rattle.readers.proofs.reading_properties.store_properties.Given as goal
 
 abbrev pub invariant-loop-i : goal.invariant-loop-i

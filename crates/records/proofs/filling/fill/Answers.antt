@@ -1,6 +1,5 @@
 -- `filling::fill` meets its contract.
 use native.Mathlib.Omega.{arith}
-use borrow.Author.Rules.{rules}
 use Rattle.records.proofs.Behind.{filled_front}
 use Rattle.records.proofs.filling.fill.Goals as goal
 

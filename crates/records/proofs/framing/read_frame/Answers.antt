@@ -1,5 +1,4 @@
 -- `framing::read_frame` meets its contract.
-use borrow.Author.Rules.{rules}
 use Rattle.records.proofs.Steps.{length_at, kind_at}
 use Rattle.records.proofs.framing.read_frame.Goals as goal
 

@@ -1,7 +1,6 @@
 -- `feeding::count_front` meets its contract.
 use mathlib.Core.Path.{sym}
 use lib.Seq.{length-take-le}
-use borrow.Author.Rules.{rules}
 use Rattle.replay.proofs.feeding.count_front.Goals as goal
 
 pub slice_bounds-number_for-end : goal.slice_bounds-number_for-end

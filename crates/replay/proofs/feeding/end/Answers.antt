@@ -1,7 +1,5 @@
 -- `feeding::end` meets its contract.
 use mathlib.Core.Path.{sym, ◌∙◌}
-use borrow.Author.Rules.{rules}
-use borrow.Author.Tests.{not-true, not-false}
 use Rattle.replay.proofs.Leaves.{end_over, end_waits, end_held, end_clean}
 use Rattle.replay.proofs.Ending.{replay_claims}
 use Rattle.replay.proofs.feeding.end.Goals as goal

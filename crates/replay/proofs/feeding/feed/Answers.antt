@@ -1,5 +1,4 @@
 -- `feeding::feed` meets its contract.
-use borrow.Author.Rules.{rules}
 use native.Mathlib.Omega.{arith}
 use Rattle.replay.proofs.Standings.{feed_still, feed_past}
 use Rattle.replay.proofs.Ending.{replay_claims}

@@ -1,20 +1,8 @@
 -- `feeding::pass` meets its contract.
-use mathlib.Core.Path.{◌≡◌, sym, ◌∙◌}
-use mathlib.Core.Bool.{false, true≢false}
-use mathlib.Core.Logic.{⊎_elim}
 use Prim.Native.Nat.{◌-◌}
-use borrow.Author.Rules.{rules}
-use borrow.Author.Tests.{not-true, not-false, ltb-true}
 use lib.ListN.{length}
-use native.Mathlib.Omega.{arith}
-use Rattle.words.proofs.Choice.{and_right}
-use Rattle.records.proofs.Behind.{Ripe, ripe_is}
-use Rattle.trace.specs.Trace.{good_frame}
-use Rattle.trace.specs.Playing.{is_over}
-use Rattle.counting.proofs.Growing.{within_later}
 use Rattle.playing.specs.Played.{platform_of}
-use Rattle.replay.proofs.Made.{Counts_by}
-use Rattle.replay.proofs.Standings.{part_playable, Passing, pass_starts, pass_over, pass_held, pass_on}
+use Rattle.replay.proofs.Standings.{Passing}
 use Rattle.replay.proofs.feeding.pass.Given as goal
 
 abbrev pub invariant-loop-playing : goal.invariant-loop-playing

@@ -1,6 +1,5 @@
 -- `feeding::start` meets its contract.
 use mathlib.Core.Path.{refl}
-use borrow.Author.Rules.{rules}
 use Rattle.replay.proofs.Ending.{replay_claims}
 use Rattle.replay.proofs.feeding.start.Goals as goal
 

@@ -1,6 +1,5 @@
 -- `filling::due_at` meets its contract.
 use mathlib.Core.Path.{◌∙◌, ap}
-use borrow.Author.Rules.{rules}
 use Rattle.records.specs.declared.framing.Frame.{Frame}
 use Rattle.playing.specs.Played.{due_by}
 use Rattle.playing.proofs.Leaves.{due_frame}

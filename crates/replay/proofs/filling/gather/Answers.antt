@@ -1,5 +1,4 @@
 -- `filling::gather` meets its contract.
-use borrow.Author.Rules.{rules}
 use native.Mathlib.Omega.{arith}
 use Rattle.records.proofs.Behind.{gather_short, gather_all}
 use Rattle.trace.specs.Trace.{good_frame}

@@ -1,5 +1,4 @@
 -- `filling::ripe_at` meets its contract.
-use borrow.Author.Rules.{rules}
 use Rattle.records.proofs.Behind.{ripe_short, ripe_less, ripe_all}
 use Rattle.trace.specs.Trace.{good_frame}
 use Rattle.replay.proofs.filling.ripe_at.Goals as goal

@@ -1,7 +1,6 @@
 -- `coming::agreed_came` meets its contract.
 use Prim.Native.Nat.{◌+◌}
 use native.Mathlib.Omega.{arith}
-use borrow.Author.Rules.{rules}
 use borrow.Author.Tests.{le-leb, lt-leb}
 use Rattle.replay_states.proofs.coming.agreed_came.Goals as goal
 

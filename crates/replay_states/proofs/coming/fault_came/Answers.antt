@@ -1,7 +1,6 @@
 -- `coming::fault_came` meets its contract.
 use Prim.Native.Nat.{◌+◌}
 use native.Mathlib.Omega.{arith}
-use borrow.Author.Rules.{rules}
 use borrow.Author.Tests.{eq-eqb, ne_eqb}
 use Rattle.replay_states.proofs.coming.fault_came.Goals as goal
 

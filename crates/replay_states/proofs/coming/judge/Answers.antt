@@ -2,8 +2,7 @@
 use mathlib.Core.Path.{◌≡◌, refl, sym, ◌∙◌}
 use mathlib.Core.Bool.{true}
 use lib.Seq.{length-take-le}
-use borrow.Author.Rules.{rules}
-use borrow.Author.Tests.{not-true, not-false, le-leb, lt-leb}
+use borrow.Author.Tests.{le-leb, lt-leb}
 use Rattle.replay_states.specs.States.{is_state}
 use Rattle.replay_states.proofs.StateClaims.{states_exactly}
 use Rattle.replay_states.proofs.States.{judged_by_lem, held_fits, ripe_not, ripe_is}

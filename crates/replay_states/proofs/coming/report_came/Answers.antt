@@ -1,5 +1,4 @@
 -- `coming::report_came` meets its contract.
-use borrow.Author.Rules.{rules}
 use borrow.Author.Tests.{eq-eqb, ne_eqb}
 use Rattle.replay_states.specs.States.{report_of}
 use Rattle.replay_states.proofs.coming.report_came.Goals as goal

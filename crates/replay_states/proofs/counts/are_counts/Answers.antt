@@ -2,8 +2,7 @@
 use mathlib.Core.Path.{◌≡◌, refl, sym, ◌∙◌}
 use mathlib.Core.Bool.{true}
 use native.Mathlib.Omega.{arith}
-use borrow.Author.Rules.{rules}
-use borrow.Author.Tests.{not-true, not-false, le-leb, lt-leb}
+use borrow.Author.Tests.{le-leb, lt-leb}
 use Rattle.counting.specs.Figures.{sum_of}
 use Rattle.replay_states.proofs.States.{at_most_one}
 use Rattle.replay_states.proofs.Counted.{made, counts_tests, made-is, rows_low}

@@ -1,7 +1,5 @@
-use mathlib.Core.Path.{◌≡◌, refl}
-use Prim.Native.Nat.{◌-◌, ◌<◌, ◌≤◌}
+use mathlib.Core.Path.{refl}
 use native.Mathlib.Omega.{arith}
-use borrow.Author.Rules.{rules}
 use Rattle.counting.specs.Figures.{sum_of}
 use Rattle.replay_states.proofs.Counted.{one_row_more, too_many, all_rows}
 use Rattle.replay_states.proofs.counts.calls_counted.Goals as goal

@@ -1,10 +1,7 @@
 -- `counts::calls_counted` meets its contract.
-use mathlib.Core.Path.{◌≡◌, refl}
+use mathlib.Core.Path.{◌≡◌}
 use Prim.Native.Nat.{◌-◌, ◌<◌, ◌≤◌}
-use native.Mathlib.Omega.{arith}
-use borrow.Author.Rules.{rules}
 use Rattle.counting.specs.Figures.{sum_of}
-use Rattle.replay_states.proofs.Counted.{one_row_more, too_many, all_rows}
 use Rattle.replay_states.proofs.counts.calls_counted.Given as goal
 
 abbrev pub invariant-loop-i : goal.invariant-loop-i

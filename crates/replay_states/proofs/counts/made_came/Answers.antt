@@ -1,6 +1,5 @@
 -- `counts::made_came` meets its contract.
 use native.Mathlib.Omega.{arith}
-use borrow.Author.Rules.{rules}
 use Rattle.replay_states.proofs.Counted.{made_number, made_records}
 use Rattle.replay_states.proofs.counts.made_came.Goals as goal
 

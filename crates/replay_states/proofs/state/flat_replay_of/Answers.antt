@@ -1,5 +1,4 @@
 -- `state::flat_replay_of` meets its contract.
-use borrow.Author.Rules.{rules}
 use Rattle.replay_states.proofs.state.flat_replay_of.Goals as goal
 
 pub returns : goal.returns

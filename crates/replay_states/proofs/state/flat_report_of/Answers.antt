@@ -1,5 +1,4 @@
 -- `state::flat_report_of` meets its contract.
-use borrow.Author.Rules.{rules}
 use Rattle.replay_states.proofs.state.flat_report_of.Goals as goal
 
 pub returns-in-Agreed : goal.returns-in-Agreed

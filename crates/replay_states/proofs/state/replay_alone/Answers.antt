@@ -1,6 +1,5 @@
 -- `state::replay_alone` meets its contract.
 use mathlib.Core.Path.{ap, ◌∙◌}
-use borrow.Author.Rules.{rules}
 use Rattle.replay_states.specs.States.{replay_with}
 use Rattle.replay_states.proofs.state.replay_alone.Goals as goal
 

@@ -1,5 +1,4 @@
 -- `state::replay_of` meets its contract.
-use borrow.Author.Rules.{rules}
 use Rattle.replay_states.proofs.state.replay_of.Goals as goal
 
 pub returns : goal.returns

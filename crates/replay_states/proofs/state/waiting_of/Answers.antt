@@ -1,5 +1,4 @@
 -- `state::waiting_of` meets its contract.
-use borrow.Author.Rules.{rules}
 use Rattle.replay_states.proofs.state.waiting_of.Goals as goal
 
 pub returns-then-waits : goal.returns-then-waits

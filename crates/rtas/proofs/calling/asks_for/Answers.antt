@@ -1,5 +1,4 @@
 -- `calling::asks_for` meets its contract.
-use borrow.Author.Rules.{rules}
 use borrow.Author.Tests.{eq-eqb, ne_eqb}
 use Rattle.calls.specs.Buffer.{asks}
 use Rattle.rtas.proofs.calling.asks_for.Goals as goal

@@ -3,8 +3,6 @@ use mathlib.Core.Bool.{true}
 use mathlib.Core.Path.{◌≡◌, sym, ap, ◌∙◌}
 use Prim.Native.Nat.{◌+◌, ◌*◌}
 use native.Mathlib.Omega.{arith}
-use borrow.Author.Rules.{rules}
-use borrow.Author.Tests.{not-true, not-false}
 use Rattle.calls.proofs.Claims.{call_claims}
 use Rattle.calls.proofs.Heads.{Whole, whole_buffer, given_number, unchanged}
 use Rattle.rtas.proofs.Works.{call_leaves}

@@ -4,7 +4,6 @@ use mathlib.Core.Path.{◌≡◌, sym, ap, ◌∙◌}
 use Prim.Native.Nat.{◌≤◌}
 use native.Mathlib.Omega.{arith}
 use lib.ListN.{length}
-use borrow.Author.Rules.{rules}
 use Rattle.calls.proofs.Heads.{Whole, whole_buffer, asked}
 use Rattle.calls.specs.Buffer.{is_nodes, is_indices, is_dump, is_properties, Found, found}
 use Rattle.calls.specs.Status.{is_given}

@@ -2,7 +2,6 @@
 use mathlib.Core.Path.{ap, ◌∙◌, sym}
 use Prim.Native.Nat.{ℕ}
 use lib.Dec.{leb}
-use borrow.Author.Rules.{rules}
 use borrow.Author.Tests.{le-leb, lt-leb}
 use Rattle.rtas.proofs.IndexedLaws.{indexes_answered, indexes_refused}
 use Rattle.rtas.proofs.calling.list_indices.Goals as goal

@@ -1,5 +1,4 @@
 -- `calling::number_for` meets its contract.
-use borrow.Author.Rules.{rules}
 use borrow.Author.Tests.{lt-ltb, le-ltb, eq-eqb, ne_eqb}
 use Rattle.calls.specs.Buffer.{number_for}
 use Rattle.rtas.proofs.calling.number_for.Goals as goal

@@ -1,5 +1,4 @@
 -- `calling::request_of` meets its contract.
-use borrow.Author.Rules.{rules}
 use Rattle.rtas.proofs.calling.request_of.Goals as goal
 
 pub returns : goal.returns

@@ -1,6 +1,5 @@
 -- `dump_call::configure_kernel_dump` meets its contract.
 use mathlib.Core.Path.{ap, ◌∙◌}
-use borrow.Author.Rules.{rules}
 use Rattle.dump.specs.declared.registration.Configured.{Configured}
 use Rattle.calls.specs.ConfigureDump.{verdict_status, dump_status}
 use Rattle.rtas.proofs.dump_call.configure_kernel_dump.Goals as goal

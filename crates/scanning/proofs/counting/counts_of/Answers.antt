@@ -1,5 +1,4 @@
 -- `counting::counts_of` meets its contract.
-use Rattle.std.proofs.Common.{rules}
 use Rattle.scanning.proofs.counting.counts_of.Goals as goal
 
 pub returns : goal.returns

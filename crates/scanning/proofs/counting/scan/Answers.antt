@@ -1,7 +1,7 @@
-use Rattle.std.proofs.Common.{◌≡◌, ◌+◌, ◌-◌, ◌≤◌, length, refl, ap, ◌∙◌, arith, rules}
+use Rattle.std.proofs.Common.{◌+◌, ◌≤◌, refl, ap, ◌∙◌, arith}
 use Rattle.journal.proofs.Claims.{too_large, journal_claims}
 use Rattle.scanning.proofs.NoteLaws.{marked_none, marked_note, noted_length}
-use Rattle.scanning.proofs.Reaching.{position, reached_none, reached_end, malformed, advanced_bad, advanced_upto}
+use Rattle.scanning.proofs.Reaching.{reached_none, reached_end, malformed, advanced_bad, advanced_upto}
 use Rattle.journal.specs.Scope.{asking}
 use Rattle.journal.specs.Marks.{Marked}
 use Rattle.scanning.specs.Inner.Terms.{Reached}

@@ -1,12 +1,9 @@
 -- `counting::scan` meets its contract.
-use Rattle.std.proofs.Common.{◌≡◌, ◌+◌, ◌-◌, ◌≤◌, length, refl, ap, ◌∙◌, arith, rules}
-use Rattle.journal.proofs.Claims.{too_large, journal_claims}
-use Rattle.scanning.proofs.NoteLaws.{marked_none, marked_note, noted_length}
-use Rattle.scanning.proofs.Reaching.{position, reached_none, reached_end, malformed, advanced_bad, advanced_upto}
+use Rattle.std.proofs.Common.{◌≡◌, ◌-◌, length}
+use Rattle.scanning.proofs.Reaching.{position}
 use Rattle.journal.specs.Scope.{asking}
 use Rattle.journal.specs.Marks.{Marked}
 use Rattle.scanning.specs.Inner.Terms.{Reached}
-use Rattle.journal.specs.declared.counts.Judgement.TheVariants.{Counted}
 use Rattle.scanning.proofs.counting.scan.Given as goal
 
 abbrev pub invariant-loop-at : goal.invariant-loop-at

@@ -1,5 +1,5 @@
 -- `stride::four_headers` meets its contract.
-use Rattle.std.proofs.Common.{rules, eq-eqb, ne_eqb}
+use Rattle.std.proofs.Common.{eq-eqb, ne_eqb}
 use Rattle.scanning.proofs.stride.four_headers.Goals as goal
 
 pub returns-then-c-header : goal.returns-then-c-header

@@ -1,5 +1,5 @@
 -- `stride::has_two_units` meets its contract.
-use Rattle.std.proofs.Common.{◌≡◌, ℕ, arith, rules}
+use Rattle.std.proofs.Common.{◌≡◌, ℕ, arith}
 use Rattle.scanning.proofs.stride.has_two_units.Goals as goal
 
 pub returns-then-first : goal.returns-then-first

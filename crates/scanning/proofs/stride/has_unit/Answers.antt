@@ -1,5 +1,5 @@
 -- `stride::has_unit` meets its contract.
-use Rattle.std.proofs.Common.{◌∙◌, arith, rules, eqb-true}
+use Rattle.std.proofs.Common.{◌∙◌, arith, eqb-true}
 use Rattle.scanning.proofs.Headers.{unit_here}
 use Rattle.scanning.proofs.stride.has_unit.Goals as goal
 

@@ -1,5 +1,5 @@
 -- `stride::header_at` meets its contract.
-use Rattle.std.proofs.Common.{sym, rules}
+use Rattle.std.proofs.Common.{sym}
 use Rattle.words.proofs.Numbers.{le_split}
 use Rattle.scanning.proofs.stride.header_at.Goals as goal
 

@@ -1,4 +1,4 @@
-use Rattle.std.proofs.Common.{◌≡◌, ◌+◌, ◌-◌, ◌≤◌, true, length, arith, rules}
+use Rattle.std.proofs.Common.{◌≡◌, ◌+◌, ◌≤◌, true, length, arith}
 use Rattle.journal.specs.Scope.{asking}
 use Rattle.journal.specs.Terms.{node_here, shape_at}
 use Rattle.scanning.specs.Inner.Terms.{Reached}

@@ -1,10 +1,8 @@
 -- `stride::past_each` meets its contract.
-use Rattle.std.proofs.Common.{◌≡◌, ◌+◌, ◌-◌, ◌≤◌, true, length, arith, rules}
+use Rattle.std.proofs.Common.{◌-◌, ◌≤◌, length}
 use Rattle.journal.specs.Scope.{asking}
-use Rattle.journal.specs.Terms.{node_here, shape_at}
 use Rattle.scanning.specs.Inner.Terms.{Reached}
-use Rattle.journal.proofs.RecordLaws.{given_good, good_size_lem, good_fits}
-use Rattle.scanning.proofs.Reaching.{position, reached_judged}
+use Rattle.scanning.proofs.Reaching.{position}
 use Rattle.scanning.proofs.stride.past_each.Given as goal
 
 abbrev pub invariant-loop-at : goal.invariant-loop-at

@@ -1,13 +1,8 @@
 -- `stride::past_properties` meets its contract.
-use Rattle.std.proofs.Common.{◌≡◌, ℕ, ◌+◌, ◌-◌, ◌≤◌, true, List, length, ap, arith, rules}
-use Rattle.journal.specs.declared.property.PropertyRecord.{PropertyRecord}
+use Rattle.std.proofs.Common.{ℕ, ◌-◌, ◌≤◌, List, length}
 use Rattle.journal.specs.Scope.{Selection}
 use Rattle.scanning.specs.Inner.Terms.{Reached}
-use Rattle.journal.specs.Holding.{property_here, property_in}
-use Rattle.journal.proofs.PropertyLaws.{held_other, held_property}
-use Rattle.journal.proofs.Sizes.{sized_here}
-use Rattle.journal.proofs.GoodLaws.{property_good}
-use Rattle.scanning.proofs.Reaching.{position, reached_property}
+use Rattle.scanning.proofs.Reaching.{position}
 use Rattle.scanning.proofs.stride.past_properties.Given as goal
 
 -- a scan that came to the first place comes to this one

@@ -1,11 +1,8 @@
-use Rattle.std.proofs.Common.{◌≡◌, ℕ, ◌+◌, ◌-◌, ◌*◌, ◌≤◌, List, length, sym, ◌∙◌, arith, rules}
-use borrow.Author.Tests.{not-false}
+use Rattle.std.proofs.Common.{◌+◌, ◌*◌, ◌≤◌, length, sym, ◌∙◌, arith, rules}
 use Rattle.records.specs.Records.{size_limit}
-use Rattle.scanning.specs.declared.stride.Same.{Same}
 use Rattle.journal.specs.Scope.{Selection, asking}
 use Rattle.scanning.specs.Inner.Terms.{Reached, Known}
 use Rattle.scanning.proofs.Reaching.{position, reached_four}
-use Rattle.scanning.proofs.stride.past_same.Invariants.{Past}
 use Rattle.scanning.proofs.stride.past_same.Goals as goal
 
 pub overflow_mul-four : goal.overflow_mul-four

@@ -1,11 +1,10 @@
 -- `stride::past_same` meets its contract.
-use Rattle.std.proofs.Common.{◌≡◌, ℕ, ◌+◌, ◌-◌, ◌*◌, ◌≤◌, List, length, sym, ◌∙◌, arith, rules}
-use borrow.Author.Tests.{not-false}
+use Rattle.std.proofs.Common.{◌≡◌, ℕ, ◌-◌, ◌*◌, ◌≤◌, List, length}
 use Rattle.records.specs.Records.{size_limit}
 use Rattle.scanning.specs.declared.stride.Same.{Same}
-use Rattle.journal.specs.Scope.{Selection, asking}
+use Rattle.journal.specs.Scope.{Selection}
 use Rattle.scanning.specs.Inner.Terms.{Reached, Known}
-use Rattle.scanning.proofs.Reaching.{position, reached_four}
+use Rattle.scanning.proofs.Reaching.{position}
 use Rattle.scanning.proofs.stride.past_same.Given as goal
 
 -- whatever is asked for: a scan that came to the first place has come to the second

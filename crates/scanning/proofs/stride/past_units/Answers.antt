@@ -1,5 +1,4 @@
-use Rattle.std.proofs.Common.{◌+◌, ◌-◌, ◌*◌, ◌≤◌, eqb, get_or, add-zero, mul-zero, arith, rules}
-use borrow.Author.Tests.{not-false}
+use Rattle.std.proofs.Common.{◌+◌, ◌*◌, ◌≤◌, eqb, get_or, add-zero, mul-zero, arith}
 use Rattle.records.proofs.Choosing.{one_if_le}
 use Rattle.journal.specs.Scope.{asking}
 use Rattle.journal.specs.Terms.{tallied}

@@ -1,13 +1,9 @@
 -- `stride::past_units` meets its contract.
-use Rattle.std.proofs.Common.{◌+◌, ◌-◌, ◌*◌, ◌≤◌, eqb, get_or, add-zero, mul-zero, arith, rules}
-use borrow.Author.Tests.{not-false}
-use Rattle.records.proofs.Choosing.{one_if_le}
+use Rattle.std.proofs.Common.{◌+◌, ◌-◌, ◌*◌, ◌≤◌}
 use Rattle.journal.specs.Scope.{asking}
 use Rattle.journal.specs.Terms.{tallied}
 use Rattle.scanning.specs.Inner.Terms.{Reached}
-use Rattle.journal.proofs.RecordLaws.{asked_same}
-use Rattle.scanning.proofs.Weighing.{asked_none, tally_two}
-use Rattle.scanning.proofs.Reaching.{position, reached_units}
+use Rattle.scanning.proofs.Reaching.{position}
 use Rattle.scanning.proofs.stride.past_units.Given as goal
 
 abbrev pub invariant-loop-at : goal.invariant-loop-at

@@ -1,5 +1,5 @@
 -- `stride::stride` meets its contract.
-use Rattle.std.proofs.Common.{◌≡◌, ◌+◌, ◌≤◌, true, length, ap, ◌∙◌, arith, rules}
+use Rattle.std.proofs.Common.{◌≡◌, ◌+◌, ◌≤◌, true, length, ap, ◌∙◌, arith}
 use Rattle.journal.specs.declared.judging.Shape.{Shape}
 use Rattle.journal.specs.Scope.{asking}
 use Rattle.journal.specs.Terms.{node_here, shape_at}

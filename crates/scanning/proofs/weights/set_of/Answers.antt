@@ -1,5 +1,5 @@
 -- `weights::set_of` meets its contract.
-use Rattle.std.proofs.Common.{sym, rules}
+use Rattle.std.proofs.Common.{sym}
 use lib.ListN.{get_or-eq_default}
 use Rattle.scanning.proofs.weights.set_of.Goals as goal
 

@@ -1,5 +1,5 @@
 -- `weights::weight` meets its contract.
-use Rattle.std.proofs.Common.{◌≡◌, ℕ, refl, arith, rules}
+use Rattle.std.proofs.Common.{◌≡◌, ℕ, refl, arith}
 use Rattle.journal.specs.Terms.{opcode_for}
 use Rattle.journal.proofs.Opcodes.{each_kind}
 use Rattle.scanning.proofs.WeightLaws.{weight_is}

@@ -1,5 +1,5 @@
-use Rattle.std.proofs.Common.{◌-◌, refl, arith, rules}
-use Rattle.scanning.proofs.WeightLaws.{Filled, filled_next}
+use Rattle.std.proofs.Common.{refl, arith, rules}
+use Rattle.scanning.proofs.WeightLaws.{filled_next}
 use Rattle.scanning.proofs.weights.weights_of.Goals as goal
 
 pub loop-i-init : goal.loop-i-init

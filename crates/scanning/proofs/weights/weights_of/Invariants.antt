@@ -1,6 +1,6 @@
 -- `weights::weights_of` meets its contract.
-use Rattle.std.proofs.Common.{◌-◌, refl, arith, rules}
-use Rattle.scanning.proofs.WeightLaws.{Filled, filled_next}
+use Rattle.std.proofs.Common.{◌-◌}
+use Rattle.scanning.proofs.WeightLaws.{Filled}
 use Rattle.scanning.proofs.weights.weights_of.Given as goal
 
 abbrev pub invariant-loop-i : goal.invariant-loop-i

@@ -1,7 +1,6 @@
-use mathlib.Core.Path.{◌≡◌, refl, ◌∙◌}
+use mathlib.Core.Path.{refl, ◌∙◌}
 use native.Mathlib.Nat.{mod-lt}
 use native.Mathlib.Omega.{arith}
-use Rattle.shares.specs.Share.{divisor}
 use Rattle.shares.proofs.Euclid.{divisor_step, divisor_over}
 use Rattle.shares.proofs.share.divisor_of.Goals as goal
 

@@ -1,9 +1,6 @@
 -- `share::divisor_of` meets its contract.
-use mathlib.Core.Path.{◌≡◌, refl, ◌∙◌}
-use native.Mathlib.Nat.{mod-lt}
-use native.Mathlib.Omega.{arith}
+use mathlib.Core.Path.{◌≡◌}
 use Rattle.shares.specs.Share.{divisor}
-use Rattle.shares.proofs.Euclid.{divisor_step, divisor_over}
 use Rattle.shares.proofs.share.divisor_of.Given as goal
 
 abbrev pub invariant-loop-y : goal.invariant-loop-y

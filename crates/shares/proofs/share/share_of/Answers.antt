@@ -1,7 +1,6 @@
 -- `share::share_of` meets its contract.
 use Prim.Native.Nat.{◌<◌}
 use native.Mathlib.Omega.{arith}
-use borrow.Author.Rules.{rules}
 use borrow.Author.Tests.{ne_eqb}
 use Rattle.shares.specs.Share.{share_of}
 use Rattle.shares.proofs.Euclid.{divisor_some, share_claims}

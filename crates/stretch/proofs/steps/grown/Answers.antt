@@ -1,5 +1,4 @@
 -- `steps::grown` meets its contract.
-use borrow.Author.Rules.{rules}
 use Rattle.stretch.proofs.Going.{grows_narrow}
 use Rattle.stretch.proofs.steps.grown.Goals as goal
 

@@ -1,13 +1,11 @@
 use mathlib.Core.Path.{◌≡◌}
 use mathlib.Core.Bool.{true}
-use Prim.Native.Nat.{◌-◌}
 use native.Mathlib.Omega.{arith}
-use borrow.Author.Rules.{rules}
 use Rattle.journal.specs.Terms.{node_here, shape_at}
 use Rattle.journal.proofs.RecordLaws.{given_good}
 use Rattle.stretch.specs.Inner.Terms.{Adds}
 use Rattle.stretch.proofs.Adding.{node_adds}
-use Rattle.stretch.proofs.Going.{Onward, goes_nowhere, adds_size, grows_one, onward_one, shape_known}
+use Rattle.stretch.proofs.Going.{goes_nowhere, adds_size, grows_one, onward_one, shape_known}
 use Rattle.stretch.proofs.steps.past_each.Goals as goal
 
 pub loop-s-init : goal.loop-s-init

@@ -1,9 +1,8 @@
 use mathlib.Core.Path.{sym, ◌∙◌}
-use Prim.Native.Nat.{◌+◌, ◌-◌, ◌*◌, ◌≤◌}
+use Prim.Native.Nat.{◌+◌, ◌*◌, ◌≤◌}
 use native.Mathlib.Omega.{arith}
 use lib.ListN.{length}
-use borrow.Author.Tests.{not-false}
-use Rattle.stretch.proofs.Going.{Onward, goes_nowhere, grows_four, onward_four}
+use Rattle.stretch.proofs.Going.{goes_nowhere, grows_four, onward_four}
 use Rattle.stretch.proofs.steps.past_same.Goals as goal
 
 pub loop-s-init : goal.loop-s-init

@@ -1,10 +1,6 @@
 -- `steps::past_same` meets its contract.
-use mathlib.Core.Path.{sym, ◌∙◌}
-use Prim.Native.Nat.{◌+◌, ◌-◌, ◌*◌, ◌≤◌}
-use native.Mathlib.Omega.{arith}
-use lib.ListN.{length}
-use borrow.Author.Tests.{not-false}
-use Rattle.stretch.proofs.Going.{Onward, goes_nowhere, grows_four, onward_four}
+use Prim.Native.Nat.{◌-◌}
+use Rattle.stretch.proofs.Going.{Onward}
 use Rattle.stretch.proofs.steps.past_same.Given as goal
 
 abbrev pub invariant-loop-s : goal.invariant-loop-s

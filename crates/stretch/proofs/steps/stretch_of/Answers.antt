@@ -1,5 +1,4 @@
 -- `steps::stretch_of` meets its contract.
-use borrow.Author.Rules.{rules}
 use Rattle.stretch.proofs.Going.{light_nothing}
 use Rattle.stretch.proofs.steps.stretch_of.Goals as goal
 

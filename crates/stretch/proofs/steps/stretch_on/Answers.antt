@@ -1,7 +1,5 @@
-use Prim.Native.Nat.{◌-◌}
 use native.Mathlib.Omega.{arith}
-use lib.ListN.{length}
-use Rattle.stretch.proofs.Going.{Onward, goes_nowhere, goes_on}
+use Rattle.stretch.proofs.Going.{goes_nowhere, goes_on}
 use Rattle.stretch.proofs.steps.stretch_on.Goals as goal
 
 pub loop-s-init : goal.loop-s-init

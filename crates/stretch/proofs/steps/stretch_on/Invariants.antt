@@ -1,8 +1,7 @@
 -- `steps::stretch_on` meets its contract.
 use Prim.Native.Nat.{◌-◌}
-use native.Mathlib.Omega.{arith}
 use lib.ListN.{length}
-use Rattle.stretch.proofs.Going.{Onward, goes_nowhere, goes_on}
+use Rattle.stretch.proofs.Going.{Onward}
 use Rattle.stretch.proofs.steps.stretch_on.Given as goal
 
 abbrev pub invariant-loop-s : goal.invariant-loop-s

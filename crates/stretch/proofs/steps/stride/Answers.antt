@@ -2,7 +2,6 @@
 use mathlib.Core.Path.{◌≡◌, ap}
 use mathlib.Core.Bool.{true}
 use native.Mathlib.Omega.{arith}
-use borrow.Author.Rules.{rules}
 use Rattle.journal.specs.Terms.{node_here, shape_at}
 use Rattle.journal.proofs.RecordLaws.{given_bad, given_good}
 use Rattle.journal.proofs.GoodLaws.{neither_good}

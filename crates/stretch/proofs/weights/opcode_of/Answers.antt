@@ -1,7 +1,6 @@
 -- `weights::opcode_of` meets its contract.
 use mathlib.Core.Path.{◌≡◌, refl}
 use Prim.Native.Nat.{ℕ, ◌-◌, ◌*◌, ◌/◌}
-use borrow.Author.Rules.{rules}
 use Rattle.journal.specs.Terms.{opcode_for}
 use Rattle.journal.proofs.Opcodes.{each_kind}
 use Rattle.stretch.proofs.weights.opcode_of.Goals as goal

@@ -1,7 +1,6 @@
 -- `weights::unit_of` meets its contract.
 use mathlib.Core.Path.{◌≡◌, refl}
 use Prim.Native.Nat.{ℕ, ◌-◌, ◌*◌, ◌^◌, ◌%◌}
-use borrow.Author.Rules.{rules}
 use Rattle.journal.specs.Marks.{count_limit}
 use Rattle.journal.proofs.Opcodes.{each-code}
 use Rattle.stretch.proofs.weights.unit_of.Goals as goal

@@ -1,5 +1,4 @@
 -- `counting::nothing_weighed` meets its contract.
-use borrow.Author.Rules.{rules}
 use Rattle.tallies.proofs.counting.nothing_weighed.Goals as goal
 
 pub returns : goal.returns

@@ -1,5 +1,4 @@
 -- `counting::recount` meets its contract.
-use borrow.Author.Rules.{rules}
 use Rattle.tallies.proofs.Claims.{recount_claims}
 use Rattle.tallies.proofs.Recounts.{recount_weighed}
 use Rattle.tallies.proofs.counting.recount.Goals as goal

@@ -1,5 +1,4 @@
 -- `counting::tallies_of` meets its contract.
-use borrow.Author.Rules.{rules}
 use Rattle.tallies.proofs.counting.tallies_of.Goals as goal
 
 pub returns : goal.returns

@@ -1,6 +1,5 @@
 -- `counting::weigh` meets its contract.
 use mathlib.Core.Path.{◌∙◌}
-use borrow.Author.Rules.{rules}
 use Rattle.journal.proofs.Claims.{too_large}
 use Rattle.tallies.proofs.Recounts.{weighed_bad, weighed_all, ends_bad}
 use Rattle.tallies.proofs.counting.weigh.Goals as goal

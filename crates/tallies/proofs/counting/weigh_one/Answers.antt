@@ -1,7 +1,6 @@
 -- `counting::weigh_one` meets its contract.
 use mathlib.Core.Path.{◌≡◌, sym, ◌∙◌}
 use mathlib.Core.Logic.{⊎_elim}
-use borrow.Author.Rules.{rules}
 use Rattle.tallies.specs.Keeping.{one_record}
 use Rattle.tallies.proofs.Recounts.{one_weighed, one_counted}
 use Rattle.tallies.proofs.counting.weigh_one.Goals as goal

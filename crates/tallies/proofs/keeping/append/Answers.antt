@@ -1,5 +1,4 @@
 -- `keeping::append` meets its contract.
-use borrow.Author.Rules.{rules}
 use Rattle.tallies.proofs.Claims.{tally_claims}
 use Rattle.tallies.proofs.keeping.append.Goals as goal
 

@@ -7,7 +7,6 @@ use native.Mathlib.Omega.{arith}
 use lib.Dec.{leb}
 use lib.ListN.{length}
 use lib.Seq.{sets, take-length}
-use borrow.Author.Rules.{rules}
 use borrow.Author.Tests.{leb-true, not-true, not-false}
 use Rattle.words.proofs.Choice.{and_left, and_right}
 use Rattle.tallies.specs.declared.tallies.Tallies.{Tallies}

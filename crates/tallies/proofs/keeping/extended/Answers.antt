@@ -1,5 +1,4 @@
 -- `keeping::extended` meets its contract.
-use borrow.Author.Rules.{rules}
 use Rattle.tallies.proofs.Recounts.{extends_fit}
 use Rattle.tallies.proofs.keeping.extended.Goals as goal
 

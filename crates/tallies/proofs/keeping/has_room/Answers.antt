@@ -1,7 +1,6 @@
 -- `keeping::has_room` meets its contract.
 use Prim.Native.Nat.{◌+◌}
 use native.Mathlib.Omega.{arith}
-use borrow.Author.Rules.{rules}
 use borrow.Author.Tests.{le-leb, lt-leb}
 use Rattle.tallies.specs.Keeping.{has_room}
 use Rattle.tallies.proofs.keeping.has_room.Goals as goal

@@ -1,5 +1,4 @@
 -- `keeping::is_fit` meets its contract.
-use borrow.Author.Rules.{rules}
 use borrow.Author.Tests.{le-leb, lt-leb}
 use Rattle.tallies.specs.Keeping.{fits}
 use Rattle.tallies.proofs.keeping.is_fit.Goals as goal

@@ -1,5 +1,4 @@
 -- `keeping::join` meets its contract.
-use borrow.Author.Rules.{rules}
 use Rattle.tallies.proofs.Claims.{tally_claims}
 use Rattle.tallies.proofs.Joining.{counted_good, counted_tallies, join_claims}
 use Rattle.tallies.proofs.keeping.join.Goals as goal

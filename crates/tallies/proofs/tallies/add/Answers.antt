@@ -1,5 +1,4 @@
 -- `tallies::add` meets its contract.
-use borrow.Author.Rules.{rules}
 use Rattle.tallies.proofs.tallies.add.Goals as goal
 
 pub returns : goal.returns

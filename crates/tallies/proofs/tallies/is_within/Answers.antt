@@ -1,8 +1,6 @@
 -- `tallies::is_within` meets its contract.
 use mathlib.Core.Path.{sym, ◌∙◌}
 use mathlib.Core.Bool.{and-false}
-use borrow.Author.Rules.{rules}
-use borrow.Author.Tests.{not-true, not-false}
 use Rattle.tallies.specs.Tallies.{tallies_within}
 use Rattle.tallies.proofs.tallies.is_within.Goals as goal
 

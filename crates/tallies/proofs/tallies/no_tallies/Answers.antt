@@ -1,5 +1,4 @@
 -- `tallies::no_tallies` meets its contract.
-use borrow.Author.Rules.{rules}
 use Rattle.tallies.proofs.tallies.no_tallies.Goals as goal
 
 pub returns : goal.returns

@@ -1,11 +1,11 @@
 use mathlib.Core.Path.{refl, sym}
-use Prim.Native.Nat.{ℕ, ◌-◌}
+use Prim.Native.Nat.{ℕ}
 use native.Mathlib.Omega.{arith}
 use mir.Syntax.{w64}
 use mir.Val.{Fits}
 use lib.ListN.{get_or}
 use borrow.Author.Rules.{rules}
-use Rattle.totals.proofs.Sums.{Adding, adding_fits, adding_next, adding_not, adding_end, added, not_added}
+use Rattle.totals.proofs.Sums.{adding_fits, adding_next, adding_not, adding_end, added, not_added}
 use Rattle.totals.proofs.Claims.{totals_claims}
 use Rattle.totals.proofs.adding.add.Goals as goal
 

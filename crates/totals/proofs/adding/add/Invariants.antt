@@ -1,13 +1,6 @@
 -- `adding::add` meets its contract.
-use mathlib.Core.Path.{refl, sym}
-use Prim.Native.Nat.{ℕ, ◌-◌}
-use native.Mathlib.Omega.{arith}
-use mir.Syntax.{w64}
-use mir.Val.{Fits}
-use lib.ListN.{get_or}
-use borrow.Author.Rules.{rules}
-use Rattle.totals.proofs.Sums.{Adding, adding_fits, adding_next, adding_not, adding_end, added, not_added}
-use Rattle.totals.proofs.Claims.{totals_claims}
+use Prim.Native.Nat.{◌-◌}
+use Rattle.totals.proofs.Sums.{Adding}
 use Rattle.totals.proofs.adding.add.Given as goal
 
 abbrev pub invariant-loop-i : goal.invariant-loop-i

@@ -1,5 +1,4 @@
 -- `consistent::calls_agree` meets its contract.
-use borrow.Author.Rules.{rules}
 use Rattle.totals.specs.Consistent.{calls_agree}
 use Rattle.totals.proofs.consistent.calls_agree.Goals as goal
 

@@ -1,5 +1,4 @@
 -- `consistent::is_consistent` meets its contract.
-use borrow.Author.Rules.{rules}
 use Rattle.totals.specs.Consistent.{consistent}
 use Rattle.totals.proofs.Agreeing.{consistent_claims}
 use Rattle.totals.proofs.consistent.is_consistent.Goals as goal

@@ -1,9 +1,6 @@
 use mathlib.Core.Path.{◌≡◌, sym, ◌∙◌}
 use Prim.Native.Nat.{◌+◌, ◌-◌}
 use native.Mathlib.Omega.{arith}
-use lib.Dec.{eqb}
-use borrow.Author.Rules.{rules}
-use Rattle.totals.specs.Consistent.{sum_from}
 use Rattle.totals.proofs.Agreeing.{sum_next, sum_not, sum_end}
 use Rattle.totals.proofs.consistent.is_sum.Goals as goal
 

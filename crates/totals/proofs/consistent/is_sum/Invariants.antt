@@ -1,11 +1,8 @@
 -- `consistent::is_sum` meets its contract.
-use mathlib.Core.Path.{◌≡◌, sym, ◌∙◌}
-use Prim.Native.Nat.{◌+◌, ◌-◌}
-use native.Mathlib.Omega.{arith}
+use mathlib.Core.Path.{◌≡◌}
+use Prim.Native.Nat.{◌-◌}
 use lib.Dec.{eqb}
-use borrow.Author.Rules.{rules}
 use Rattle.totals.specs.Consistent.{sum_from}
-use Rattle.totals.proofs.Agreeing.{sum_next, sum_not, sum_end}
 use Rattle.totals.proofs.consistent.is_sum.Given as goal
 
 abbrev pub invariant-loop-at : goal.invariant-loop-at

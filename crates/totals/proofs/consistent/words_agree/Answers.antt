@@ -1,6 +1,5 @@
 -- `consistent::words_agree` meets its contract.
 use mathlib.Core.Path.{sym}
-use borrow.Author.Rules.{rules}
 use borrow.Author.Tests.{le-leb, lt-leb}
 use Rattle.totals.proofs.Agreeing.{words_agree_lem, words_not}
 use Rattle.totals.proofs.consistent.words_agree.Goals as goal

@@ -1,7 +1,6 @@
 use mathlib.Core.Path.{refl}
-use Prim.Native.Nat.{◌-◌}
 use borrow.Author.Rules.{rules}
-use Rattle.words.proofs.Ends.{Reached, nul_later, nul_here, nul_none}
+use Rattle.words.proofs.Ends.{nul_later, nul_here, nul_none}
 use Rattle.words.proofs.nul.find_near.Goals as goal
 
 pub loop-i-init : goal.loop-i-init

@@ -1,8 +1,6 @@
 -- `nul::find_near` meets its contract.
-use mathlib.Core.Path.{refl}
 use Prim.Native.Nat.{◌-◌}
-use borrow.Author.Rules.{rules}
-use Rattle.words.proofs.Ends.{Reached, nul_later, nul_here, nul_none}
+use Rattle.words.proofs.Ends.{Reached}
 use Rattle.words.proofs.nul.find_near.Given as goal
 
 abbrev pub invariant-loop-i : goal.invariant-loop-i

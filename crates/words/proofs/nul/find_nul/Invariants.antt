@@ -1,9 +1,6 @@
 -- `nul::find_nul` meets its contract.
-use mathlib.Core.Path.{refl, ◌∙◌, sym}
-use Prim.Native.Nat.{◌+◌, ◌-◌}
-use native.Mathlib.Omega.{arith}
-use borrow.Author.Rules.{rules}
-use Rattle.words.proofs.Ends.{Reached, nul_later, nul_here}
+use Prim.Native.Nat.{◌-◌}
+use Rattle.words.proofs.Ends.{Reached}
 use Rattle.words.proofs.nul.find_nul.Given as goal
 
 abbrev pub invariant-loop-i : goal.invariant-loop-i

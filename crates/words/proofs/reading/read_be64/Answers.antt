@@ -1,6 +1,5 @@
 -- `reading::read_be64` meets its contract.
 use mathlib.Core.Path.{◌∙◌, sym}
-use borrow.Author.Rules.{rules}
 use Rattle.words.proofs.Numbers.{be_split}
 use Rattle.words.proofs.reading.read_be64.Goals as goal
 

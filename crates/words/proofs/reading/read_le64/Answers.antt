@@ -1,7 +1,6 @@
 -- `reading::read_le64` meets its contract.
 use mathlib.Core.Path.{◌∙◌}
 use native.Mathlib.Omega.{arith}
-use borrow.Author.Rules.{rules}
 use Rattle.words.proofs.Numbers.{le_split}
 use Rattle.words.proofs.reading.read_le64.Goals as goal
 

@@ -1,7 +1,6 @@
 -- `storing::store_be16` meets its contract.
 use native.Mathlib.Omega.{arith}
 use lib.ListN.{length-set}
-use borrow.Author.Rules.{rules}
 use Rattle.words.proofs.Stores.{stored_two}
 use Rattle.words.proofs.storing.store_be16.Goals as goal
 

@@ -1,5 +1,4 @@
 -- `storing::store_be64` meets its contract.
-use borrow.Author.Rules.{rules}
 use Rattle.words.proofs.Stores.{stored_halves}
 use Rattle.words.proofs.storing.store_be64.Goals as goal
 

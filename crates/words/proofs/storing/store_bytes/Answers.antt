@@ -1,9 +1,8 @@
-use Prim.Native.Nat.{ℕ, ◌-◌}
+use Prim.Native.Nat.{ℕ}
 use native.Mathlib.Omega.{arith}
-use lib.ListN.{take, drop, length-take, length-drop}
+use lib.ListN.{length-take, length-drop}
 use lib.Seq.{get_or-take, get_or-drop}
-use borrow.Author.Rules.{rules}
-use Rattle.words.proofs.Stores.{Storing, storing_start, storing_next, storing_end}
+use Rattle.words.proofs.Stores.{storing_start, storing_next, storing_end}
 use Rattle.words.proofs.storing.store_bytes.Goals as goal
 
 pub loop-i-init : goal.loop-i-init

@@ -1,10 +1,7 @@
 -- `storing::store_bytes` meets its contract.
-use Prim.Native.Nat.{ℕ, ◌-◌}
-use native.Mathlib.Omega.{arith}
-use lib.ListN.{take, drop, length-take, length-drop}
-use lib.Seq.{get_or-take, get_or-drop}
-use borrow.Author.Rules.{rules}
-use Rattle.words.proofs.Stores.{Storing, storing_start, storing_next, storing_end}
+use Prim.Native.Nat.{◌-◌}
+use lib.ListN.{take, drop}
+use Rattle.words.proofs.Stores.{Storing}
 use Rattle.words.proofs.storing.store_bytes.Given as goal
 
 abbrev pub invariant-loop-i : goal.invariant-loop-i

@@ -1,9 +1,7 @@
 use mathlib.Core.Path.{sym}
-use Prim.Native.Nat.{◌-◌}
 use native.Mathlib.Omega.{arith}
-use lib.ListN.{replicate, length-replicate, get_or-replicate}
-use borrow.Author.Rules.{rules}
-use Rattle.words.proofs.Stores.{Storing, storing_start, storing_next, storing_end}
+use lib.ListN.{length-replicate, get_or-replicate}
+use Rattle.words.proofs.Stores.{storing_start, storing_next, storing_end}
 use Rattle.words.proofs.storing.store_zeros.Goals as goal
 
 pub loop-i-init : goal.loop-i-init

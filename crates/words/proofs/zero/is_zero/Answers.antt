@@ -1,7 +1,6 @@
 use mathlib.Core.Path.{refl}
-use Prim.Native.Nat.{◌-◌}
 use borrow.Author.Rules.{rules}
-use Rattle.words.proofs.Zeros.{Blank, zeros_next, zeros_not, zeros_end}
+use Rattle.words.proofs.Zeros.{zeros_next, zeros_not, zeros_end}
 use Rattle.words.proofs.zero.is_zero.Goals as goal
 
 pub loop-i-init : goal.loop-i-init

@@ -1,8 +1,6 @@
 -- `zero::is_zero` meets its contract.
-use mathlib.Core.Path.{refl}
 use Prim.Native.Nat.{◌-◌}
-use borrow.Author.Rules.{rules}
-use Rattle.words.proofs.Zeros.{Blank, zeros_next, zeros_not, zeros_end}
+use Rattle.words.proofs.Zeros.{Blank}
 use Rattle.words.proofs.zero.is_zero.Given as goal
 
 abbrev pub invariant-loop-i : goal.invariant-loop-i

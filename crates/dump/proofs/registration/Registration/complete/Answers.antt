@@ -1,6 +1,5 @@
 -- `registration::Registration::complete` meets its contract.
 use mathlib.Core.Path.{◌∙◌}
-use borrow.Author.Rules.{rules}
 use Rattle.dump.specs.Registration.{verdict_of, registration_after}
 use Rattle.dump.proofs.Verdicts.{kept-is}
 use Rattle.dump.proofs.registration.Registration.complete.Goals as goal

@@ -1,6 +1,5 @@
 -- `registration::Registration::configure` meets its contract.
 use mathlib.Core.Path.{◌∙◌}
-use borrow.Author.Rules.{rules}
 use Rattle.dump.specs.Registration.{verdict_of, registration_after}
 use Rattle.dump.proofs.Verdicts.{outside, kept-is}
 use Rattle.dump.proofs.registration.Registration.configure.Goals as goal

@@ -2,7 +2,6 @@
 use mathlib.Core.Path.{◌≡◌, sym, ◌∙◌}
 use mathlib.Core.Bool.{true}
 use borrow.Author.Rules.{rules}
-use borrow.Author.Tests.{not-true, not-false}
 use Rattle.dump.specs.Registration.{acceptable, verdict_of, registration_after}
 use Rattle.dump.proofs.Verdicts.{acceptable_short, acceptable_inside, registered_is, kept-is}
 use Rattle.dump.proofs.registration.Registration.register.Goals as goal

@@ -1,6 +1,5 @@
 -- `reading::Cursor::next` meets its contract.
 use native.Mathlib.Omega.{arith}
-use borrow.Author.Rules.{rules}
 use borrow.Author.Tests.{eq-eqb}
 use Rattle.indices.specs.Cursor.{next_of}
 use Rattle.indices.proofs.IndexLaws.{next_short, next_found, steps_give}

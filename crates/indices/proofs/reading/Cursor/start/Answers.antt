@@ -1,5 +1,4 @@
 -- `reading::Cursor::start` meets its contract.
-use borrow.Author.Rules.{rules}
 use borrow.Author.Tests.{lt-ltb, le-ltb}
 use Rattle.indices.proofs.IndexLaws.{entries_in_order}
 use Rattle.indices.proofs.reading.Cursor.start.Goals as goal

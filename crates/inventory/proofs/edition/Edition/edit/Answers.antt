@@ -1,5 +1,4 @@
 -- `edition::Edition::edit` meets its contract.
-use borrow.Author.Rules.{rules}
 use borrow.Author.Tests.{eq-eqb, ne_eqb}
 use Rattle.inventory.specs.Edition.{edit_of}
 use Rattle.inventory.proofs.Editions.{edition_rises}

@@ -1,5 +1,4 @@
 -- `numbering::StartingNumber::is_among` meets its contract.
-use borrow.Author.Rules.{rules}
 use borrow.Author.Tests.{le-leb, lt-leb}
 use Rattle.inventory.proofs.numbering.StartingNumber.is_among.Goals as goal
 

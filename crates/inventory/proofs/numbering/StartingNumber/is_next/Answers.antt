@@ -1,6 +1,5 @@
 -- `numbering::StartingNumber::is_next` meets its contract.
 use mathlib.Core.Path.{refl}
-use borrow.Author.Rules.{rules}
 use Rattle.inventory.proofs.numbering.StartingNumber.is_next.Goals as goal
 
 pub returns : goal.returns

@@ -1,11 +1,9 @@
-use mathlib.Core.Path.{◌≡◌, refl, sym, ◌∙◌}
-use Prim.Native.Nat.{◌+◌, ◌-◌, ◌≤◌}
+use mathlib.Core.Path.{refl, sym, ◌∙◌}
+use Prim.Native.Nat.{◌+◌, ◌≤◌}
 use native.Mathlib.Omega.{arith}
-use lib.ListN.{length, drop}
-use borrow.Author.Rules.{rules}
+use lib.ListN.{length}
 use Rattle.node_area.proofs.Steps.{room, no_room, ends_out, ends_zero, goes_on, steps_give}
-use Rattle.node_area.specs.Claims.Cursor.{step_at, next_of}
-use Rattle.words.specs.Numbers.{words}
+use Rattle.node_area.specs.Claims.Cursor.{next_of}
 use Rattle.node_area.proofs.reading.Cursor.next.Goals as goal
 
 pub loop-left-init : goal.loop-left-init

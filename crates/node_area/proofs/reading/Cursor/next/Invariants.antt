@@ -1,11 +1,8 @@
 -- `reading::Cursor::next` meets its contract.
-use mathlib.Core.Path.{◌≡◌, refl, sym, ◌∙◌}
-use Prim.Native.Nat.{◌+◌, ◌-◌, ◌≤◌}
-use native.Mathlib.Omega.{arith}
+use mathlib.Core.Path.{◌≡◌}
+use Prim.Native.Nat.{◌-◌}
 use lib.ListN.{length, drop}
-use borrow.Author.Rules.{rules}
-use Rattle.node_area.proofs.Steps.{room, no_room, ends_out, ends_zero, goes_on, steps_give}
-use Rattle.node_area.specs.Claims.Cursor.{step_at, next_of}
+use Rattle.node_area.specs.Claims.Cursor.{step_at}
 use Rattle.words.specs.Numbers.{words}
 use Rattle.node_area.proofs.reading.Cursor.next.Given as goal
 

@@ -1,5 +1,4 @@
 -- `state::StateVariable::is_within` meets its contract.
-use borrow.Author.Rules.{rules}
 use borrow.Author.Tests.{eq-eqb, ne_eqb}
 use Rattle.node_area.proofs.state.StateVariable.is_within.Goals as goal
 

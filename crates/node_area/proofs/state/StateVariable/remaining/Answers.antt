@@ -1,5 +1,4 @@
 -- `state::StateVariable::remaining` meets its contract.
-use borrow.Author.Rules.{rules}
 use Rattle.node_area.proofs.state.StateVariable.remaining.Goals as goal
 
 pub returns : goal.returns

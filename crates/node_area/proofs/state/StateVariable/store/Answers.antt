@@ -1,5 +1,4 @@
 -- `state::StateVariable::store` meets its contract.
-use borrow.Author.Rules.{rules}
 use Rattle.words.proofs.Stores.{store_first}
 use Rattle.node_area.proofs.state.StateVariable.store.Goals as goal
 
