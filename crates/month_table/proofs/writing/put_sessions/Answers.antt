@@ -17,14 +17,18 @@ put_session-to-requires c =
     let ds = c.args.digests.now in
     let a = rw (sessions_step ds c.loop-from.from (omega arith)) at c.loop-from.invariant.1 in
     let size : c.loop-from.from + 32 - c.loop-from.from ≡ 32 = omega arith in
-    rw size (fits-first _ (session_row (take 32 (drop c.loop-from.from ds))) (session_rows ((length ds - (c.loop-from.from + 32)) / 32) (drop (c.loop-from.from + 32) ds)) a.fits)
+    rw size (fits-first _ (session_row (take 32 (drop c.loop-from.from ds)))
+    (session_rows ((length ds - (c.loop-from.from + 32)) / 32) (drop (c.loop-from.from + 32) ds)) a.fits)
 
 pub loop-from-preserved : goal.loop-from-preserved
 loop-from-preserved c =
     let ds = c.args.digests.now in
     let a = rw (sessions_step ds c.loop-from.from (omega arith)) at c.loop-from.invariant.1 in
-    let size : c.loop-from.from + 32 - c.loop-from.from ≡ 32 = omega arith in
-    (omega arith, ahead_then (session_rows ((length ds - (c.loop-from.from + 32)) / 32) (drop (c.loop-from.from + 32) ds)) a (rw size at c.put_session-to.ensures))
+    let size : c.loop-from.from + 32 - c.loop-from.from ≡ 32 = omega arith in (
+      omega arith,
+      ahead_then (session_rows ((length ds - (c.loop-from.from + 32)) / 32) (drop (c.loop-from.from + 32) ds)) a
+          (rw size at c.put_session-to.ensures),
+    )
 
 pub returns : goal.returns
 returns c =
