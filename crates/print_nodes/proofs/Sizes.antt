@@ -22,19 +22,19 @@ use Rattle.node_area.specs.Head.{area_size, head_size, state_in, unit_in, reserv
 use Rattle.node_area.specs.Claims.Cursor.{remaining, start_of}
 use Rattle.node_area.proofs.Verdicts.{entries_in_order}
 use Rattle.printing.specs.Put.{Fits}
-use Rattle.printing.specs.Text.{hex_digits, newline, space, state-, delete-, end-, numbered, ended, operand, refusal_line}
+use Rattle.printing.specs.Text.{hex_digits, newline, state-, delete-, end-, numbered, ended, operand, refusal_line}
 use Rattle.words.proofs.Claims.{numbers_exactly, zeros_exactly}
 use Rattle.node_area.proofs.ReaderClaims.{node_reader_exactly}
 use Rattle.printing.proofs.Digits.{digits_exactly}
 use Rattle.printing.proofs.Sizes.{length_hex_digits, length_ended, length_operand, length_refusal, inside_buffer}
-use Rattle.print_nodes.specs.Text.{update-, add-, unit-, scope_of, line, lines, unit_line, text}
+use Rattle.print_nodes.specs.Text.{update-, unit-, scope_of, line, lines, unit_line, text}
 use Rattle.print_nodes.specs.Claims.PrintNodes.{TextExactly, ScopeExactly, LongInput, PrintNodesPromise}
 
 length_line : (o : Operation) → length (line o) ≤ 22
 unfolding line
 length_line (Delete p) = omega (arith, length-append (operand delete- p) newline, length_operand delete- p)
 length_line (Update p) = omega (arith, length-append (operand update- p) newline, length_operand update- p)
-length_line (Add p i) = omega (arith, length-append (operand add- p ++ operand space i) newline, length-append (operand add- p) (operand space i), length_operand add- p, length_operand space i)
+length_line (Add p i) = rw (length-append, length-append, length_operand, length_operand) (omega arith)
 
 length-lines : (os : List Operation) → length (lines os) ≤ 22 * length os
 unfolding lines

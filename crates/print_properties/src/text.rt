@@ -35,7 +35,8 @@ fn put_entry(descriptor: u32, name: &[u8], value: &[u8], out: &mut [u8], at: usi
     if descriptor == DELETION {
         return put_named(b"delete ", name, out, at);
     }
-    if DELETION < descriptor {
+    let is_part = DELETION < descriptor;
+    if is_part {
         let after = put_named(b"part ", name, out, at);
         return put_value(value, out, after);
     }

@@ -30,7 +30,8 @@ pub returns-then-sessions-ne0 : goal.returns-then-sessions-ne0
 returns-then-sessions-ne0 c =
     let begun : begins head c.args.text.now ≡ true =
     sym c.begins_with.ensures ∙ c.if-not-begins_with.false in
-    judges_sessions _ (begun) c.read_rows-rows.ensures c.if-rows-ne0.false c.read_sessions-sessions.ensures c.if-sessions-ne0.true _ c.wrong_at-then-sessions-ne0.ensures
+    judges_sessions _ (begun) c.read_rows-rows.ensures c.if-rows-ne0.false c.read_sessions-sessions.ensures c.if-sessions-ne0.true _
+    c.wrong_at-then-sessions-ne0.ensures
 
 pub returns : goal.returns
 returns c =

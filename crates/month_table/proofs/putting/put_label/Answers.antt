@@ -21,7 +21,11 @@ put_bytes-to-requires c =
 
 pub put_word-requires-2 : goal.put_word-requires-2
 put_word-requires-2 c =
-    let p = c.args.p in record { k_bound = omega arith; fits = fits_then (word (p % 8)) (rw (label_token _ c.if-p-ge32.false) at c.requires.fits) c.put_bytes-to.ensures }
+    let p = c.args.p in record {
+      k_bound = omega arith;
+      fits = fits_then (word (p % 8)) (rw (label_token _ c.if-p-ge32.false) at c.requires.fits)
+          c.put_bytes-to.ensures;
+    }
 
 pub returns : goal.returns
 returns c =

@@ -24,7 +24,11 @@ pub put_row-to-requires : goal.put_row-to-requires
 put_row-to-requires c =
     let figures = c.args.figures in
     let a = rw (rows_step _ figures c.loop-p-test.true) at c.loop-p.invariant.1 in
-    record { p_bound = c.loop-p-test.true; fits = rw c.place_of-place.ensures (fits-first _ (row c.loop-p.p (get_or figures (place c.loop-p.p) 0)) (rows_from (39 - (c.loop-p.p + 1)) (c.loop-p.p + 1) figures) a.fits) }
+    record {
+      p_bound = c.loop-p-test.true;
+      fits = rw c.place_of-place.ensures
+          (fits-first _ (row c.loop-p.p (get_or figures (place c.loop-p.p) 0)) (rows_from (39 - (c.loop-p.p + 1)) (c.loop-p.p + 1) figures) a.fits);
+    }
 
 pub loop-p-preserved : goal.loop-p-preserved
 loop-p-preserved c =

@@ -15,20 +15,24 @@ loop-from-init c =
 pub put_session-to-requires : goal.put_session-to-requires
 put_session-to-requires c =
     let ds = c.args.digests.now in
-    let a = rw (sessions_step ds _ c.loop-from-test.true) at c.loop-from.invariant.1 in
+    let a = rw (sessions_step ds c.loop-from.from (omega arith)) at c.loop-from.invariant.1 in
     let size : c.loop-from.from + 32 - c.loop-from.from ≡ 32 = omega arith in
-    rw size (fits-first _ (session_row (take 32 (drop c.loop-from.from ds))) (session_rows ((length ds - (c.loop-from.from + 32)) / 32) (drop (c.loop-from.from + 32) ds)) a.fits)
+    rw size (fits-first _ (session_row (take 32 (drop c.loop-from.from ds)))
+    (session_rows ((length ds - (c.loop-from.from + 32)) / 32) (drop (c.loop-from.from + 32) ds)) a.fits)
 
 pub loop-from-preserved : goal.loop-from-preserved
 loop-from-preserved c =
     let ds = c.args.digests.now in
-    let a = rw (sessions_step ds _ c.loop-from-test.true) at c.loop-from.invariant.1 in
-    let size : c.loop-from.from + 32 - c.loop-from.from ≡ 32 = omega arith in
-    (omega arith, ahead_then (session_rows ((length ds - (c.loop-from.from + 32)) / 32) (drop (c.loop-from.from + 32) ds)) a (rw size at c.put_session-to.ensures))
+    let a = rw (sessions_step ds c.loop-from.from (omega arith)) at c.loop-from.invariant.1 in
+    let size : c.loop-from.from + 32 - c.loop-from.from ≡ 32 = omega arith in (
+      omega arith,
+      ahead_then (session_rows ((length ds - (c.loop-from.from + 32)) / 32) (drop (c.loop-from.from + 32) ds)) a
+          (rw size at c.put_session-to.ensures),
+    )
 
 pub returns : goal.returns
 returns c =
-    ahead_none (rw (sessions_end _ _ c.loop-from-test.false) at c.loop-from.invariant.1)
+    ahead_none (rw (sessions_end c.args.digests.now c.loop-from.from (omega arith)) at c.loop-from.invariant.1)
 
 pub shape_of-out : goal.shape_of-out
 shape_of-out c =

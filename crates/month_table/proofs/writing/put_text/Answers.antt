@@ -15,13 +15,15 @@ pub put_rows-last-requires : goal.put_rows-last-requires
 unfolding text
 put_rows-last-requires c =
     let ds = c.args.digests.now in
-    fits-first _ (rows_from 39 0 c.args.figures) (session_rows (length ds / 32) ds) (fits_then (rows_from 39 0 c.args.figures ++ session_rows (length ds / 32) ds) c.requires c.put_bytes-first.ensures)
+    fits-first _ (rows_from 39 0 c.args.figures) (session_rows (length ds / 32) ds)
+    (fits_then (rows_from 39 0 c.args.figures ++ session_rows (length ds / 32) ds) c.requires c.put_bytes-first.ensures)
 
 pub put_sessions-requires : goal.put_sessions-requires
 unfolding text
 put_sessions-requires c =
     let ds = c.args.digests.now in
-    fits_then (session_rows (length ds / 32) ds) (fits_then (rows_from 39 0 c.args.figures ++ session_rows (length ds / 32) ds) c.requires c.put_bytes-first.ensures) c.put_rows-last.ensures
+    fits_then (session_rows (length ds / 32) ds) (fits_then (rows_from 39 0 c.args.figures ++ session_rows (length ds / 32) ds) c.requires
+    c.put_bytes-first.ensures) c.put_rows-last.ensures
 
 pub returns : goal.returns
 unfolding text

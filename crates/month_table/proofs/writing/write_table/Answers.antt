@@ -31,7 +31,11 @@ returns-then-rows-sessions c =
     length_text _ _ c.if-digests-ne0.false ∙ rw c.rows_length-rows.ensures in
     let l = long in
     let w = c.if-digests-ne0.false in
-    record { value = short_answer _ _ w _ _ (omega (arith, c.if-rows-sessions.true)) (omega (arith, c.if-rows-sessions.true)); out_after = short_buffer _ _ w _ (omega (arith, c.if-rows-sessions.true)) }
+    record {
+      value = short_answer _ _ w _ _ (omega (arith, c.if-rows-sessions.true)) (omega (arith, c.if-rows-sessions.true));
+      out_after =
+          short_buffer _ _ w _ (omega (arith, c.if-rows-sessions.true));
+    }
 
 pub overflow_add-length : goal.overflow_add-length
 overflow_add-length c =
@@ -47,7 +51,11 @@ returns-then-out-length c =
     omega (arith, c.rows_length-rows.ensures, all_few c.args.table.figures) in
     let l = long in
     let w = c.if-digests-ne0.false in
-    record { value = short_answer _ _ w _ _ (omega (arith, c.if-out-length.true)) (omega (arith, c.if-rows-sessions.false, few)); out_after = short_buffer _ _ w _ (omega (arith, c.if-out-length.true)) }
+    record {
+      value = short_answer _ _ w _ _ (omega (arith, c.if-out-length.true)) (omega (arith, c.if-rows-sessions.false, few));
+      out_after =
+          short_buffer _ _ w _ (omega (arith, c.if-out-length.true));
+    }
 
 pub put_text-requires : goal.put_text-requires
 put_text-requires c =
@@ -61,7 +69,11 @@ returns c =
     length_text _ _ c.if-digests-ne0.false ∙ rw c.rows_length-rows.ensures in
     let l = long in
     let w = c.if-digests-ne0.false in
-    record { value = written_answer _ _ w _ _ (omega (arith, c.if-out-length.false)) (omega (arith, c.put_text.ensures.place)); out_after = c.put_text.ensures.stored ∙ written_buffer _ _ w _ (omega (arith, c.if-out-length.false)) }
+    record {
+      value = written_answer _ _ w _ _ (omega (arith, c.if-out-length.false)) (omega (arith, c.put_text.ensures.place));
+      out_after =
+          c.put_text.ensures.stored ∙ written_buffer _ _ w _ (omega (arith, c.if-out-length.false));
+    }
 
 pub shape_of-out : goal.shape_of-out
 shape_of-out c =

@@ -16,7 +16,8 @@ returns-in-End c =
 
 pub put_line-to-requires : goal.put_line-to-requires
 put_line-to-requires c =
-    let entry : let input = c.args.input.now in Ahead (lines (remaining input start_of)) c.args.out.now c.args.at c.loop-o.out c.loop-o.to (line c.in-Entry.o ++ lines (remaining input c.in-Entry.behind)) =
+    let entry : let input = c.args.input.now in Ahead (lines (remaining input start_of)) c.args.out.now c.args.at c.loop-o.out c.loop-o.to
+    (line c.in-Entry.o ++ lines (remaining input c.in-Entry.behind)) =
     rw (lines_entry _ _ _ _ (sym c.next-step.ensures.value ∙ c.in-Entry.is)) at c.loop-o.invariant in
     fits-first _ (line _) _ entry.fits
 
@@ -27,7 +28,8 @@ loop-o-smaller c =
 
 pub loop-o-preserved : goal.loop-o-preserved
 loop-o-preserved c =
-    let entry : let input = c.args.input.now in Ahead (lines (remaining input start_of)) c.args.out.now c.args.at c.loop-o.out c.loop-o.to (line c.in-Entry.o ++ lines (remaining input c.in-Entry.behind)) =
+    let entry : let input = c.args.input.now in Ahead (lines (remaining input start_of)) c.args.out.now c.args.at c.loop-o.out c.loop-o.to
+    (line c.in-Entry.o ++ lines (remaining input c.in-Entry.behind)) =
     rw (lines_entry _ _ _ _ (sym c.next-step.ensures.value ∙ c.in-Entry.is)) at c.loop-o.invariant in
     ahead_then _ (entry) c.put_line-to.ensures
 

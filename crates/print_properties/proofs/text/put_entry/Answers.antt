@@ -1,4 +1,5 @@
 -- `text::put_entry` meets its contract.
+use native.Mathlib.Omega.{arith}
 use Rattle.printing.proofs.Puts.{fits-first, fits_then, put_then}
 use Rattle.printing.specs.Text.{named}
 use Rattle.print_properties.specs.Text.{part-, property-, value_text}
@@ -16,33 +17,33 @@ returns-then-descriptor-eq-DELETION c =
 pub put_named-after-requires : goal.put_named-after-requires
 put_named-after-requires c =
     let value = c.args.value.now in
-    let part = entry_part _ c.args.name.now value c.if-descriptor-eq-DELETION.false c.if-descriptor-gt-DELETION.true in
+    let part = entry_part _ c.args.name.now value c.if-descriptor-eq-DELETION.false (omega arith) in
     fits-first _ (named part- _) (value_text value) (rw part at c.requires)
 
 pub put_value-requires : goal.put_value-requires
 put_value-requires c =
     let value = c.args.value.now in
-    let part = entry_part _ c.args.name.now value c.if-descriptor-eq-DELETION.false c.if-descriptor-gt-DELETION.true in
+    let part = entry_part _ c.args.name.now value c.if-descriptor-eq-DELETION.false (omega arith) in
     fits_then (value_text value) (rw part at c.requires) c.put_named-after.ensures
 
-pub returns-then-descriptor-gt-DELETION : goal.returns-then-descriptor-gt-DELETION
-returns-then-descriptor-gt-DELETION c =
-    let part = entry_part _ c.args.name.now c.args.value.now c.if-descriptor-eq-DELETION.false c.if-descriptor-gt-DELETION.true in
+pub returns-then-is_part : goal.returns-then-is_part
+returns-then-is_part c =
+    let part = entry_part _ c.args.name.now c.args.value.now c.if-descriptor-eq-DELETION.false (omega arith) in
     rw part (put_then c.put_named-after.ensures c.put_value.ensures)
 
 pub put_named-to-requires : goal.put_named-to-requires
 put_named-to-requires c =
     let value = c.args.value.now in
-    let whole = entry_whole _ c.args.name.now value c.if-descriptor-eq-DELETION.false c.if-descriptor-gt-DELETION.false in
+    let whole = entry_whole _ c.args.name.now value c.if-descriptor-eq-DELETION.false (omega arith) in
     fits-first _ (named property- _) (value_text value) (rw whole at c.requires)
 
 pub put_value-requires-2 : goal.put_value-requires-2
 put_value-requires-2 c =
     let value = c.args.value.now in
-    let whole = entry_whole _ c.args.name.now value c.if-descriptor-eq-DELETION.false c.if-descriptor-gt-DELETION.false in
+    let whole = entry_whole _ c.args.name.now value c.if-descriptor-eq-DELETION.false (omega arith) in
     fits_then (value_text value) (rw whole at c.requires) c.put_named-to.ensures
 
 pub returns : goal.returns
 returns c =
-    let whole = entry_whole _ c.args.name.now c.args.value.now c.if-descriptor-eq-DELETION.false c.if-descriptor-gt-DELETION.false in
+    let whole = entry_whole _ c.args.name.now c.args.value.now c.if-descriptor-eq-DELETION.false (omega arith) in
     rw whole (put_then c.put_named-to.ensures c.put_value-2.ensures)
