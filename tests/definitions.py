@@ -6,15 +6,15 @@ import dataclasses
 import re
 import sys
 
-TOKEN = re.compile(r'\.(?:«\w+»|[\w·-]*\w)(?=[\s(){};,]|\.\w|$)|[^\s(){};,.]+(?:\.[^\s(){};,.]+)*|[(){};,.]')
+TOKEN = re.compile(r"\.(?:«\w+»|[\w'-]*[\w'])(?=[\s(){};,]|\.\w|$)|[^\s(){};,.]+(?:\.[^\s(){};,.]+)*|[(){};,.]")
 DECLARED_TOKEN = re.compile(r"'\w+|\w+|[^\w\s]")
 COMMENT = re.compile(r'(^|\s)(--|//)(\s.*|$)')
 HEADER = re.compile(r'((?:(?:abbrev|unfoldable|pub|private|record|data) )+)(\S+) ')
-USE = re.compile(r'(?:ghost |pub )*use ([\w·.-]+?)(?:\.\{(.*)\}|(?: as (\S+))?);?$')
-HOME = re.compile(r'Rattle·(\w+?)(?:·specs)?\.specs\.(.+)$')
+USE = re.compile(r'(?:ghost |pub )*use ([\w.-]+?)(?:\.\{(.*)\}|(?: as (\S+))?);?$')
+HOME = re.compile(r'Rattle\.(?!std\b)(\w+)\.specs\.(.+)$')  # std is the kit's
 DECLARATION = re.compile(
     r'(?m)^(?:pub )?(?:(struct|enum) (\w+)(?:<[^>]*>)?\s*([({](?:[^{}()]|\([^()]*\)|\{[^{}]*\})*[)}])|(const) (\w+): [^=]* = ([^;]*);)')
-DECLARED_USE = re.compile(r'(?m)^(?:pub )?use (\w+)::(?:(\w+)::)?(\w+);')
+DECLARED_USE = re.compile(r'(?m)^(?:pub )?use (\w+)::(?:(\w+)::)?(?:(\w+)|\{([^{}]*)\});')
 PATH = re.compile(r'crates/(\w+)/(specs|src)/(.*)\.(?:antt|rt)')
 BRACKETS = {'(': ')', '{': '}'}
 
@@ -47,7 +47,7 @@ class Scope:
         for name in names.split(', ') if names else []:
             original, _, other = name.partition(' as ')
             local = (other or original).strip()
-            self.names[local.strip('_') if local.startswith('_') else local] = (*place, original.strip())
+            self.names[local.replace('◌', '')] = (*place, original.strip())
 
     def path(self, name):
         """The crate, module and name that a name of this file stands for; None if no line names it."""
@@ -57,7 +57,15 @@ class Scope:
         return self.names.get(name)
 
 
-def tree(text):
+def dotted(token, aliases):
+    """The words of a token: `x.f.g` is `x`, `.f` and `.g`; what begins with a module's alias, as `nodes.f`, is one name."""
+    first, *rest = token.split('.')
+    if not first or not rest:
+        return [token]
+    return [f'{first}.{rest[0]}', *(f'.{name}' for name in rest[1:])] if first in aliases else [first, *(f'.{name}' for name in rest)]
+
+
+def tree(text, aliases=()):
     """A text as words; a part in brackets is a tuple, its opening bracket first."""
     levels = [[]]
     for token in TOKEN.findall(text):
@@ -67,7 +75,7 @@ def tree(text):
             group = tuple(levels.pop())
             levels[-1].append(group)
         else:
-            levels[-1].append(token.replace('«', '').replace('»', ''))
+            levels[-1] += dotted(token.replace('«', '').replace('»', ''), aliases)
     return levels[0]
 
 
@@ -118,29 +126,31 @@ def blocks(text):
     return found, uses
 
 
-def clause(lines):
+def clause(lines, aliases):
     """A clause: its left side, its right side, and the clauses that follow its `where`."""
     ends = [at for at, line in enumerate(lines) if line.strip() == 'where'] or [len(lines)]
-    left, right = split(tree(' '.join(lines[:ends[0]])), '=', 2)
+    left, right = split(tree(' '.join(lines[:ends[0]]), aliases), '=', 2)
     return left, right, statements(lines[ends[0] + 1:]) if lines[ends[0] + 1:] else []
 
 
 def definition(around, lines, scope):
     """A definition of specs/ from its lines."""
+    def words_of(text):
+        return tree(text, scope.aliases)
     words, name = HEADER.match(lines[0]).groups()
     kind = ('record' in words and 'record') or ('data' in words and 'data') or 'term'
     key = (scope.crate, scope.module, name)
     if kind == 'term':
         first, *others = statements(lines)
-        head = split(tree(' '.join(first)[len(words):]), ':', 2)
-        return Definition(key, kind, tree(around) + head[0][1:], head[1], {}, [clause(other) for other in others], scope)
+        head = split(words_of(' '.join(first)[len(words):]), ':', 2)
+        return Definition(key, kind, words_of(around) + head[0][1:], head[1], {}, [clause(other, scope.aliases) for other in others], scope)
     at = next(at for at, line in enumerate(lines) if line.endswith(' where'))
-    head = split(tree(' '.join(lines[:at + 1])[len(words):]), ':', 2)
+    head = split(words_of(' '.join(lines[:at + 1])[len(words):]), ':', 2)
     members = {}
     for member in statements(lines[at + 1:]) if lines[at + 1:] else []:
-        left, right = split(tree(' '.join(member)), ':', 2)
+        left, right = split(words_of(' '.join(member)), ':', 2)
         members[left[-1]] = right
-    return Definition(key, kind, tree(around) + head[0][1:], head[1][:-1], members, [], scope)
+    return Definition(key, kind, words_of(around) + head[0][1:], head[1][:-1], members, [], scope)
 
 
 def unread(scope, line):
@@ -183,8 +193,9 @@ def read_declared(crate, module, text):
     """The structs, enums and constants of a file of src/."""
     scope = Scope(crate, f'declared.{module}')
     text = '\n'.join(COMMENT.sub('', line) for line in text.splitlines())
-    for home, file, name in DECLARED_USE.findall(text):
-        scope.names[name] = (crate if home == 'crate' else home, file, name)
+    for home, file, alone, some in DECLARED_USE.findall(text):
+        for name in [alone] if alone else re.findall(r'\w+', some):
+            scope.names[name] = (crate if home == 'crate' else home, file, name)
     for kind, name, body, const, constant, value in DECLARATION.findall(text):
         key = (crate, scope.module, name or constant)
         members = declared_members(kind, body) if kind else {}

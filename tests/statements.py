@@ -65,8 +65,8 @@ class World:
         """What a path names: a key; the key of a type and the number of a constructor; or a name of the kit."""
         crate, module, name = path
         if module.startswith('declared.'):
-            key = (crate, *module.removesuffix('.the-variants').rsplit('.', 1))
-            if key in self.all and module.endswith('.the-variants') and name in self.all[key].members:
+            key = (crate, *module.removesuffix('.TheVariants').rsplit('.', 1))
+            if key in self.all and module.endswith('.TheVariants') and name in self.all[key].members:
                 return key, list(self.all[key].members).index(name)
             path = key if key[2] == name else path
         if path in self.all:

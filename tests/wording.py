@@ -11,8 +11,9 @@ NUMERAL = re.compile(r'(?:0x[0-9a-fA-F_]+|0o[0-7_]+|0b[01_]+|\d[\d_]*)(?:[ui](?:
 WIDTH = re.compile(r'[ui](?:8|16|32|64|size)$')
 ALONE = {'zero', 'true', 'false', '[]'}  # constructors of the kit that stand alone in a pattern
 # of functions of the kit, the arguments that are of the type that is given
-GIVES = {'lib.ListN.getD': (3,), 'mathlib.Core.Bool.cond': (2, 3), 'lib.ListN.take': (2,), 'lib.ListN.drop': (2,)}
-LIST = 'mathlib.Core.List.List'
+KIT = 'Rattle.std.specs.Prelude.'
+GIVES = {f'{KIT}get_or': (3,), f'{KIT}cond': (2, 3), f'{KIT}take': (2,), f'{KIT}drop': (2,)}
+LIST = f'{KIT}List'
 BUILT_IN = {'Type', 'Unit', '⊥', '_'}
 
 
@@ -200,7 +201,7 @@ class Statement:
                 spine.append(self.walk(node[1:], names, self.wanted(spine, wanted)))
                 self.words.append(')')
             elif node[0] == '.' and len(node) > 1:
-                spine = [self.field(node[1:], self.given(spine))]
+                spine[-1:] = [self.field(node[1:], spine[-1] if spine else None)]
             elif is_operator(node):
                 self.words.append(self.world.lookup(self.scope, node) or node)
                 wanted = self.given(spine) if node == '≡' else None if node in '→×' else wanted
@@ -243,7 +244,7 @@ class Statement:
         for node in left[1:]:
             implicit = isinstance(node, tuple) and node[0] == '{'
             names = self.pattern([node], None if implicit or len(kinds) < 2 else kinds.pop(0), names)
-        heads = [split(tree(' '.join(lines)), ':', 2) for lines in local]
+        heads = [split(tree(' '.join(lines), self.scope.aliases), ':', 2) for lines in local]
         for head in heads:
             names = self.bind(head[0][0], self.kind(head[1], names), names) if len(head) == 2 and len(head[0]) == 1 else names
         self.words.append('=')
@@ -252,7 +253,7 @@ class Statement:
             if len(head) == 2 and len(head[0]) == 1:
                 self.walk(head[1], names)
             else:
-                inner = clause(lines)
+                inner = clause(lines, self.scope.aliases)
                 self.words.append(f'${names[inner[0][0]][0]}')
                 self.clause(inner, names[inner[0][0]][1], names)
 
