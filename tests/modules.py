@@ -7,7 +7,9 @@ tests/modules.py MODULE.. reads the modules that the kit lowers the proved libra
 - A pointer that a function takes, is given or returns has no attribute but noundef, which NULL satisfies; a struct that
   is passed by value in memory also has byval and its alignment. A pointer that is loaded has no metadata but !noundef.
   So there is no nonnull, no dereferenceable and no align.
-- No pointer is compared or converted to a number, so no answer depends on its value.
+- No pointer is compared or converted to a number, so no answer depends on its value; but for one thing: an export begins with
+  putting the address 4096 in the place of a buffer that is NULL, in the same four lines each time. The address is read only as
+  far as the length goes, which is 0 there.
 - memcpy, memmove and memset have a constant length above 0: they move values. Buffers are copied byte by byte.
 
 That code reads and writes only inside a buffer is proved, and not looked at here. Each fault is also planted in each
@@ -26,8 +28,15 @@ import header  # noqa: E402
 TARGET = 'powerpc64le-unknown-linux-gnu'
 FUNCTION = re.compile(rf'(define|declare) (?:internal )?(.*?) ?@{carry.NAME}\((.*)\) #\d+(?: {{)?$')
 CALL = re.compile(rf'(?:%{carry.NAME} = )?call (.*?) ?@({carry.NAME})\((.*)\)$')
-LOAD = re.compile(r'%\S+ = load ptr, ptr %\S+, align 8(?:, !noundef !\d+)?$')
+LOAD = re.compile(r'%\S+ = load ptr, ptr %\S+, align [18](?:, !noundef !\d+)?$')
 LENGTH = re.compile(r'i64 [1-9]\d*$')
+# What stands in the place of a buffer that is NULL.
+STAND_IN = re.compile(r'  (%r\d+) = icmp eq ptr (%a\d+), null\n'
+                      r'  (%r\d+) = zext i1 \1 to i64\n'
+                      r'  (%r\d+) = mul i64 \3, 4096\n'
+                      r'  (%r\d+) = getelementptr i8, ptr \2, i64 \4\n'
+                      r'  store ptr \5, ptr %r\d+, align 8\n')
+EXPORT = re.compile(r'define (?!internal )')
 TAKEN = re.compile(r'ptr noundef(?: byval\(\[\d+ x i8\]\) align \d+)?$')
 GIVEN = re.compile(r'ptr(?: noundef)?$')
 DECLARED = re.compile(r'ptr (?:writeonly|readonly) captures\(none\)$')
@@ -50,6 +59,8 @@ PLANTED = [
     (r'.* load ptr', r'!noundef !(\d+)', r'!noundef !\1, !dereferenceable !\1'),
     (r'.* load ptr', r'load ptr, (ptr %\S+),.*', r'icmp eq \1, %r1'),
     (r'.* load ptr', r'load ptr, (ptr %\S+),.*', r'ptrtoint \1 to i64'),
+    (r'.* icmp eq ptr %a', r'icmp eq ptr (%a\d+), null', r'icmp eq ptr \1, %r1'),
+    (r'.* icmp eq ptr %a', r'icmp eq ptr', 'icmp ne ptr'),
 ]
 
 
@@ -88,11 +99,23 @@ def check_line(line):
         raise Fault('a pointer that is compared or converted')
 
 
+def stand_ins(lines):
+    """The numbers of the lines in which an export compares a buffer with NULL, to put the address in its place."""
+    found, exported = set(), False
+    for number, line in enumerate(lines, 1):
+        exported = bool(EXPORT.match(line)) or exported and line != '}'
+        if exported and STAND_IN.match('\n'.join(lines[number - 1:number + 4]) + '\n'):
+            found.add(number)
+    return found
+
+
 def check(lines):
     """Checks every line of a module."""
+    passed = stand_ins(lines)
     for number, line in enumerate(lines, 1):
         try:
-            check_line(line.strip())
+            if number not in passed:
+                check_line(line.strip())
         except Fault as fault:
             raise Fault(f'line {number}, {fault}: {line.strip()[:160]}') from None
 

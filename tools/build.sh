@@ -5,6 +5,19 @@
 # shellcheck disable=SC2034
 static_libraries=(draugsten draugsten_dump draugsten_replay draugsten_tallies draugsten_locations)
 
+# The programs that print areas, each of the crate of its name.
+# shellcheck disable=SC2034
+print_programs=(print_nodes print_properties print_indices)
+
+# Where `rt lib` leaves a static library, and `rt run` a program. `rt ci` takes away what they left.
+archive_of() {
+    echo "crates/$1/out/lib$1.a"
+}
+
+program_of() {
+    echo "crates/$1/out/$1"
+}
+
 say() {
     echo "draugsten: $*" >&2
 }
@@ -33,9 +46,9 @@ end_as() {
     fail "$1 ended with status $status before it had a result; see what stands above, and that its output can be written"
 }
 
-# Whether the mark of a build is there, and nothing of the crates, nor of more sources that are named, is newer.
+# Whether the mark of a build is there, and nothing that the crates are made from, nor of more sources that are named, is newer.
 is_marked() {
-    [[ -e $1 && -z $(find crates crates.txt "${@:2}" -newer "$1" -print -quit) ]]
+    [[ -e $1 && -z $(find crates.txt crates/*/src crates/*/specs crates/*/proofs "${@:2}" -newer "$1" -print -quit) ]]
 }
 
 # Whether a built file is there, and nothing of the crates is newer than the beginning of its build.
@@ -47,7 +60,7 @@ is_new() {
 are_new() {
     local crate
     for crate; do
-        is_new "target/staticlib/lib$crate.a" || return
+        is_new "$(archive_of "$crate")" || return
     done
 }
 
@@ -79,33 +92,42 @@ locked() {
 count_crates() {
     tac crates.txt | awk -v wanted=" $1 " '
         /^#/ { next }
-        { sub(/:/, " ") }
+        { sub(/( staticlib)?:/, " ") }
         index(wanted, " " $1 " ") { count++; for (i = 2; i <= NF; i++) wanted = wanted $i " " }
         END { print count }'
 }
 
-# Of what rt writes, tells each crate that was proved, and how far the build is.
+# Of what rt writes, tells each crate that is proved: how many of its modules are checked now, and how many were by an earlier run.
 tell_proved() {
-    local line count=0
+    local line crate='' now=0 before=0
     while IFS= read -r line; do
-        [[ $line =~ ^rt:\ ([A-Za-z0-9_]+)\ proved\ \((.*)\) ]] || continue
-        count=$((count + 1))
-        [[ ${BASH_REMATCH[2]} == unchanged* ]] || say "proved ${BASH_REMATCH[1]}, crate $count of $1 (${BASH_REMATCH[2]})"
+        if [[ $line =~ ^crate\ ([A-Za-z0-9_]+):\ modules\ loaded=([0-9]+)\ checked=([0-9]+) ]]; then
+            crate=${BASH_REMATCH[1]} before=${BASH_REMATCH[2]} now=${BASH_REMATCH[3]}
+        elif [[ $line == logic=proved* && $crate ]]; then
+            say "proved $crate ($now modules now, $before by an earlier run)"
+            crate=''
+        fi
     done
 }
 
-# Makes a file of a crate by a command of rt. Its mark, FILE.built, has the time of the beginning. `rt check` makes a program
-# that is gone only if it does not know it as proved.
+# Runs a command of rt in a crate's folder: `rt lib` makes a static library, for any x86-64 as the header says, and `rt run` a program,
+# which it then runs once, over an empty input. What it writes is kept in the file that the log is.
+in_crate() {
+    local verb=$1 crate=$2 log=$3 words=()
+    [[ $verb != lib ]] || words=(--cpu x86-64)
+    (cd "crates/$crate" && exec rt "$verb" "${words[@]}") </dev/null 2>&1 | tee "$log" | tell_proved
+}
+
+# Makes a file of a crate by a command of rt. Its mark, FILE.built, has the time of the beginning. What was there goes first, so that what
+# is there afterwards was made now.
 make_file() {
-    local verb=$1 crate=$2 file=$3 log=target/draugsten-build.log count
+    local verb=$1 crate=$2 file=$3 log=target/draugsten-build.log
     is_new "$file" && return
-    count=$(count_crates "$crate")
-    say "building $file once: $count crates are proved, those that are not yet; all of them take up to half an hour, later calls no time"
+    say "building $file once: of its $(count_crates "$crate") crates those that are not proved yet take some minutes each, later calls no time"
     mkdir -p target "$(dirname "$file")"
-    rm -f "$file.built"
+    rm -f "$file" "$file.built"
     touch "$file.begun"
-    [[ $verb != check || -e $file ]] || rm -f "target/stamp/$crate"
-    rt "$verb" "$crate" </dev/null 2>&1 | tee "$log" | tell_proved "$count" || return
+    in_crate "$verb" "$crate" "$log" || return
     [[ -e $file ]] && mv "$file.begun" "$file.built"
 }
 
@@ -114,6 +136,7 @@ need_rt() {
     need rt 'install the Rattle kit and add its folder bin to the PATH'
     need_lock
     need_writable target
+    need_writable crates
 }
 
 # Builds a file of a crate by a command of rt, if it is missing or old.
@@ -128,7 +151,16 @@ build() {
 build_archives() {
     local crate
     for crate; do
-        build staticlib "$crate" "target/staticlib/lib$crate.a"
+        build lib "$crate" "$(archive_of "$crate")"
+    done
+}
+
+# The archives in a folder of their own, in which `ld` and the tests look for all of them.
+gather_archives() {
+    local folder=$1 crate
+    mkdir -p "$folder"
+    for crate in "${@:2}"; do
+        cp -p "$(archive_of "$crate")" "$folder/" || return
     done
 }
 

@@ -29,15 +29,16 @@ NUMBERS = 'i1 i8 i16 i32 i64 ptr void x'
 OPCODES = {
     *'load store alloca call getelementptr br switch ret unreachable icmp zext trunc'.split(),
     *'add sub mul udiv urem and or xor shl lshr select phi'.split(),
+    'extractvalue',  # a part of a struct that a function of the module itself returns
 }
-WORDS = {*NUMBERS.split(), *'to label align nuw nsw inbounds noundef zeroext true false eq ne ult ule ugt uge !range !noundef'.split()}
+WORDS = {*NUMBERS.split(), *'to label align nuw nsw inbounds noundef zeroext true false null eq ne ult ule ugt uge !range !noundef'.split()}
 HEAD_WORDS = {*WORDS, *'define internal byval'.split()}
 DECLARED_WORDS = {*WORDS, *'declare writeonly readonly captures none immarg'.split()}
 INTRINSICS = {'llvm.memcpy.p0.p0.i64', 'llvm.memmove.p0.p0.i64', 'llvm.memset.p0.i64', 'llvm.trap'}
 ATTRIBUTES = {
     *'nounwind nocallback nofree willreturn cold noreturn'.split(),
     'memory(argmem: readwrite)', 'memory(argmem: write)', 'memory(inaccessiblemem: write)',
-    '"probe-stack"="inline-asm"', CPU.strip(),
+    '"probe-stack"="inline-asm"', '"stack-probe-size"="3072"', CPU.strip(),
 }
 
 NAME = r'(?:"[^"]*"|[\w.$-]+)'
