@@ -5,8 +5,8 @@
  * bursts, readers of the work areas that the other three calls fill, and one place to ask for a location code. Link
  * libdraugsten.a, libdraugsten_dump.a for draugsten_run_dump, libdraugsten_replay.a for the functions of the replay, of the
  * month and of its table, libdraugsten_tallies.a for those of the tallies and of intakes and draugsten_forecast, and
- * libdraugsten_locations.a for draugsten_lookup and the views of index areas; none needs another. rt staticlib builds them
- * for x86-64, and ./draugsten power for powerpc64 and powerpc64le. draugsten_text.h has words for the numbers below.
+ * libdraugsten_locations.a for draugsten_lookup and the views of index areas; none needs another. rt lib --cpu x86-64 builds
+ * them for x86-64, and ./draugsten power for powerpc64 and powerpc64le. draugsten_text.h has words for the numbers below.
  *
  * For every function:
  * - It takes any contents and any lengths, and returns.

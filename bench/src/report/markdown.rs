@@ -313,7 +313,7 @@ fn method(effort: Effort) -> String {
         entry to entry or from property to property. Neither judges anything, and beside a session both go over the bytes once for each of its \
         calls: these are the passes. *Rust* is straightforward safe Rust written for release (`bench/src/plain`), \
         *independent* the rules written out plainly and not for speed (`compare/src/paper`); `cargo build --release` \
-        builds both, and `rt staticlib` the proved archives. The scope is 1 where no other is named; in scope 3 one \
+        builds both, and `rt lib` the proved archives. The scope is 1 where no other is named; in scope 3 one \
         of the two units in the journal is asked for, and of an inventory's types the last. One call of update-nodes \
         begins at state 0, one of get-indices in the middle of the list, with a reading record that names it, one of \
         update-properties in the middle of the session; every work area has 4,096 bytes. The scan of \
