@@ -7,11 +7,15 @@ is known reads and writes numbers of 8 to 64 bits, pointers and bytes, whose siz
 machines, and hands parts of memory on as they lie there. What changes:
 
 - the layout and the triple;
+- on powerpc64 the bytes of a constant table of numbers of eight bytes, each number's in their other order. A constant is bytes, or has to be such a
+  table of src/ (`const NAME: [usize; N]`);
 - the attribute captures(none), which allows more to the optimiser, and which the older compiler does not know: left out;
 - "target-cpu": left out, so that the compiler's own lowest one of the target is taken;
 - on powerpc64 a struct that x86-64 returns in registers is returned in memory, as its calling convention (ELFv1) has it: a
   function is put in front of such an export. On powerpc64le (ELFv2) a struct of 8 or 16 bytes is returned in registers too.
 """
+import functools
+import pathlib
 import re
 import sys
 
@@ -48,6 +52,8 @@ DECLARE = re.compile(rf'declare .*?@({NAME})\((.*)\) #\d+$')
 ATTRIBUTE_LINE = re.compile(r'attributes #\d+ = { (.*) }$')
 ATTRIBUTE = re.compile(r'"[^"]*"(?:="[^"]*")?|[\w-]+(?:\([^)]*\))?|\S+')
 METADATA = re.compile(r'(!llvm\.ident = !\{!\d+\}|!\d+ = !\{(!"rattle logic=\w+"|i8 0, i8 2)?\})$')
+CONSTANT = re.compile(r'(@static\.\d+ = private unnamed_addr constant \[\d+ x i8\] )(?:c"([^"]*)"|zeroinitializer), align ([18])$')
+TABLE = re.compile(r'(?m)^(?:pub )?const \w+: \[(?:usize|u64); \w+\] = \[([\d\w,\s]*)\];')
 CALL = re.compile(rf'(?:%{NAME} = )?call [^@]*?@({NAME})\(')
 INSTRUCTION = re.compile(rf'(?:%{NAME} = )?([^ ]+)')
 CASE = re.compile(r'i(8|16|32|64) -?\d+, label ')
@@ -81,7 +87,7 @@ def check_instruction(line, functions):
 
 def check_top(line):
     """A line outside every function."""
-    if line in (LAYOUT, TRIPLE, 'source_filename = "rattle"') or METADATA.match(line):
+    if line in (LAYOUT, TRIPLE, 'source_filename = "rattle"') or METADATA.match(line) or CONSTANT.match(line):
         return
     attributes, declared = ATTRIBUTE_LINE.match(line), DECLARE.match(line)
     if attributes:
@@ -167,8 +173,32 @@ def carry_head(line, target, declared, behind):
     return f'define internal {returned}@"{name}, in registers"({parameters}) {re.search(r"#[0-9]+", line)[0]} {{'
 
 
+@functools.cache
+def tables():
+    """The constant tables of numbers of eight bytes in src/, as they lie in memory on x86-64."""
+    root = pathlib.Path(__file__).resolve().parent.parent
+    found = [TABLE.findall(path.read_text(encoding='utf-8')) for path in root.glob('crates/*/src/**/*.rt')]
+    return {b''.join(int(number, 0).to_bytes(8, 'little') for number in re.findall(r'\w+', table)) for some in found for table in some}
+
+
+def carry_constant(line, target):
+    """A constant, as the target has it."""
+    head, text, align = CONSTANT.match(line).groups()
+    if align == '1':
+        return line
+    lies = re.sub(rb'\\([0-9A-F]{2})', lambda escaped: bytes.fromhex(escaped[1].decode()), (text or '').encode('latin-1'))
+    if lies not in tables():
+        raise Unknown('a constant that is neither bytes nor a table of numbers of src/')
+    if TARGETS[target] == 'e':
+        return line
+    turned = b''.join(lies[at:at + 8][::-1] for at in range(0, len(lies), 8))
+    return f'{head}c"{"".join(f"{chr(92)}{byte:02X}" for byte in turned)}", align 8'
+
+
 def carry_line(line, target, layout):
     """A line that needs no look at its function. The three lines are replaced whole, the two attributes left out."""
+    if CONSTANT.match(line):
+        return carry_constant(line, target)
     if line == LAYOUT:
         return f'target datalayout = "{layout}"'
     if line == TRIPLE:
