@@ -11,7 +11,7 @@ use Rattle.words.proofs.Choice.{decide}
 use Rattle.journal.specs.Property.{name_limit}
 use Rattle.properties.specs.Changes.{Change, stop, from, is_due, offset_or}
 
--- 02: "names have 1 to 31 non_zero bytes"; a deletion has no value. (No law needs the limit of a value's length.)
+-- 02: "names have 1 to 31 non-zero bytes"; a deletion has no value. (No law needs the limit of a value's length.)
 pub record Good (c : Change) : Type 0 where
   pub inside : c.at ≤ c.start
   pub long : c.at < stop c

@@ -7,7 +7,7 @@ use Rattle.records.specs.Records.{whole}
 use Rattle.inventory.specs.Inventory.{good_record, well_formed}
 use Rattle.inventory.specs.Listing.{Entry, listed}
 
--- "kind 16 holds two bytes (0 indicator, 1 sensor), a four-byte type, a four-byte index and a location code of 1 to 79 non_zero bytes; length 12 plus
+-- "kind 16 holds two bytes (0 indicator, 1 sensor), a four-byte type, a four-byte index and a location code of 1 to 79 non-zero bytes; length 12 plus
 -- the code."
 -- 02, M-113: "codes up to 1,023 bytes". Type and index are any.
 pub record Good (r : List ℕ) : Type 0 where

@@ -6,7 +6,7 @@ use Rattle.property_area.specs.Piece.{Piece}
 use Rattle.property_area.specs.Reading.{reading}
 use Rattle.property_area.specs.Area.{answer, written}
 
--- a piece that an area can hold: "names have 1 to 31 non_zero bytes"; a deletion has no value, and a part of a value has a byte
+-- a piece that an area can hold: "names have 1 to 31 non-zero bytes"; a deletion has no value, and a part of a value has a byte
 pub record SoundPiece (p : Piece) : Type 0 where
   pub named : 1 ≤ length p.part.name
   pub short : length p.part.name ≤ 31
