@@ -64,10 +64,10 @@ fn answer_area(area: &mut [u8], j: &[u8], row: &[u8; 17], scope: u32) -> Status
     ensures area_after { area.new ≡ area_after scope (asking row.now (units_of scope (unit_in area.old))) j.now
         area.old }
 {
-    let scanned = scanning::scan(j, row, units_in(area, scope));
+    let mut marks: [u64; 128] = [0; 128];
+    let scanned = scanning::scan_noting(j, row, units_in(area, scope), &mut marks);
     let judgement = scanned.judgement;
     let noted = scanned.noted;
-    let marks = scanned.marks;
     match judgement {
         Judgement::Malformed => Status::Malformed,
         Judgement::Counted(counts) => answer_counted(area, j, row, scope, &marks, noted, counts),

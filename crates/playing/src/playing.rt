@@ -76,7 +76,8 @@ fn fault(from: Playing) -> Playing
     }
 }
 
-// A 32: its body waits at the front of the lent buffer.
+// A 32: its body waits at the front of the lent buffer. In line, which spares copies on the stack.
+#[inline(always)]
 fn keep(args: &mut [u8], from: Playing, item: &[u8]) -> Playing
     requires { (from.records ≤ 0xffff_fffe) × (4 ≤ length item.now) × (length item.now ≤ length args.old + 4) }
     ensures value { result ≡ kept_by from (length item.now - 4) }

@@ -180,7 +180,8 @@ pub fn is_state(flat: FlatReplay) -> bool
     held_came(report.verdict, flat.held)
 }
 
-// The number that a burst is refused with, or 0.
+// The number that a burst is refused with, or 0. Out of line, so that its copies take stack only while it runs.
+#[inline(never)]
 pub fn judge(held: &[u8], room: usize, flat: FlatReplay) -> u32
     ensures value { result ≡ judged_by held.now room flat }
     ensures claims { StatesExactly }

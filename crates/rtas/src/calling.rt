@@ -105,7 +105,8 @@ fn list_indices(
     Indexed { status, reading }
 }
 
-// The work of a call whose number is 0, and its outputs after the status. Every token is found here.
+// The work of a call whose number is 0, and its outputs after the status. Every token is found here. In line, which spares copies on the stack.
+#[inline(always)]
 fn dispatch(
     args: &mut [u8],
     memory: &mut [u8],

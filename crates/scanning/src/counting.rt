@@ -8,7 +8,7 @@ ghost use Rattle.scanning.specs.Inner.Terms.{unpacked};
 
 use crate::noting::note;
 use crate::stride::{Position, Step, stride};
-use crate::weights::weights_of;
+use crate::weights::{WeightTable, fill_weights};
 use journal::{Counts, Judgement, Units};
 
 // What a scan finds, and the marks that it noted: each a place and the packed counts of what stands before it.
@@ -17,6 +17,13 @@ pub struct Scanned {
     pub judgement: Judgement,
     pub noted: usize,
     pub marks: [u64; 128],
+}
+
+// What a scan finds, and how many marks it noted.
+#[derive(Clone, Copy)]
+pub struct Noted {
+    pub judgement: Judgement,
+    pub noted: usize,
 }
 
 // The three counts that were packed in one number.
@@ -30,34 +37,33 @@ pub fn counts_of(packed: u64) -> Counts
     }
 }
 
-// The journal judged, and the operations counted that the row reports of the units asked for. Which marks were noted is left free; each is true.
-pub fn scan(j: &[u8], row: &[u8; 17], units: Units) -> Scanned
+// The journal judged, and the operations counted that the row reports of the units asked for, with marks noted into a lent table. Which marks were
+// noted is left free; each is true.
+pub fn scan_noting(j: &[u8], row: &[u8; 17], units: Units, marks: &mut [u64; 128]) -> Noted
     ensures judgement_value { (result.judgement ≡ judgement_of (asking row.now units) j.now) × Marked (asking row.now units)
-        j.now result.marks result.noted }
+        j.now marks.new result.noted }
     ensures rules { JournalClaims }
 {
-    let mut marks: [u64; 128] = [0; 128];
     let mut noted: usize = 0;
     if records::SIZE_LIMIT < j.len() {
-        return Scanned {
+        return Noted {
             judgement: Judgement::Malformed,
             noted,
-            marks,
         };
     }
-    let weights = weights_of(row);
+    let mut weights: WeightTable = [0; 160];
+    fill_weights(row, &mut weights);
     let mut at: usize = 0;
     let mut counts: u64 = 0;
     while at < j.len() {
         let from = Position { at, counts };
-        noted = note(&mut marks, noted, from);
+        noted = note(marks, noted, from);
         let step = stride(j, row, units, &weights, from);
         match step {
             Step::Bad => {
-                return Scanned {
+                return Noted {
                     judgement: Judgement::Malformed,
                     noted,
-                    marks,
                 };
             }
             Step::Upto(p) => {
@@ -66,9 +72,24 @@ pub fn scan(j: &[u8], row: &[u8; 17], units: Units) -> Scanned
             }
         }
     }
-    Scanned {
+    Noted {
         judgement: Judgement::Counted(counts_of(counts)),
         noted,
+    }
+}
+
+// The journal judged, and the operations counted that the row reports of the units asked for. Which marks were noted is left free; each is true.
+pub fn scan(j: &[u8], row: &[u8; 17], units: Units) -> Scanned
+    ensures judgement_value { (result.judgement ≡ judgement_of (asking row.now units) j.now) × Marked (asking row.now units)
+        j.now result.marks result.noted }
+    ensures rules { JournalClaims }
+{
+    let mut marks: [u64; 128] = [0; 128];
+    let found = scan_noting(j, row, units, &mut marks);
+    let judgement = found.judgement;
+    Scanned {
+        judgement,
+        noted: found.noted,
         marks,
     }
 }

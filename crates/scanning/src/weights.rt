@@ -34,15 +34,13 @@ fn weight(set: u8, kind: usize) -> u64
 // The weights of a row, by kind and node type.
 pub type WeightTable = [u64; 160];
 
-// The weights of a row: that of a kind and a node type stands at 32 times the kind and the type.
-pub fn weights_of(row: &[u8; 17]) -> WeightTable
-    ensures { Weights row.now result }
+// Fills in the weights of a row: that of a kind and a node type stands at 32 times the kind and the type. What stands before place 32 stays.
+pub fn fill_weights(row: &[u8; 17], table: &mut WeightTable)
+    ensures { Weights row.now table.new }
 {
-    let mut table: [u64; 160] = [0; 160];
     let mut i: usize = 32;
     while i < 160 {
         table[i] = weight(set_of(row, i % 32), i / 32);
         i += 1;
     }
-    table
 }

@@ -12,7 +12,7 @@ use Rattle.words.specs.Numbers.{le}
 use Rattle.words.specs.Claims.Exactly.{Exactly}
 use Rattle.words.proofs.Choice.{and_left, and_right}
 use Rattle.records.specs.Records.{length_of, kind_of, whole}
-use Rattle.records.specs.Cutting.{run}
+use Rattle.records.specs.Cutting.{due, ripe, run}
 use Rattle.records.proofs.Due.{short_raw}
 use Rattle.records.proofs.Feeding.{fed_held}
 use Rattle.records.proofs.Claims.{records_in_turn}
@@ -101,6 +101,9 @@ unfolding le_bytes le
 le_read zero v h = omega arith
 le_read (suc w) v h = rw (shift w (v % 256) 0 (le_bytes w (v / 256)), le_read w (v / 256) (omega arith)) (omega arith)
 
+short : (b : List ℕ) → ripe good_frame b ≡ false → length b < due good_frame b
+short b e = short_raw good_frame b e
+
 pub each_replay : EachReplay
 unfolding stopped step concluded replay_of run
 each_replay p =
@@ -118,6 +121,6 @@ each_replay p =
       none_left = λ s. refl;
       next = λ s r rs. refl;
       bursts = λ s r. (refl, refl);
-      unfinished = λ s b going raw. fed_held (reader p) (sticky p) s [] b going (short_raw good_frame b raw);
+      unfinished = λ s b going raw. fed_held (reader p) (sticky p) s [] b going (short b raw);
       numbers = λ w v h. (le_length w v, le_read w v h);
     }

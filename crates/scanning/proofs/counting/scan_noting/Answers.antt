@@ -1,4 +1,4 @@
-use Rattle.std.proofs.Common.{◌+◌, ◌≤◌, refl, ap, ◌∙◌, arith}
+use Rattle.std.proofs.Common.{◌+◌, ◌≤◌, ap, ◌∙◌, arith, rules}
 use Rattle.journal.proofs.Claims.{too_large, journal_claims}
 use Rattle.scanning.proofs.NoteLaws.{marked_none, marked_note, noted_length}
 use Rattle.scanning.proofs.Reaching.{reached_none, reached_end, malformed, advanced_bad, advanced_upto}
@@ -6,7 +6,7 @@ use Rattle.journal.specs.Scope.{asking}
 use Rattle.journal.specs.Marks.{Marked}
 use Rattle.scanning.specs.Inner.Terms.{Reached}
 use Rattle.journal.specs.declared.counts.Judgement.TheVariants.{Counted}
-use Rattle.scanning.proofs.counting.scan.Goals as goal
+use Rattle.scanning.proofs.counting.scan_noting.Goals as goal
 
 pub returns-then-j-gt-SIZE_LIMIT : goal.returns-then-j-gt-SIZE_LIMIT
 returns-then-j-gt-SIZE_LIMIT c =
@@ -14,7 +14,7 @@ returns-then-j-gt-SIZE_LIMIT c =
 
 pub loop-at-init : goal.loop-at-init
 loop-at-init c =
-    (reached_none _ _, marked_none _ _ _, refl)
+    (reached_none _ _, marked_none _ _ _, search rules)
 
 pub note-noted-requires : goal.note-noted-requires
 note-noted-requires c =
@@ -22,7 +22,7 @@ note-noted-requires c =
 
 pub stride-step-requires : goal.stride-step-requires
 stride-step-requires c =
-    (c.loop-at.invariant.0, c.weights_of-weights.ensures, c.loop-at-test.true, c.if-j-gt-SIZE_LIMIT.false)
+    (c.loop-at.invariant.0, c.fill_weights.ensures, c.loop-at-test.true, c.if-j-gt-SIZE_LIMIT.false)
 
 pub returns-in-Bad : goal.returns-in-Bad
 returns-in-Bad c =

@@ -1,10 +1,10 @@
 use Rattle.std.proofs.Common.{refl, arith, rules}
 use Rattle.scanning.proofs.WeightLaws.{filled_next}
-use Rattle.scanning.proofs.weights.weights_of.Goals as goal
+use Rattle.scanning.proofs.weights.fill_weights.Goals as goal
 
 pub loop-i-init : goal.loop-i-init
 loop-i-init c =
-    record { size = refl; low = omega arith; high = omega arith; each = λ k l g. absurd (omega arith) }
+    record { size = search rules; low = omega arith; high = omega arith; each = λ k l g. absurd (omega arith) }
 
 pub loop-i-preserved : goal.loop-i-preserved
 loop-i-preserved c =

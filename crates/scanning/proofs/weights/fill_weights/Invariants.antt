@@ -1,7 +1,7 @@
--- `weights::weights_of` meets its contract.
+-- `weights::fill_weights` meets its contract.
 use Rattle.std.proofs.Common.{◌-◌}
 use Rattle.scanning.proofs.WeightLaws.{Filled}
-use Rattle.scanning.proofs.weights.weights_of.Given as goal
+use Rattle.scanning.proofs.weights.fill_weights.Given as goal
 
 abbrev pub invariant-loop-i : goal.invariant-loop-i
 invariant-loop-i l = Filled l.row l.table l.i
