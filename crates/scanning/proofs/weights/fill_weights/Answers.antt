@@ -1,4 +1,4 @@
-use Rattle.std.proofs.Common.{refl, arith, rules}
+use Rattle.std.proofs.Common.{arith, rules}
 use Rattle.scanning.proofs.WeightLaws.{filled_next}
 use Rattle.scanning.proofs.weights.fill_weights.Goals as goal
 
