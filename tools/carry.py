@@ -40,7 +40,7 @@ HEAD_WORDS = {*WORDS, *'define internal byval'.split()}
 DECLARED_WORDS = {*WORDS, *'declare writeonly readonly captures none immarg'.split()}
 INTRINSICS = {'llvm.memcpy.p0.p0.i64', 'llvm.memmove.p0.p0.i64', 'llvm.memset.p0.i64', 'llvm.trap'}
 ATTRIBUTES = {
-    *'nounwind nocallback nofree willreturn cold noreturn'.split(),
+    *'nounwind nocallback nofree willreturn cold noreturn noinline alwaysinline'.split(),
     'memory(argmem: readwrite)', 'memory(argmem: write)', 'memory(inaccessiblemem: write)',
     '"probe-stack"="inline-asm"', '"stack-probe-size"="3072"', CPU.strip(),
 }

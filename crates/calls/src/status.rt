@@ -22,7 +22,8 @@ pub enum Status {
     DumpActive,
 }
 
-// A status as its word in the argument buffer.
+// A status as its word in the argument buffer. Out of line, which spares a call copies on the stack.
+#[inline(never)]
 pub fn status_word(status: Status) -> u32
     ensures { result ≡ status_word status }
 {
