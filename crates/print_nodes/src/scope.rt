@@ -5,6 +5,9 @@ ghost use Rattle.print_nodes.specs.Text.{scope_of};
 use std::env::Env;
 use std::rt::HostRuntime;
 
+// What is assumed if there is no argument: any scope but 3 is read alike.
+const ASSUMED: u32 = 1;
+
 // The scope of an argument of so many bytes that begins with this one.
 fn scope_of(n: usize, byte: u8) -> u32
     ensures { result ≡ scope_of n byte }
@@ -14,7 +17,7 @@ fn scope_of(n: usize, byte: u8) -> u32
             return 3;
         }
     }
-    1
+    ASSUMED
 }
 
 // One that is not there, or has more than one byte, counts as one of no bytes.
