@@ -48,14 +48,14 @@ make_module() {
     rm -rf "$room/modules" "$file" "$file.built" "$archive" "$archive.built"
     mkdir -p "$room/modules" "$(dirname "$file")"
     touch "$file.begun"
-    PATH=$room/kit/bin:$PATH in_crate lib "$crate" "$room/log" || return
-    grep -q '^logic=proved .*target=x86_64-unknown-linux-gnu' "$room/log" || return
+    PATH=$room/kit/bin:$PATH in_crate lib "$crate" "$room/module.log" || return
+    grep -q '^logic=proved .*target=x86_64-unknown-linux-gnu' "$room/module.log" || return
     modules=("$room"/modules/*.bc)
     if [[ ${#modules[@]} -ne 1 || ! -e ${modules[0]} ]]; then
-        echo "the kit's clang was given ${#modules[@]} modules, and not one" >>"$room/log"
+        echo "the kit's clang was given ${#modules[@]} modules, and not one" >>"$room/module.log"
         return 1
     fi
-    "$clang" -S -emit-llvm -Xclang -disable-llvm-passes -x ir "${modules[0]}" -o "$room/module.ll" 2>>"$room/log" || return
+    "$clang" -S -emit-llvm -Xclang -disable-llvm-passes -x ir "${modules[0]}" -o "$room/module.ll" 2>>"$room/module.log" || return
     touch -r "$file.begun" "$archive.built"
     mv "$room/module.ll" "$file" && mv "$file.begun" "$file.built"
 }
@@ -66,7 +66,7 @@ build_modules() {
     need rt 'install the Rattle kit and add its folder bin to the PATH'
     for crate; do
         locked make_module "$crate" "target/power/$crate.ll" && continue
-        cat "$room/log" >&2 || true
+        cat "$room/module.log" >&2 || true
         fail "$crate has no proved module; what rt said stands above"
     done
 }
