@@ -46,7 +46,8 @@ sections_end s = first_section s + section_size * sections s
 unfoldable pub good_header : List ℕ → Bool
 good_header s =
     eqb (version s) 1
-    && (leb 1 (sections s) && (leb (sections s) section_limit && (eqb (status_flags s) 0 && (leb header_size (first_section s) && leb (sections_end s) (length s)))))
+    && (leb 1 (sections s) && (leb (sections s) section_limit
+    && (eqb (status_flags s) 0 && (leb header_size (first_section s) && leb (sections_end s) (length s)))))
 
 -- n sections from an offset on, each of which passes a test
 unfoldable pub each_section : (ℕ → Bool) → ℕ → ℕ → Bool

@@ -106,8 +106,8 @@ fn copy_section(section: Section, memory: &mut [u8], platform: &[u8]) -> Copied
 // The section at an offset of the copy, run, and whether it had an error.
 fn run_section(copy: &mut [u8], at: usize, memory: &mut [u8], platform: &[u8]) -> bool
     requires { at + section_size ≤ length copy.old }
-    ensures { record { memory = memory.exit.now; copy = copy.new; failed = result } ≡ section_run platform.now at
-        (record { memory = memory.entry.now; copy = copy.old; failed = false }) }
+    ensures { record { memory = memory.new; copy = copy.new; failed = result } ≡ section_run platform.now at
+        (record { memory = memory.old; copy = copy.old; failed = false }) }
 {
     let section = section_at(copy, at);
     let copied = copy_section(section, memory, platform);

@@ -56,7 +56,8 @@ fn answer_counted(
     from: usize,
 ) -> Listed
     requires { (4 ≤ length area.old) × (request.size ≡ length area.old) × (well_formed inventory.now ≡ true) ×
-        (count ≡ length (entries_for inventory.now request)) × (1 ≤ number_in request → number_in request ≤ count → ResumesAt request.flag request.item_type inventory.now (number_in request - 1) from) }
+        (count ≡ length (entries_for inventory.now request)) ×
+        (1 ≤ number_in request → number_in request ≤ count → ResumesAt request.flag request.item_type inventory.now (number_in request - 1) from) }
     ensures status_value { (result.status ≡ list_status inventory.now request) ×
         (result.next.0 ≡ number_given (list_status inventory.now request) inventory.now request) }
     ensures area_after { area.new ≡ list_area inventory.now request area.old }

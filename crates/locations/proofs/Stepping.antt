@@ -18,7 +18,7 @@ use Rattle.indices.specs.declared.reading.Cursor.{Cursor}
 use Rattle.indices.specs.Reading.{length_at, fault_at, entry_at, with_entry, judged_by, read_from, reading}
 use Rattle.indices.specs.Cursor.{start_of}
 use Rattle.indices.proofs.IndexLaws.{code_part}
-use Rattle.locations.specs.declared.views.Given.TheVariants as goal
+use Rattle.locations.specs.declared.views.Given.TheVariants as given
 use Rattle.locations.specs.Views.{stays, advance_by, advance_of, cursor_behind, step_number, Last, end, refusal, Listed, nothing_then, entry_then, listed_by, listed_from, listing, reading_by, Shown, entry, last, shown}
 use Rattle.locations.specs.Claims.Locations.{AsTheReader}
 
@@ -29,12 +29,12 @@ unfolding fault_at
 fault_past area at h = rw (lt-ltb (length area - at) 8 h)
 
 module _ (area : List ℕ) (c : Cursor) where
-  pub advance_short : length area < 4 → stays (goal.Refused Short 0) c ≡ advance_of area c
+  pub advance_short : length area < 4 → stays (given.Refused Short 0) c ≡ advance_of area c
   unfolding advance_of
   advance_short h = rw (lt-ltb (length area) 4 h)
 
   module _ (long : 4 ≤ length area) where
-    pub advance_end : c.left ≡ 0 → stays goal.End c ≡ advance_of area c
+    pub advance_end : c.left ≡ 0 → stays given.End c ≡ advance_of area c
     unfolding advance_of
     advance_end h = rw (le-ltb (length area) 4 long, eq-eqb c.left 0 h)
 

@@ -70,7 +70,8 @@ pub record ExactIndices (m i : List ℕ) (edition : ℕ) (r : ReadingRecord) (fl
   pub answered : Exactly (status ≤ 1) (Asked m flag type address size
       × (Named r flag type number × (Current r edition number × Passed i (listed flag type i) size number)))
   pub changed : Exactly (status ≡ minus 4) (Asked m flag type address size × (Named r flag type number × (Current r edition number → ⊥)))
-  pub malformed : Exactly (status ≡ minus 1) (Asked m flag type address size × (Named r flag type number × (Current r edition number × (well_formed i ≡ false))))
+  pub malformed : Exactly (status ≡ minus 1)
+      (Asked m flag type address size × (Named r flag type number × (Current r edition number × (well_formed i ≡ false))))
   pub otherwise : (status ≤ 1 → ⊥) → (status ≡ minus 4 → ⊥) → (status ≡ minus 1 → ⊥) → status ≡ minus 3
   pub answers : Bytes i → status ≤ 1 →
       let es = listed flag type i in

@@ -17,7 +17,8 @@ pub record Standing (K : Type 0) : Type 0 where
 
 -- An answered call leaves what the next one has to carry, and an area; a refused one leaves the standing as it was.
 unfoldable pub after_call : {K : Type 0} → (Found → K) → (Found → List ℕ) → Standing K → Found → Standing K
-after_call carriedBy area_of st c = cond (is_answered c) (record { carried = carriedBy c; done = eqb (status_then c) 0; areas = st.areas ++ (area_of c ∷ []) }) st
+after_call carriedBy area_of st c =
+    cond (is_answered c) (record { carried = carriedBy c; done = eqb (status_then c) 0; areas = st.areas ++ (area_of c ∷ []) }) st
 
 -- ---- a list of calls, over anything that a call moves and any rule for a call
 

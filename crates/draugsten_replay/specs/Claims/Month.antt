@@ -28,7 +28,8 @@ use Rattle.draugsten_replay.specs.declared.month.FlatCounting.{FlatCounting}
 use Rattle.draugsten_replay.specs.declared.month.FlatCounted.{FlatCounted}
 use Rattle.draugsten_replay.specs.Claims.WholeTrace.{begun}
 use Rattle.draugsten_replay.specs.Cases.Month.{MonthReadings}
-use Rattle.draugsten_replay.specs.Month.{is_counting, judged_counting, flat_counting_start, counting_in, CountingFeeds, added_by, month_added, merged_to, share_in}
+use Rattle.draugsten_replay.specs.Month.{is_counting, judged_counting, flat_counting_start, counting_in, CountingFeeds}
+use Rattle.draugsten_replay.specs.Month.{added_by, month_added, merged_to, share_in}
 use Rattle.draugsten_replay.specs.Claims.Sessions.{Session, report_for, figures_for, session_added, month_of, NoneRefused}
 
 -- What a start gives is taken, over any two buffers with room.

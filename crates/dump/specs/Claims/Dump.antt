@@ -8,7 +8,8 @@ use Rattle.dump.specs.Structure.{good_structure}
 abbrev pub header : ℕ → ℕ → ℕ → ℕ → ℕ → List ℕ
 header n first size block path =
     be_bytes 4 1
-    ++ (be_bytes 2 n ++ (be_bytes 2 0 ++ (be_bytes 4 first ++ (be_bytes 4 size ++ (be_bytes 8 block ++ (be_bytes 8 block ++ (be_bytes 4 path ++ be_bytes 4 7)))))))
+    ++ (be_bytes 2 n ++ (be_bytes 2 0 ++ (be_bytes 4 first ++ (be_bytes 4 size
+    ++ (be_bytes 8 block ++ (be_bytes 8 block ++ (be_bytes 4 path ++ be_bytes 4 7)))))))
 
 -- without a disk, and with one and a path
 abbrev pub bare : ℕ → ℕ → List ℕ

@@ -105,7 +105,8 @@ pub record RunExactly (platform memory : List ℕ) (r : Registration) : Type 0 w
       → (run_of platform memory r).verdict ≡ Parameter
   pub refused : ((run_of platform memory r).verdict ≡ Done → ⊥) → ((run_of platform memory r).memory ≡ memory) × ((run_of platform memory r).next ≡ r)
   -- "and the registration becomes active"
-  pub becomes_active : (run_of platform memory r).verdict ≡ Done → ((run_of platform memory r).next.phase ≡ Active) × ((run_of platform memory r).next.len ≡ r.len)
+  pub becomes_active : (run_of platform memory r).verdict ≡ Done
+      → ((run_of platform memory r).next.phase ≡ Active) × ((run_of platform memory r).next.len ≡ r.len)
 
 abbrev pub EachVerdict : Type 0
 EachVerdict = (platform memory : List ℕ) (r : Registration) → RunExactly platform memory r

@@ -123,7 +123,8 @@ EndTells = (buffer store : List ℕ) (i : Intake) → Ready buffer store i → e
 abbrev pub StartReady : Type 0
 StartReady =
     (buffer store : List ℕ) (t : Tallied) → 32_808 ≤ length store → fits (length buffer) t ≡ true
-    → Ready buffer store (start_of t) × (standing_of buffer store (start_of t) ≡ start (record { buffer = buffer; journal = t; number = 1; fault = outcome.Done }))
+    → Ready buffer store (start_of t)
+    × (standing_of buffer store (start_of t) ≡ start (record { buffer = buffer; journal = t; number = 1; fault = outcome.Done }))
 
 -- ---- M-106's claim through any mixture of bursts, appends, joins and clears
 

@@ -54,7 +54,8 @@ adds scope unit code r =
 
 pub record ReportableExactly : Type 0 where
   -- "The reportable list is all reportable deletes in journal order, then updates, then additions."
-  pub parts : (scope unit : ℕ) (j : List ℕ) → reportable (selection_of scope unit) j ≡ list_of scope unit 1 j ++ (list_of scope unit 2 j ++ list_of scope unit 3 j)
+  pub parts : (scope unit : ℕ) (j : List ℕ) → reportable (selection_of scope unit) j
+      ≡ list_of scope unit 1 j ++ (list_of scope unit 2 j ++ list_of scope unit 3 j)
   -- how many there are of each opcode
   pub counts : (scope unit : ℕ) (j : List ℕ)
       → counts_of (selection_of scope unit) j ≡ record {

@@ -74,7 +74,8 @@ ReportableListed = (selection : Selection) (j : List ℕ) → Bytes j → well_f
 -- Reading what was written gives back the run, so it is never refused.
 abbrev pub RoundTrip : Type 0
 RoundTrip =
-    (scope unit : ℕ) (area : List ℕ) (os : List Operation) (state : ℕ) → unit < 0x1_0000_0000_0000_0000 → length area ≡ area_size → Listed os → state ≤ length os
+    (scope unit : ℕ) (area : List ℕ) (os : List Operation) (state : ℕ) → unit < 0x1_0000_0000_0000_0000
+    → length area ≡ area_size → Listed os → state ≤ length os
     → reading scope (written (units_of scope unit) area os state) ≡ read (run os state)
 
 -- 02, M-101, operators with no operands "perform no operation": what is written holds none.
@@ -92,7 +93,8 @@ Filled (w ∷ ws) = (0 < count_in w) × Filled ws
 
 abbrev pub NoneEmpty : Type 0
 NoneEmpty =
-    (scope unit : ℕ) (area : List ℕ) (os : List Operation) (state : ℕ) → unit < 0x1_0000_0000_0000_0000 → length area ≡ area_size → Listed os → state ≤ length os
+    (scope unit : ℕ) (area : List ℕ) (os : List Operation) (state : ℕ) → unit < 0x1_0000_0000_0000_0000
+    → length area ≡ area_size → Listed os → state ≤ length os
     → Filled (operators_at 0 (drop 4 (words (written (units_of scope unit) area os state))))
 
 -- The run is never empty while operations remain.

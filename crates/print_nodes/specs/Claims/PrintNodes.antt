@@ -24,7 +24,8 @@ pub record TextExactly : Type 0 where
       → text scope input ≡ (114 ∷ 101 ∷ 102 ∷ 117 ∷ 115 ∷ 101 ∷ 100 ∷ 32 ∷ []) ++ decimal number ++ ((32 ∷ 97 ∷ 116 ∷ 32 ∷ []) ++ (decimal at ++ (10 ∷ [])))
   -- `delete 0000002a`, `update 00001000`, `add 00001000 10000005`
   pub none : lines [] ≡ []
-  pub delete : (p : ℕ) (os : List Operation) → lines (Delete p ∷ os) ≡ ((100 ∷ 101 ∷ 108 ∷ 101 ∷ 116 ∷ 101 ∷ 32 ∷ []) ++ hex_digits 8 p) ++ (10 ∷ []) ++ lines os
+  pub delete : (p : ℕ) (os : List Operation) → lines (Delete p ∷ os)
+      ≡ ((100 ∷ 101 ∷ 108 ∷ 101 ∷ 116 ∷ 101 ∷ 32 ∷ []) ++ hex_digits 8 p) ++ (10 ∷ []) ++ lines os
   pub update : (p : ℕ) (os : List Operation) → lines (Update p ∷ os) ≡ ((117 ∷ 112 ∷ 100 ∷ 97 ∷ 116 ∷ 101 ∷ 32 ∷ []) ++ hex_digits 8 p) ++ (10 ∷ []) ++ lines os
   pub add : (p i : ℕ) (os : List Operation) → lines (Add p i ∷ os)
       ≡ ((97 ∷ 100 ∷ 100 ∷ 32 ∷ []) ++ hex_digits 8 p) ++ (32 ∷ hex_digits 8 i) ++ (10 ∷ []) ++ lines os

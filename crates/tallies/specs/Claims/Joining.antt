@@ -39,7 +39,8 @@ pub record EndToEnd : Type 0 where
 
 -- The whole lists do not concatenate, since deletes come first: an update, and a delete joined to it.
 abbrev pub ListsDiffer : Type 0
-ListsDiffer = reportable (selection_of 1 0) (update 10 ++ delete 10) ≡ reportable (selection_of 1 0) (update 10) ++ reportable (selection_of 1 0) (delete 10) → ⊥
+ListsDiffer =
+    reportable (selection_of 1 0) (update 10 ++ delete 10) ≡ reportable (selection_of 1 0) (update 10) ++ reportable (selection_of 1 0) (delete 10) → ⊥
 
 -- ---- the same of `join` itself, over a tallied journal in a lent buffer
 
@@ -106,7 +107,8 @@ both_ways =
     ∷ tells left.journal.tallies (2 ∷ 0 ∷ 1 ∷ 2 ∷ 1 ∷ 1 ∷ 0 ∷ 1 ∷ 0 ∷ 0 ∷ 1 ∷ 0 ∷ [])
     ∷ tells right.journal.tallies (2 ∷ 0 ∷ 1 ∷ 2 ∷ 1 ∷ 1 ∷ 0 ∷ 1 ∷ 0 ∷ 0 ∷ 1 ∷ 0 ∷ [])
     -- the list of an opcode, in order
-    ∷ same (phandles (chosen (selection_of 1 0) 1 (entries (in_use (joining (deleted 3) (joining (deleted 2) (joining (deleted 1) (fresh (replicate 30 7)))))))))
+    ∷ same (phandles (chosen (selection_of 1 0) 1
+    (entries (in_use (joining (deleted 3) (joining (deleted 2) (joining (deleted 1) (fresh (replicate 30 7)))))))))
     (1 ∷ 2 ∷ 3 ∷ [])
     ∷ same (phandles (chosen (selection_of 1 0) 1 (entries (in_use (joining (deleted 2 ++ deleted 3) (joining (deleted 1) (fresh (replicate 30 7)))))))) (1
     ∷ 2 ∷ 3 ∷ [])

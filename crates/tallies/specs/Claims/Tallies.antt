@@ -104,7 +104,8 @@ pub record RecountClaims : Type 0 where
   pub each_recount : EachRecount
   pub rows_of_scopes : RowsOfScopes
   pub third_row_claim : ThirdRow
-  pub kinds : (kind : ℕ) → (of_kind kind [] ≡ 0) × ((r : List ℕ) (rs : List (List ℕ)) → of_kind kind (r ∷ rs) ≡ cond (eqb (le 2 r 2) kind) 1 0 + of_kind kind rs)
+  pub kinds : (kind : ℕ) → (of_kind kind [] ≡ 0) × ((r : List ℕ) (rs : List (List ℕ))
+      → of_kind kind (r ∷ rs) ≡ cond (eqb (le 2 r 2) kind) 1 0 + of_kind kind rs)
   pub readings : TallyReadings
 
 pub record TallyClaims : Type 0 where

@@ -39,7 +39,8 @@ left_by p s args = call_over p s.memory s.registration s.reading args
 
 abbrev pub after : Platform → Machine → Deed → Machine
 after p s (sets_memory a bs) = record { memory = sets s.memory a bs; registration = s.registration; reading = s.reading }
-after p s (makes_call args) = record { memory = (left_by p s args).memory; registration = (left_by p s args).registration; reading = (left_by p s args).reading }
+after p s (makes_call args) =
+    record { memory = (left_by p s args).memory; registration = (left_by p s args).registration; reading = (left_by p s args).reading }
 
 abbrev pub after_all : Platform → Machine → List Deed → Machine
 after_all p s [] = s
@@ -103,5 +104,6 @@ DifferenceTold =
     → length args ≤ 4100 → length recorded ≤ 4100
     → let ours = (left_by p (after_all p (fresh m) ds) args).args in
     (recorded ≡ ours → ⊥)
-    → (offset : ℕ) × (DifferAt recorded ours offset × ((replay_of p m (trace_of p (fresh m) ds ++ (record_of 32 args ++ (record_of 33 recorded ++ rest)))).report
+    → (offset : ℕ) × (DifferAt recorded ours offset
+    × ((replay_of p m (trace_of p (fresh m) ds ++ (record_of 32 args ++ (record_of 33 recorded ++ rest)))).report
     ≡ Differs (calls_in ds + 1) offset))

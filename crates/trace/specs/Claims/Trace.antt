@@ -30,7 +30,8 @@ StopsForGood = (p : Platform) (s : State) (b : List ℕ) → stopped s ≡ true 
 
 -- Every record before a stop is counted, so that the number of a malformed one is its place in the trace, from 1.
 abbrev pub RecordsCounted : Type 0
-RecordsCounted = (p : Platform) (m : List ℕ) (rs : List (List ℕ)) → stopped (run (step p) (begin m) rs) ≡ false → (run (step p) (begin m) rs).records ≡ length rs
+RecordsCounted =
+    (p : Platform) (m : List ℕ) (rs : List (List ℕ)) → stopped (run (step p) (begin m) rs) ≡ false → (run (step p) (begin m) rs).records ≡ length rs
 
 pub record TraceClaims : Type 0 where
   pub any_cutting : AnyCutting
