@@ -6,6 +6,7 @@ pub mod Places
 pub mod Stores
 pub mod Zeros
 pub mod Words
+pub mod Ranges
 pub mod Readings
 pub mod Named
 pub mod Claims

@@ -2,14 +2,15 @@
 #![tactic(auto)]
 
 mod arithmetic;
-mod join;
 mod nul;
 mod reading;
+mod refused;
 mod storing;
 mod zero;
 
 pub use arithmetic::{least, saturating_sub};
-pub use nul::{find_nul, string_length};
+pub use nul::{ended_length, find_nul, string_length, until_nul};
 pub use reading::{read_be16, read_be32, read_be64, read_le16, read_le32, read_le64};
-pub use storing::{store_be16, store_be32, store_be64, store_bytes, store_zeros};
-pub use zero::is_zero;
+pub use refused::Refused;
+pub use storing::{store, store_be16, store_be32, store_be64, store_bytes, store_zeros};
+pub use zero::{are_zeros, is_zero};

@@ -1,59 +1,53 @@
 // The end of bytes that a NUL ends.
-ghost use Rattle.std.specs.Prelude.{◌≡◌, cond, ◌+◌, ◌<◌, ◌≤◌, length};
+ghost use Rattle.std.specs.Prelude.{◌≡◌, ◌==◌, cond, ◌+◌, ◌<◌, ◌≤◌, length, position};
 ghost use Rattle.std.proofs.Math.Seq.{slice};
 ghost use Rattle.words.specs.Nul.{until_nul, is_ended};
 
 use crate::arithmetic::least;
 
-// The place of the first NUL from one place up to another, or the end: byte by byte, for the few that are left.
-fn find_near(s: &[u8], from: usize, to: usize) -> usize
-    requires { (from ≤ to) × (to ≤ length s.now) }
-    ensures { result ≡ from + length (until_nul (slice from to s.now)) }
+// The place of the first NUL among a few bytes.
+fn first_nul(bytes: &[u8]) -> Option<usize>
+    ensures { result ≡ position (λ b. b == 0) bytes.now }
 {
-    let mut i = from;
-    let end = loop {
-        if to <= i {
-            break to;
-        }
-        if s[i] == 0 {
-            break i;
-        }
-        i += 1;
-    };
-    end
+    bytes.iter().position(|b| *b == 0)
 }
 
-// The place of the first NUL from one place up to another, or the end. A turn tests six bytes: of those tried the quickest.
+// How many bytes stand before the first NUL, or how many there are. A turn tests six, of those tried the quickest.
+pub fn until_nul(bytes: &[u8]) -> usize
+    ensures { result ≡ length (until_nul bytes.now) }
+{
+    let mut at = 0;
+    while 6 <= bytes.len() - at {
+        if let Some(before) = first_nul(&bytes[at..at + 6]) {
+            return at + before;
+        }
+        at += 6;
+    }
+    match first_nul(&bytes[at..]) {
+        Some(before) => at + before,
+        None => bytes.len(),
+    }
+}
+
+// The length of the string of 1 to `limit` bytes that a NUL ends, if the bytes begin with one.
+pub fn ended_length(bytes: &[u8], limit: usize) -> Option<usize>
+    requires { limit < 0x1_0000_0000 }
+    ensures { result ≡ cond (is_ended limit bytes.now) (Some (length (until_nul bytes.now))) None }
+{
+    let end = bytes.len().min(limit + 1);
+    let before = until_nul(&bytes[..end]);
+    if before == 0 || before == end {
+        return None;
+    }
+    Some(before)
+}
+
+// The place of the first NUL from one place up to another, or the end.
 pub fn find_nul(s: &[u8], from: usize, to: usize) -> usize
     requires { (from ≤ to) × (to ≤ length s.now) }
     ensures { result ≡ from + length (until_nul (slice from to s.now)) }
 {
-    let mut i = from;
-    let end = loop {
-        if to - i < 6 {
-            break find_near(s, i, to);
-        }
-        if s[i] == 0 {
-            break i;
-        }
-        if s[i + 1] == 0 {
-            break i + 1;
-        }
-        if s[i + 2] == 0 {
-            break i + 2;
-        }
-        if s[i + 3] == 0 {
-            break i + 3;
-        }
-        if s[i + 4] == 0 {
-            break i + 4;
-        }
-        if s[i + 5] == 0 {
-            break i + 5;
-        }
-        i += 6;
-    };
-    end
+    from + until_nul(&s[from..to])
 }
 
 // The length of the string of 1 to `limit` bytes whose NUL stands before `to`, or 0 where there is none.

@@ -1,11 +1,8 @@
--- `reading::read_be16` meets its contract.
-use mathlib.Core.Path.{◌∙◌}
 use native.Mathlib.Numerals.{towards_suc}
-use native.Mathlib.Omega.{arith}
+use borrow.Author.Rules.{rules}
 use Rattle.words.specs.Numbers.{be}
 use Rattle.words.proofs.reading.read_be16.Goals as goal
 
 pub returns : goal.returns
 unfolding be
-returns c =
-    c.join2.ensures ∙ simp towards_suc (omega arith)
+returns c = search (rules, towards_suc)

@@ -1,8 +1,9 @@
--- `storing::store_be64` meets its contract.
-use Rattle.words.proofs.Stores.{stored_halves}
+use mathlib.Core.Path.{refl, ◌∙◌}
+use native.Mathlib.Nat.{div-one}
+use Rattle.words.specs.Numbers.{be_bytes}
+use Rattle.words.proofs.Ranges.{put_stored}
 use Rattle.words.proofs.storing.store_be64.Goals as goal
 
 pub returns : goal.returns
-returns c =
-    let a = c.args in
-    stored_halves a.s.now _ _ a.at a.v c.store_be32.ensures c.store_be32-2.ensures
+unfolding be_bytes
+returns c = put_stored _ _ (be_bytes 8 c.args.v) _ _ (c.copy_from_slice.ensures.after ∙ c.to_be_bytes.ensures ∙ simp div-one) refl c.requires

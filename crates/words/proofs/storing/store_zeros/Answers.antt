@@ -1,21 +1,11 @@
-use mathlib.Core.Path.{sym}
+use Prim.Native.Nat.{ℕ}
+use mathlib.Core.Path.{◌∙◌, ap}
+use borrow.Author.Rules.{rules}
 use native.Mathlib.Omega.{arith}
-use lib.ListN.{length-replicate, get_or-replicate}
-use Rattle.words.proofs.Stores.{storing_start, storing_next, storing_end}
+use lib.ListN.{replicate, length-replicate, length-take, length-drop}
+use Rattle.words.proofs.Ranges.{put_stored}
 use Rattle.words.proofs.storing.store_zeros.Goals as goal
-
-pub loop-i-init : goal.loop-i-init
-loop-i-init c =
-    storing_start _ _ _
-
-pub loop-i-preserved : goal.loop-i-preserved
-loop-i-preserved c =
-    storing_next c.loop-i.invariant 0 (simp length-replicate (omega arith)) (sym (get_or-replicate _ _ 0 0 c.loop-i-test.true))
-
-pub shape_of-s : goal.shape_of-s
-shape_of-s c =
-    c.loop-i.invariant.same
 
 pub returns : goal.returns
 returns c =
-    storing_end c.loop-i.invariant (simp length-replicate (omega arith))
+    put_stored _ _ (replicate c.args.n 0) _ _ (c.fill.ensures.after (λ y e. e) ∙ ap (λ (n : ℕ). replicate n 0) (simp (length-take, length-drop) (omega arith))) (search (rules, length-replicate)) (search (rules, length-replicate))
