@@ -2,7 +2,7 @@
 use mathlib.Core.Path.{◌≡◌, refl, sym, ap, ◌∙◌}
 use mathlib.Core.Bool.{true, false}
 use mathlib.Core.List.{List, [], ◌++◌, append-nil, append_assoc}
-use Prim.Native.Nat.{ℕ, zero, suc, ◌+◌, ◌-◌, ◌*◌, ◌%◌, ◌≤◌, ◌<◌}
+use Prim.Native.Nat.{ℕ, zero, suc, ◌+◌, ◌*◌, ◌%◌, ◌≤◌, ◌<◌}
 use native.Mathlib.Numerals.{add-one}
 use native.Mathlib.Omega.{arith}
 use lib.Dec.{ltb}
@@ -10,7 +10,7 @@ use lib.ListN.{length, take, drop, get_or, set, length-append, length-set}
 use lib.Seq.{take-suc, take_all, take-suc-set, get_or-drop, drop-drop}
 use Rattle.words.proofs.Choice.{choose}
 use Rattle.printing.specs.Put.{Fits, Put}
-use Rattle.printing.proofs.Puts.{Ahead, ahead_then, ahead_none, fits-first}
+use Rattle.printing.proofs.Puts.{put_length, put_none, put_then}
 use Rattle.month_table.specs.Table.{session_row}
 use Rattle.month_table.specs.Reading.{digit_value, bytes_in, digest_in, is_session}
 use Rattle.month_reading.specs.Inner.Terms.{digests_in}
@@ -83,31 +83,31 @@ unfolding digests_in
 digests_none t = refl
 
 -- one row more
-pub digests_after_lem : (n : ℕ) (t : List ℕ) (from at : ℕ) → at ≡ from + 75 * n → digests_in (n + 1) (drop from t) ≡ digests_in n (drop from t) ++ digest_in (drop at t)
-digests_after_lem zero t from at e =
-    let here : at ≡ from = omega arith in
-    rw (here, add-one 0, digests_more 0 (drop from t), digests_none (drop from t), digests_none (drop 75 (drop from t))) (append-nil (digest_in (drop from t)))
-digests_after_lem (suc n) t from at e =
-    rw (add-one (suc n), digests_more (suc n) (drop from t), digests_more n (drop from t), drop-drop 75 from t)
-    (ap (λ (l : List ℕ). digest_in (drop from t) ++ l) (rw add-one at (digests_after_lem n t (from + 75) at (omega arith)))
-    ∙ sym (append_assoc (digest_in (drop from t)) (digests_in n (drop (from + 75) t)) (digest_in (drop at t))))
+pub digests_after_lem : (n : ℕ) (t : List ℕ) (at : ℕ) → at ≡ 75 * n → digests_in (n + 1) t ≡ digests_in n t ++ digest_in (drop at t)
+digests_after_lem zero t at e =
+    let here : at ≡ 0 = omega arith in
+    rw (here, add-one 0, digests_more 0 t, digests_none t, digests_none (drop 75 t)) (append-nil (digest_in t))
+digests_after_lem (suc n) t at e =
+    let place : at ≡ 75 + 75 * n = omega arith in
+    let more : digests_in (suc n) (drop 75 t) ≡ digests_in n (drop 75 t) ++ digest_in (drop at t) =
+    rw (add-one n, drop-drop (75 * n) 75 t, ← place) at (digests_after_lem n (drop 75 t) (75 * n) refl) in
+    rw (add-one (suc n), digests_more (suc n) t, digests_more n t)
+    (ap (λ (l : List ℕ). digest_in t ++ l) more
+    ∙ sym (append_assoc (digest_in t) (digests_in n (drop 75 t)) (digest_in (drop at t))))
 
--- The digests of `left` rows are still to be stored.
-pub record Storing (t : List ℕ) (from count : ℕ) (l m : List ℕ) (at to left : ℕ) : Type 0 where
-  pub place : at + 75 * left ≡ from + 75 * count
-  pub ahead : Ahead (digests_in count (drop from t)) l 0 m to (digests_in left (drop at t))
+-- The digests of k rows are stored.
+pub record Stored (l m t : List ℕ) (k : ℕ) : Type 0 where
+  pub put : Put l m 0 (32 * k) (digests_in k t)
 
-module _ {t l m : List ℕ} {from count at to left : ℕ} (s : Storing t from count l m at to left) where
-  storing_step : 0 < left → digests_in left (drop at t) ≡ digest_in (drop at t) ++ digests_in (left - 1) (drop (at + 75) t)
-  storing_step h = let more : left ≡ suc (left - 1) = omega arith in ap (λ (n : ℕ). digests_in n (drop at t)) more ∙ digests_more (left - 1) (drop at t) ∙ rw (drop-drop 75 at t)
+module _ {l m t : List ℕ} {k : ℕ} (p : Stored l m t k) where
+  pub stored_row : {n : List ℕ} {b : ℕ} → Put m n (32 * k) b (digest_in (drop (75 * k) t)) → Stored l n t (k + 1)
+  stored_row {n} q =
+      let end : 32 * (k + 1) ≡ 32 * k + length (digest_in (drop (75 * k) t)) = omega (arith, digest_whole (drop (75 * k) t)) in
+      let one : Put m n (32 * k) (32 * (k + 1)) (digest_in (drop (75 * k) t)) = record { place = end; stored = q.stored } in
+      record { put = rw (digests_after_lem k t (75 * k) refl) (put_then p.put one) }
 
-  pub storing_fits : 0 < left → Fits m to (digest_in (drop at t))
-  storing_fits h = fits-first to (digest_in (drop at t)) (digests_in (left - 1) (drop (at + 75) t)) (rw (storing_step h) at s.ahead.fits)
+  pub stored_fits : (count : ℕ) → k < count → 32 * count ≤ length l → Fits m (32 * k) (digest_in (drop (75 * k) t))
+  stored_fits count h room = omega (arith, digest_whole (drop (75 * k) t), put_length p.put)
 
-  pub storing_row : {n : List ℕ} {b : ℕ} → 0 < left → Put m n to b (digest_in (drop at t)) → Storing t from count l n (at + 75) b (left - 1)
-  storing_row h p = record { place = omega (arith, s.place); ahead = ahead_then (digests_in (left - 1) (drop (at + 75) t)) (rw (storing_step h) at s.ahead) p }
-
-  pub storing_end : left ≤ 0 → Put l m 0 to (digests_in count (drop from t))
-  storing_end h =
-      let none : left ≡ 0 = omega arith in
-      ahead_none (rw (none, digests_none (drop at t)) at s.ahead)
+pub stored_none : (l t : List ℕ) → Stored l l t 0
+stored_none l t = record { put = rw digests_none (put_none l 0) }

@@ -1,15 +1,18 @@
 -- Searches byte by byte: whether a text begins with given bytes, where its first line ends, and what digits stand for.
 use mathlib.Core.Path.{◌≡◌, refl, sym, ap, ◌∙◌}
-use mathlib.Core.Bool.{true, false, ◌&&◌}
+use mathlib.Core.Bool.{Bool, true, false, cond, ◌&&◌}
 use mathlib.Core.List.{List, [], ◌∷◌}
-use Prim.Native.Nat.{ℕ, suc, ◌+◌, ◌-◌, ◌*◌, ◌<◌, ◌≤◌}
-use native.Mathlib.Nat.{add-zero}
+use Prim.Native.Nat.{ℕ, ◌+◌, ◌-◌, ◌*◌, ◌<◌, ◌≤◌}
 use native.Mathlib.Numerals.{add-one}
 use native.Mathlib.Omega.{arith}
-use lib.Dec.{eqb}
+use lib.Dec.{eqb, ltb}
 use lib.ListN.{length, take, drop, get_or, length-append, drop_of_length-le}
 use lib.Seq.{drop-cons}
-use borrow.Author.Tests.{eq-eqb, ne_eqb, lt-ltb, le-ltb}
+use borrow.Author.Tests.{lt-ltb, le-ltb, ltb-false}
+use Rattle.std.specs.Option.{unwrap_or}
+use Rattle.std.specs.List.{position_or_len}
+use Rattle.std.specs.Prelude.{Some, None}
+use Rattle.std.specs.Cmp.Lexicographic.{pointwise}
 use Rattle.words.proofs.Choice.{decide}
 use Rattle.month_table.specs.Reading.{begins, line, value_from}
 use Rattle.month_reading.specs.Inner.Terms.{count_of}
@@ -24,26 +27,12 @@ begins_length p t e = omega (arith, ap length (begins_split p t e), length-appen
 pub begins_short : (p t : List ℕ) → length t < length p → begins p t ≡ false
 begins_short p t h = decide (begins p t) (λ e. absurd (omega (arith, begins_length p t e))) (λ e. e)
 
--- The first i bytes are the same, and what is left tells the rest.
-pub record Compared (p t : List ℕ) (i : ℕ) : Type 0 where
-  pub inside : i ≤ length p
-  pub fits : length p ≤ length t
-  pub same : begins p t ≡ begins (drop i p) (drop i t)
-
-module _ {p t : List ℕ} {i : ℕ} (k : Compared p t i) where
-  compare_step : i < length p → begins p t ≡ (eqb (get_or p i 0) (get_or t i 0) && begins (drop (suc i) p) (drop (suc i) t))
-  unfolding begins
-  compare_step h = k.same ∙ rw (drop-cons p i 0 h, drop-cons t i 0 (omega arith))
-
-  pub compare_next : i < length p → get_or p i 0 ≡ get_or t i 0 → Compared p t (i + 1)
-  compare_next h e = record { inside = omega arith; fits = k.fits; same = compare_step h ∙ rw (eq-eqb (get_or p i 0) (get_or t i 0) e, add-one i) }
-
-  pub compare_not : i < length p → (get_or p i 0 ≡ get_or t i 0 → ⊥) → false ≡ begins p t
-  compare_not h e = sym (compare_step h ∙ rw (ne_eqb (get_or p i 0) (get_or t i 0) e))
-
-  pub compare_end : length p ≤ i → true ≡ begins p t
-  unfolding begins
-  compare_end h = sym (k.same ∙ rw (drop_of_length-le p h))
+-- what std says of `text.starts_with(front)`
+pub begins_is : (p t : List ℕ) → pointwise eqb p (take (length p) t) ≡ begins p t
+unfolding begins
+begins_is [] t = refl
+begins_is (b ∷ bs) [] = refl
+begins_is (b ∷ bs) (t ∷ ts) = ap (λ (x : Bool). eqb b t && x) (begins_is bs ts)
 
 -- ---- the first line
 
@@ -60,23 +49,16 @@ line_front (b ∷ bs) = decide (eqb b 10) (λ e. rw e) (λ e. rw e (ap (λ (l : 
 pub line_part : (t : List ℕ) (k e : ℕ) → e ≡ length (line t) → k ≤ e → take (e - k) (drop k t) ≡ drop k (line t)
 line_part t k e q h = middle_part k e t h ∙ ap (drop k) (rw q (sym (line_front t)))
 
--- There is no newline before byte i.
-pub record Lined (t : List ℕ) (i : ℕ) : Type 0 where
-  pub inside : i ≤ length t
-  pub same : length (line t) ≡ i + length (line (drop i t))
+pub line_is : (t : List ℕ) → position_or_len (λ b. eqb b 10) t ≡ length (line t)
+unfolding line
+line_is [] = refl
+line_is (b ∷ bs) = decide (eqb b 10) (λ e. rw e) (λ e. rw e (omega (arith, line_is bs)))
 
-module _ {t : List ℕ} {i : ℕ} (k : Lined t i) where
-  pub line_next : i < length t → (get_or t i 0 ≡ 10 → ⊥) → Lined t (i + 1)
-  unfolding line
-  line_next h e = record { inside = omega arith; same = k.same ∙ rw (drop-cons t i 0 h, ne_eqb (get_or t i 0) 10 e, add-one i) (omega arith) }
-
-  pub line_here : i < length t → get_or t i 0 ≡ 10 → i ≡ length (line t)
-  unfolding line
-  line_here h e = sym (k.same ∙ rw (drop-cons t i 0 h, eq-eqb (get_or t i 0) 10 e, add-zero i))
-
-  pub line_end : length t ≤ i → i ≡ length (line t)
-  unfolding line
-  line_end h = sym (k.same ∙ rw (drop_of_length-le t h, add-zero i))
+-- what std says of the newline that is found
+pub line_found : (t : List ℕ) → unwrap_or (cond (ltb (position_or_len (λ b. eqb b 10) t) (length t)) (Some (position_or_len (λ b. eqb b 10) t)) None) (length t) ≡ length (line t)
+line_found t = decide (ltb (position_or_len (λ b. eqb b 10) t) (length t))
+    (λ h. rw h (line_is t))
+    (λ h. rw h (omega (arith, ltb-false (position_or_len (λ b. eqb b 10) t) (length t) h, line_is t, line_within t)))
 
 -- ---- a count
 
@@ -102,15 +84,15 @@ module _ {s : List ℕ} {v i : ℕ} (k : Valued s v i) where
   pub value_next : (d : ℕ) → d ≡ get_or s i 0 - 48 → i < length s → 10 * v + d < 0x1_0000_0000_0000_0000 → Valued s (10 * v + d) (i + 1)
   value_next d e h l = record { inside = omega arith; small = l; same = value_step d e h }
 
-  pub value_over : (d : ℕ) → d ≡ get_or s i 0 - 48 → i < length s → 0x1_0000_0000_0000_0000 ≤ 10 * v + d → record { fits = false; value = 0 } ≡ count_of (value_from 0 s)
+  pub value_over : (d : ℕ) → d ≡ get_or s i 0 - 48 → i < length s → 0x1_0000_0000_0000_0000 ≤ 10 * v + d → None ≡ count_of (value_from 0 s)
   value_over d e h l = rw (le-ltb (value_from 0 s) 0x1_0000_0000_0000_0000 (omega (arith, value_step d e h, value_grows (10 * v + d) (drop (i + 1) s))))
 
-  pub value_end : length s ≤ i → record { fits = true; value = v } ≡ count_of (value_from 0 s)
+  pub value_end : length s ≤ i → Some v ≡ count_of (value_from 0 s)
   unfolding value_from
   value_end h =
       let all : value_from 0 s ≡ v = k.same ∙ rw (drop_of_length-le s h) in
       rw (all, lt-ltb v 0x1_0000_0000_0000_0000 k.small)
 
-pub count_none : (t : List ℕ) (k : ℕ) → length (line t) < k → record { fits = true; value = 0 } ≡ count_of (value_from 0 (drop k (line t)))
+pub count_none : (t : List ℕ) (k : ℕ) → length (line t) < k → Some 0 ≡ count_of (value_from 0 (drop k (line t)))
 unfolding value_from
 count_none t k h = rw (drop_of_length-le (line t) {i = k} (omega arith))

@@ -1,6 +1,6 @@
 -- Reading row by row: what is read from a place on gives the whole.
 use mathlib.Core.Path.{◌≡◌, refl, sym, ap, ◌∙◌}
-use mathlib.Core.Bool.{true, false, cond, false≢true}
+use mathlib.Core.Bool.{true, false}
 use mathlib.Core.List.{List, [], ◌++◌, append_assoc, append-nil}
 use Prim.Native.Nat.{ℕ, zero, suc, ◌+◌, ◌-◌, ◌*◌, ◌≤◌, ◌<◌}
 use native.Mathlib.Numerals.{add-one}
@@ -8,72 +8,56 @@ use native.Mathlib.Omega.{arith}
 use lib.Dec.{ltb, eqb}
 use lib.ListN.{length, drop, set, replicate, length-drop, drop_of_length-le}
 use lib.Seq.{drop-drop}
-use borrow.Author.Tests.{eq-eqb, ne_eqb, eqb-true, eqb-false}
+use borrow.Author.Tests.{eqb-true, eqb-false}
+use Rattle.std.specs.Prelude.{Some, None}
+use Rattle.std.proofs.lemmas.Option.{same_Some}
 use Rattle.words.proofs.Choice.{decide}
 use Rattle.month_table.specs.Table.{head, place, row}
 use Rattle.month_table.specs.Reading.{Table, table, wrong, begins, count_in, is_row, digest_in, is_session, with_digest, sessions_from, figures_from, reading}
-use Rattle.month_reading.specs.declared.finding.Count.{Count}
 use Rattle.month_reading.specs.declared.finding.Row.{Row}
-use Rattle.month_reading.specs.Inner.Terms.{count_of, no_row, row_in, digests_in, RowsRead, SessionsRead, Judges}
+use Rattle.month_reading.specs.Inner.Terms.{count_of, row_in, digests_in, RowsTaken, SessionsTaken, TableTaken}
 use Rattle.month_reading.specs.declared.judging.Rows.{Rows}
-use Rattle.month_reading.specs.declared.judging.Sessions.{Sessions}
-use Rattle.month_reading.specs.declared.judging.Judged.{Judged}
 use Rattle.month_reading.proofs.Searches.{begins_length}
 use Rattle.month_table.proofs.Sessions.{sessions_none, sessions_more, sessions_wrong, empty}
 use Rattle.month_reading.proofs.Digests.{digests_after_lem, session_length}
 use Rattle.month_table.proofs.Rows.{rows_more, rows_wrong, rows_none, row_length_lem}
-use Rattle.month_table.proofs.Whole.{blank, blank_is, head_more, head_wrong}
+use Rattle.month_table.proofs.Whole.{blank, blank_is, head_more}
 
 -- ---- one row of a figure, by the count that is told
 
-module _ (p : ℕ) (t : List ℕ) (r : Count) (e : r ≡ count_of (count_in p t)) where
-  told : ltb (count_in p t) 0x1_0000_0000_0000_0000 ≡ true → r ≡ record { fits = true; value = count_in p t }
-  told l = rw l at e
-
-  not_told : ltb (count_in p t) 0x1_0000_0000_0000_0000 ≡ false → r ≡ record { fits = false; value = 0 }
-  not_told l = rw l at e
-
-  count_fits : r.fits ≡ true → (ltb (count_in p t) 0x1_0000_0000_0000_0000 ≡ true) × (r.value ≡ count_in p t)
-  count_fits f = decide (ltb (count_in p t) 0x1_0000_0000_0000_0000)
-      (λ l. (l, ap (λ (c : Count). c.value) (told l)))
-      (λ l. absurd (false≢true (sym (ap (λ (c : Count). c.fits) (not_told l)) ∙ f)))
-
-  pub row_over : r.fits ≡ false → row_in p t ≡ no_row
+module _ (p : ℕ) (t : List ℕ) where
+  pub row_over : None ≡ count_of (count_in p t) → None ≡ row_in p t
   unfolding row_in is_row
-  row_over f = decide (ltb (count_in p t) 0x1_0000_0000_0000_0000)
-      (λ l. absurd (false≢true (sym f ∙ ap (λ (c : Count). c.fits) (told l))))
-      (λ l. rw l)
+  row_over e = decide (ltb (count_in p t) 0x1_0000_0000_0000_0000) (λ l. let no = rw l at e in cc) (λ l. rw l)
 
-  module _ (f : r.fits ≡ true) where
-    pub row_taken : begins (row p r.value) t ≡ true → row_in p t ≡ record { taken = true; count = r.value; length = length (row p r.value) }
+  module _ (v : ℕ) (e : Some v ≡ count_of (count_in p t)) where
+    counted : (ltb (count_in p t) 0x1_0000_0000_0000_0000 ≡ true) × (v ≡ count_in p t)
+    counted = decide (ltb (count_in p t) 0x1_0000_0000_0000_0000) (λ l. let same = rw l at e in (l, (cc))) (λ l. let no = rw l at e in cc)
+
+    pub row_taken : begins (row p v) t ≡ true → Some (record { count = v; length = length (row p v) }) ≡ row_in p t
     unfolding row_in is_row
     row_taken b =
-        let same = rw (count_fits f).1 at b in
-        rw ((count_fits f).1, (count_fits f).0, same)
+        let same = rw counted.1 at b in
+        rw (counted.1, counted.0, same)
 
-    pub row_other : begins (row p r.value) t ≡ false → row_in p t ≡ no_row
+    pub row_other : begins (row p v) t ≡ false → None ≡ row_in p t
     unfolding row_in is_row
     row_other b =
-        let same = rw (count_fits f).1 at b in
-        rw ((count_fits f).0, same)
+        let same = rw counted.1 at b in
+        rw (counted.0, same)
 
 -- what a row tells
-module _ (p : ℕ) (t : List ℕ) (r : Row) (e : r ≡ row_in p t) where
-  is_row_lem : is_row p t ≡ true → r ≡ record { taken = true; count = count_in p t; length = length (row p (count_in p t)) }
+module _ (p : ℕ) (t : List ℕ) where
+  pub row_is : (r : Row) → Some r ≡ row_in p t → (is_row p t ≡ true) × (r.count ≡ count_in p t) × (r.length ≡ length (row p (count_in p t)))
   unfolding row_in
-  is_row_lem l = rw l at e
+  row_is r e = decide (is_row p t)
+      (λ l. let same : Some r ≡ Some (record { count = count_in p t; length = length (row p (count_in p t)) }) = rw l at e in
+      (l, ap (λ (x : Row). x.count) (same_Some _ _ same), ap (λ (x : Row). x.length) (same_Some _ _ same)))
+      (λ l. let no = rw l at e in cc)
 
-  is_none : is_row p t ≡ false → r ≡ no_row
+  pub row_not : None ≡ row_in p t → is_row p t ≡ false
   unfolding row_in
-  is_none l = rw l at e
-
-  pub row_is : r.taken ≡ true → (is_row p t ≡ true) × (r.count ≡ count_in p t) × (r.length ≡ length (row p (count_in p t)))
-  row_is f = decide (is_row p t)
-      (λ l. (l, ap (λ (x : Row). x.count) (is_row_lem l), ap (λ (x : Row). x.length) (is_row_lem l)))
-      (λ l. absurd (false≢true (sym (ap (λ (x : Row). x.taken) (is_none l)) ∙ f)))
-
-  pub row_not : r.taken ≡ false → is_row p t ≡ false
-  row_not f = decide (is_row p t) (λ l. absurd (false≢true (sym f ∙ ap (λ (x : Row). x.taken) (is_row_lem l)))) (λ l. l)
+  row_not e = decide (is_row p t) (λ l. let no = rw l at e in cc) (λ l. l)
 
 -- ---- the rows of the figures
 
@@ -85,13 +69,13 @@ pub record Turned (t figures : List ℕ) (at p : ℕ) : Type 0 where
 pub turned_none : (t : List ℕ) → 19 ≤ length t → Turned t blank 19 0
 turned_none t h = record { few = omega arith; inside = h; same = refl }
 
-module _ {t figures : List ℕ} {at p : ℕ} (u : Turned t figures at p) (h : p < 39) (r : Row) (e : r ≡ row_in p (drop at t)) where
+module _ {t figures : List ℕ} {at p : ℕ} (u : Turned t figures at p) (h : p < 39) where
   left : 39 - p ≡ suc (39 - (p + 1))
   left = omega arith
 
-  pub turned_row : r.taken ≡ true → Turned t (set figures (place p) r.count) (at + r.length) (p + 1)
-  turned_row f =
-      let is = row_is p (drop at t) r e f in
+  pub turned_row : (r : Row) → Some r ≡ row_in p (drop at t) → Turned t (set figures (place p) r.count) (at + r.length) (p + 1)
+  turned_row r e =
+      let is = row_is p (drop at t) r e in
       record {
         few = omega arith;
         inside = omega (arith, u.inside, is.2, row_length_lem p (drop at t) is.0, length-drop at t);
@@ -99,8 +83,8 @@ module _ {t figures : List ℕ} {at p : ℕ} (u : Turned t figures at p) (h : p 
             u.same ∙ rw (left, rows_more (39 - (p + 1)) p figures (drop at t) is.0, is.1, is.2, drop-drop (length (row p (count_in p (drop at t)))) at t, add-one p);
       }
 
-  pub turned_wrong : r.taken ≡ false → figures_from 39 0 blank (drop 19 t) ≡ wrong (p + 2)
-  turned_wrong f = u.same ∙ rw (left, rows_wrong (39 - (p + 1)) p figures (drop at t) (row_not p (drop at t) r e f))
+  turned_wrong : None ≡ row_in p (drop at t) → figures_from 39 0 blank (drop 19 t) ≡ wrong (p + 2)
+  turned_wrong e = u.same ∙ rw (left, rows_wrong (39 - (p + 1)) p figures (drop at t) (row_not p (drop at t) e))
 
 pub turned_all : {t figures : List ℕ} {at p : ℕ} → Turned t figures at p → 39 ≤ p → figures_from 39 0 blank (drop 19 t) ≡ sessions_from (length (drop at t)) 41 figures (drop at t)
 turned_all {t} {figures} {at} {p} u h =
@@ -148,43 +132,47 @@ with_none : (x : Table) → x ≡ with_digest [] x
 with_none (table figures ds) = refl
 with_none (wrong n) = refl
 
--- `count` sessions from a place on are read.
-pub record Passed (t : List ℕ) (from at count : ℕ) : Type 0 where
-  pub place : at ≡ from + 75 * count
+-- `count` sessions are read.
+pub record Passed (t : List ℕ) (at count : ℕ) : Type 0 where
+  pub place : at ≡ 75 * count
   pub inside : at ≤ length t
-  pub same : (figures : List ℕ) → sessions_from (length (drop from t)) 41 figures (drop from t) ≡ with_digest (digests_in count (drop from t)) (sessions_at (count + 41) figures (drop at t))
+  pub same : (figures : List ℕ) → sessions_from (length t) 41 figures t ≡ with_digest (digests_in count t) (sessions_at (count + 41) figures (drop at t))
 
-pub passed_none : (t : List ℕ) (from : ℕ) → from ≤ length t → Passed t from from 0
+pub passed_none : (t : List ℕ) → Passed t 0 0
 unfolding sessions_at digests_in
-passed_none t from h = record { place = omega arith; inside = h; same = λ figures. with_none (sessions_from (length (drop from t)) 41 figures (drop from t)) }
+passed_none t = record { place = refl; inside = omega arith; same = λ figures. with_none (sessions_from (length t) 41 figures t) }
 
-module _ {t : List ℕ} {from at count : ℕ} (p : Passed t from at count) where
+module _ {t : List ℕ} {at count : ℕ} (p : Passed t at count) where
   some_left : at < length t → length (drop at t) ≡ 0 → ⊥
   some_left h e = omega (arith, length-drop at t)
 
   pub passed_inside : is_session (drop at t) ≡ true → at + 75 ≤ length t
   passed_inside s = omega (arith, p.inside, session_length (drop at t) s, length-drop at t)
 
-  pub passed_row : at < length t → is_session (drop at t) ≡ true → Passed t from (at + 75) (count + 1)
+  pub passed_row : at < length t → is_session (drop at t) ≡ true → Passed t (at + 75) (count + 1)
   passed_row h s =
       record {
         place = omega (arith, p.place);
         inside = passed_inside s;
         same = λ figures. p.same figures
-            ∙ ap (with_digest (digests_in count (drop from t))) (sessions_turn (count + 41) figures (drop at t) (some_left h) s)
-            ∙ with_with (digests_in count (drop from t)) (digest_in (drop at t)) (sessions_at (suc (count + 41)) figures (drop 75 (drop at t)))
-            ∙ rw (← digests_after_lem count t from at p.place, drop-drop 75 at t, next);
+            ∙ ap (with_digest (digests_in count t)) (sessions_turn (count + 41) figures (drop at t) (some_left h) s)
+            ∙ with_with (digests_in count t) (digest_in (drop at t)) (sessions_at (suc (count + 41)) figures (drop 75 (drop at t)))
+            ∙ rw (← digests_after_lem count t at p.place, drop-drop 75 at t, next);
       }
     where
       next : suc (count + 41) ≡ count + 1 + 41
       next = omega arith
 
-  pub passed_wrong : at < length t → is_session (drop at t) ≡ false → (figures : List ℕ) → sessions_from (length (drop from t)) 41 figures (drop from t) ≡ wrong (count + 41)
+  pub passed_wrong : at < length t → is_session (drop at t) ≡ false → (figures : List ℕ) → sessions_from (length t) 41 figures t ≡ wrong (count + 41)
   passed_wrong h s figures = p.same figures ∙ rw (sessions_stop (count + 41) figures (drop at t) (some_left h) s)
 
-  pub passed_all : length t ≤ at → (figures : List ℕ) → sessions_from (length (drop from t)) 41 figures (drop from t) ≡ table figures (digests_in count (drop from t))
-  passed_all h figures =
-      p.same figures ∙ rw (drop_of_length-le t h, sessions_over (count + 41) figures) (ap (table figures) (append-nil (digests_in count (drop from t))))
+  pub sessions_told : length t ≤ at → SessionsTaken t count
+  sessions_told h =
+      record {
+        inside = omega (arith, p.place, p.inside);
+        same = λ figures. p.same figures
+            ∙ rw (drop_of_length-le t h, sessions_over (count + 41) figures) (ap (table figures) (append-nil (digests_in count t)));
+      }
 
 -- ---- what is told
 
@@ -192,45 +180,27 @@ pub turned_start : (t : List ℕ) → 19 ≤ length t → Turned t (replicate 39
 turned_start t h = rw blank_is (turned_none t h)
 
 module _ {t figures : List ℕ} {at p : ℕ} (u : Turned t figures at p) where
-  pub rows_told_wrong : (r : Row) → r ≡ row_in p (drop at t) → p < 39 → r.taken ≡ false → RowsRead t (record { wrong = p + 2; at = at; figures = figures })
-  rows_told_wrong r e h f = record { inside = u.inside; same = rw (blank_is, ne_eqb (p + 2) 0 (λ q. omega arith)) (turned_wrong u h r e f) }
+  pub rows_told_wrong : p < 39 → None ≡ row_in p (drop at t) → figures_from 39 0 (replicate 39 0) (drop 19 t) ≡ wrong (p + 2)
+  rows_told_wrong h e = rw blank_is (turned_wrong u h e)
 
-  pub rows_told : 39 ≤ p → RowsRead t (record { wrong = 0; at = at; figures = figures })
+  pub rows_told : 39 ≤ p → RowsTaken t (record { at = at; figures = figures })
   rows_told h = record { inside = u.inside; same = rw blank_is (turned_all u h) }
-
-module _ {t : List ℕ} {from at count : ℕ} (p : Passed t from at count) where
-  pub sessions_told_wrong : at < length t → is_session (drop at t) ≡ false → SessionsRead t from (record { wrong = count + 41; count = 0 })
-  sessions_told_wrong h s =
-      record { inside = omega (arith, p.place, p.inside); same = λ figures. rw (ne_eqb (count + 41) 0 (λ q. omega arith)) (passed_wrong p h s figures) }
-
-  pub sessions_told : length t ≤ at → SessionsRead t from (record { wrong = 0; count = count })
-  sessions_told h = record { inside = omega (arith, p.place, p.inside); same = passed_all p h }
 
 -- ---- the whole text
 
-module _ (t : List ℕ) where
-  pub judges_head : begins head t ≡ false → (r : Judged) → (r.wrong ≡ 1) × (r.at ≡ 0) × (r.sessions ≡ 0) → Judges t r
-  judges_head e r w = record { inside = omega (arith, w.1, w.2); same = head_wrong t e ∙ rw w.0 }
+module _ (t : List ℕ) (e : begins head t ≡ true) where
+  pub head_length : 19 ≤ length t
+  head_length = begins_length head t e
 
-  module _ (e : begins head t ≡ true) where
-    pub head_length : 19 ≤ length t
-    head_length = begins_length head t e
+  pub judges_rows : (line : ℕ) → figures_from 39 0 (replicate 39 0) (drop 19 t) ≡ wrong line → reading t ≡ wrong line
+  judges_rows line k = head_more t e ∙ rw (← blank_is) k
 
-    module _ {rows : Rows} (k : RowsRead t rows) where
-      after_rows : reading t ≡ cond (eqb rows.wrong 0) (sessions_from (length (drop rows.at t)) 41 rows.figures (drop rows.at t)) (wrong rows.wrong)
-      after_rows = head_more t e ∙ rw (← blank_is) k.same
+  module _ {rows : Rows} (k : RowsTaken t rows) where
+    after_rows : reading t ≡ sessions_from (length (drop rows.at t)) 41 rows.figures (drop rows.at t)
+    after_rows = head_more t e ∙ rw (← blank_is) k.same
 
-      pub judges_rows : (rows.wrong ≡ 0 → ⊥) → (r : Judged) → (r.wrong ≡ rows.wrong) × (r.at ≡ 0) × (r.sessions ≡ 0) → Judges t r
-      judges_rows bad r w =
-          record { inside = omega (arith, w.1, w.2); same = after_rows ∙ rw (w.0, ne_eqb rows.wrong 0 bad) }
+    pub judges_sessions : (line : ℕ) → ((figures : List ℕ) → sessions_from (length (drop rows.at t)) 41 figures (drop rows.at t) ≡ wrong line) → reading t ≡ wrong line
+    judges_sessions line s = after_rows ∙ s rows.figures
 
-      module _ (good : rows.wrong ≡ 0) {sessions : Sessions} (s : SessionsRead t rows.at sessions) where
-        after_sessions : reading t ≡ cond (eqb sessions.wrong 0) (table rows.figures (digests_in sessions.count (drop rows.at t))) (wrong sessions.wrong)
-        after_sessions = after_rows ∙ rw (eq-eqb rows.wrong 0 good) (s.same rows.figures)
-
-        pub judges_sessions : (sessions.wrong ≡ 0 → ⊥) → (r : Judged) → (r.wrong ≡ sessions.wrong) × (r.at ≡ 0) × (r.sessions ≡ 0) → Judges t r
-        judges_sessions bad r w =
-            record { inside = omega (arith, w.1, w.2); same = after_sessions ∙ rw (w.0, ne_eqb sessions.wrong 0 bad) }
-
-        pub judges_table : sessions.wrong ≡ 0 → Judges t (record { wrong = 0; at = rows.at; sessions = sessions.count; figures = rows.figures })
-        judges_table fine = record { inside = s.inside; same = after_sessions ∙ rw (eq-eqb sessions.wrong 0 fine) }
+    pub judges_table : (sessions : ℕ) → SessionsTaken (drop rows.at t) sessions → TableTaken t (record { rows = rows; sessions = sessions })
+    judges_table sessions s = record { inside = omega (arith, k.inside, s.inside, length-drop rows.at t); same = after_rows ∙ s.same rows.figures }

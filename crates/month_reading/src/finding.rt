@@ -1,140 +1,74 @@
 // The rows that begin a text.
 ghost use Rattle.std.specs.Prelude.{◌≡◌, ◌+◌, ◌-◌, ◌*◌, ◌%◌, ◌<◌, ◌≤◌, length, drop, get_or};
-ghost use Rattle.month_table.specs.Reading.{begins, line, value_from, digit_value, digest_in, is_session};
-ghost use Rattle.month_reading.specs.Inner.Terms.{count_of, no_row, row_in};
+ghost use Rattle.month_table.specs.Reading.{line, value_from, digit_value, digest_in, is_session};
+ghost use Rattle.month_reading.specs.Inner.Terms.{count_of, row_in};
 
 use month_table::{put_label, put_row, put_session};
 
-// A count, if it is below 2^64.
-#[derive(Clone, Copy)]
-pub struct Count {
-    pub fits: bool,
-    pub value: u64,
-}
-
-// A row that begins a text, its count and its length; zeros if none begins it.
+// A row that begins a text: its count and its length.
 #[derive(Clone, Copy)]
 pub struct Row {
-    pub taken: bool,
     pub count: u64,
     pub length: usize,
-}
-
-pub fn begins_with(front: &[u8], text: &[u8]) -> bool
-    ensures { result ≡ begins front.now text.now }
-{
-    if text.len() < front.len() {
-        return false;
-    }
-    let mut i = 0;
-    while i < front.len() {
-        if front[i] != text[i] {
-            return false;
-        }
-        i += 1;
-    }
-    true
 }
 
 // How many bytes stand before the first newline.
 fn line_length(text: &[u8]) -> usize
     ensures { result ≡ length (line text.now) }
 {
-    let mut i = 0;
-    while i < text.len() {
-        if text[i] == b'\n' {
-            return i;
-        }
-        i += 1;
-    }
-    i
+    text.iter().position(|b| *b == b'\n').unwrap_or(text.len())
 }
 
 fn digit(b: u8) -> u64
     ensures { result ≡ b - 48 }
 {
-    if b < 48 {
-        return 0;
-    }
-    (b - 48) as u64
+    u64::from(b.saturating_sub(b'0'))
 }
 
-fn value_of(digits: &[u8]) -> Count
+// A count, if it is below 2^64.
+fn value_of(digits: &[u8]) -> Option<u64>
     ensures { result ≡ count_of (value_from 0 digits.now) }
 {
     let mut value: u64 = 0;
-    let mut i = 0;
-    while i < digits.len() {
-        let d = digit(digits[i]);
-        if (0xffff_ffff_ffff_ffff - d) / 10 < value {
-            return Count {
-                fits: false,
-                value: 0,
-            };
-        }
-        value = 10 * value + d;
-        i += 1;
+    for b in digits {
+        value = value.checked_mul(10)?.checked_add(digit(*b))?;
     }
-    Count { fits: true, value }
+    Some(value)
 }
 
 // The count in the first line of a text, after so many bytes.
-fn count_after(text: &[u8], skip: usize) -> Count
+fn count_after(text: &[u8], skip: usize) -> Option<u64>
     ensures { result ≡ count_of (value_from 0 (drop skip (line text.now))) }
 {
     let end = line_length(text);
     if end < skip {
-        return Count {
-            fits: true,
-            value: 0,
-        };
+        return Some(0);
     }
     value_of(&text[skip..end])
 }
 
-fn no_row() -> Row
-    ensures { result ≡ no_row }
-{
-    Row {
-        taken: false,
-        count: 0,
-        length: 0,
-    }
-}
-
 // Row p at the front of a text: made for the count that stands there, and compared.
-pub fn read_row(p: usize, text: &[u8]) -> Row
+pub fn read_row(p: usize, text: &[u8]) -> Option<Row>
     requires { p < 39 }
     ensures { result ≡ row_in p text.now }
 {
     let mut room = [0u8; 64];
     let skip = put_label(p, &mut room, 0);
-    let count = count_after(text, skip);
-    if !count.fits {
-        return no_row();
+    let count = count_after(text, skip)?;
+    let length = put_row(p, count, &mut room, 0);
+    if text.starts_with(&room[..length]) {
+        return Some(Row { count, length });
     }
-    let value = count.value;
-    let end = put_row(p, value, &mut room, 0);
-    if begins_with(&room[..end], text) {
-        return Row {
-            taken: true,
-            count: value,
-            length: end,
-        };
-    }
-    no_row()
+    None
 }
 
 fn hex_value(b: u8) -> u64
     ensures { result ≡ digit_value b }
 {
-    if b < 58 {
-        return digit(b);
+    match b {
+        0..=57 => digit(b),
+        _ => u64::from(b.saturating_sub(87)),
     }
-    if b < 87 {
-        return 0;
-    }
-    (b - 87) as u64
 }
 
 // The byte that two hexadecimal digits make.
@@ -151,11 +85,9 @@ pub fn digest_in(text: &[u8]) -> [u8; 32]
     ensures { result ≡ digest_in text.now }
 {
     let mut digest = [0u8; 32];
-    let mut i: usize = 0;
-    while i < 32 {
+    for i in 0..32 {
         let at = 8 + 2 * i;
         digest[i] = join(hex_value(text[at]), hex_value(text[at + 1]));
-        i += 1;
     }
     digest
 }
@@ -169,5 +101,5 @@ pub fn is_session(text: &[u8]) -> bool
     let digest = digest_in(text);
     let mut room = [0u8; 75];
     let end = put_session(&digest, &mut room, 0);
-    begins_with(&room[..end], text)
+    text.starts_with(&room[..end])
 }

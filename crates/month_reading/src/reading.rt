@@ -1,5 +1,5 @@
 // Reading the text of a table: the digests are stored only once the whole text is judged.
-ghost use Rattle.std.specs.Prelude.{◌≡◌, ◌+◌, ◌*◌, ◌≤◌, length, drop};
+ghost use Rattle.std.specs.Prelude.{◌≡◌, ◌*◌, ◌≤◌, length};
 ghost use Rattle.std.proofs.lemmas.List.Edits.{sets};
 ghost use Rattle.month_table.specs.Reading.{reading};
 ghost use Rattle.month_reading.specs.Answers.{no_table, read_of, digests_after};
@@ -35,19 +35,14 @@ fn no_table(number: u32, line: u64, sessions: u64) -> Read
     }
 }
 
-// Stores the digests of so many rows from a place on.
-fn store_digests(text: &[u8], from: usize, count: usize, digests: &mut [u8])
-    requires { (from + 75 * count ≤ length text.now) × (32 * count ≤ length digests.old) }
-    ensures { digests.new ≡ sets digests.old 0 (digests_in count (drop from text.now)) }
+// Stores the digests of so many rows.
+fn store_digests(rows: &[u8], count: usize, digests: &mut [u8])
+    requires { (75 * count ≤ length rows.now) × (32 * count ≤ length digests.old) }
+    ensures { digests.new ≡ sets digests.old 0 (digests_in count rows.now) }
 {
-    let mut at = from;
-    let mut to: usize = 0;
-    let mut left = count;
-    while 0 < left {
-        let digest = digest_in(&text[at..]);
-        to = put_bytes(&digest, digests, to);
-        at += 75;
-        left -= 1;
+    for k in 0..count {
+        let digest = digest_in(&rows[75 * k..]);
+        put_bytes(&digest, digests, 32 * k);
     }
 }
 
@@ -56,17 +51,16 @@ pub fn read_table(text: &[u8], digests: &mut [u8]) -> Read
     ensures digests_after { digests.new ≡ digests_after (reading text.now) digests.old }
     ensures claims { AnswerClaims }
 {
-    let judged = judge(text);
-    if judged.wrong != 0 {
-        return no_table(61, judged.wrong, 0);
-    }
+    let judged = match judge(text) {
+        Ok(judged) => judged,
+        Err(line) => return no_table(61, line, 0),
+    };
     let sessions = judged.sessions;
     if digests.len() / 32 < sessions {
         return no_table(60, 0, sessions as u64);
     }
-    let at = judged.at;
-    store_digests(text, at, sessions, digests);
-    let figures = judged.figures;
+    store_digests(&text[judged.rows.at..], sessions, digests);
+    let figures = judged.rows.figures;
     Read {
         number: 0,
         line: 0,

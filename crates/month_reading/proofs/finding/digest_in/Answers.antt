@@ -9,14 +9,6 @@ pub loop-i-init : goal.loop-i-init
 loop-i-init c =
     record { inside = omega arith; long = refl; front = refl }
 
-pub bounds-text-at : goal.bounds-text-at
-bounds-text-at c =
-    omega (arith, c.requires)
-
-pub bounds-text-at-in-loop-i : goal.bounds-text-at-in-loop-i
-bounds-text-at-in-loop-i c =
-    omega (arith, c.requires)
-
 pub join-requires : goal.join-requires
 join-requires c =
     let i = c.loop-i.i in
@@ -31,4 +23,4 @@ loop-i-preserved c =
 
 pub returns : goal.returns
 returns c =
-    made_all c.loop-i.invariant c.loop-i-test.false
+    made_all c.loop-i.invariant (omega arith)

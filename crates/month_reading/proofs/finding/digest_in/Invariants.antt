@@ -1,10 +1,5 @@
--- `finding::digest_in` meets its contract.
-use Prim.Native.Nat.{◌-◌}
 use Rattle.month_reading.proofs.Digests.{Made}
 use Rattle.month_reading.proofs.finding.digest_in.Given as goal
 
 abbrev pub invariant-loop-i : goal.invariant-loop-i
 invariant-loop-i l = Made l.text l.digest l.i
-
-abbrev pub decreases-loop-i : goal.decreases-loop-i
-decreases-loop-i l = 32 - l.i

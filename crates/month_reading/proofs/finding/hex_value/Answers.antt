@@ -5,17 +5,12 @@ use borrow.Author.Tests.{lt-ltb, le-ltb}
 use Rattle.month_table.specs.Reading.{digit_value}
 use Rattle.month_reading.proofs.finding.hex_value.Goals as goal
 
-pub returns-then-b-lt58 : goal.returns-then-b-lt58
+pub returns-in-0-to-57 : goal.returns-in-0-to-57
 unfolding digit_value
-returns-then-b-lt58 c =
-    c.digit.ensures ∙ rw (lt-ltb c.args.b 58 c.if-b-lt58.true)
+returns-in-0-to-57 c =
+    c.digit.ensures ∙ rw (lt-ltb c.args.b 58 (omega arith))
 
-pub returns-then-b-lt87 : goal.returns-then-b-lt87
+pub returns-in_default : goal.returns-in_default
 unfolding digit_value
-returns-then-b-lt87 c =
-    rw (le-ltb c.args.b 58 c.if-b-lt58.false) (omega arith)
-
-pub returns : goal.returns
-unfolding digit_value
-returns c =
-    rw (le-ltb c.args.b 58 c.if-b-lt58.false)
+returns-in_default c =
+    c.from.ensures ∙ c.saturating_sub.ensures ∙ rw (le-ltb c.args.b 58 (omega arith))

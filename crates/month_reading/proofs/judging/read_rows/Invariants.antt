@@ -1,10 +1,6 @@
 -- `judging::read_rows` meets its contract.
-use Prim.Native.Nat.{◌-◌}
 use Rattle.month_reading.proofs.Turns.{Turned}
 use Rattle.month_reading.proofs.judging.read_rows.Given as goal
 
 abbrev pub invariant-loop-p : goal.invariant-loop-p
 invariant-loop-p l = Turned l.text l.figures l.at l.p
-
-abbrev pub decreases-loop-p : goal.decreases-loop-p
-decreases-loop-p l = 39 - l.p

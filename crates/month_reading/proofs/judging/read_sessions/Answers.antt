@@ -3,12 +3,12 @@ use native.Mathlib.Omega.{arith}
 use lib.ListN.{drop}
 use Rattle.month_table.specs.Reading.{is_session}
 use Rattle.month_table.proofs.Parts.{rest_part}
-use Rattle.month_reading.proofs.Turns.{passed_none, passed_inside, passed_row, sessions_told_wrong, sessions_told}
+use Rattle.month_reading.proofs.Turns.{passed_none, passed_inside, passed_row, passed_wrong, sessions_told}
 use Rattle.month_reading.proofs.judging.read_sessions.Goals as goal
 
 pub loop-at-init : goal.loop-at-init
 loop-at-init c =
-    passed_none _ _ c.requires
+    passed_none _
 
 pub slice_bounds-is_session-start : goal.slice_bounds-is_session-start
 slice_bounds-is_session-start c =
@@ -20,14 +20,14 @@ overflow_add-result c =
 
 pub returns-then-not-is_session : goal.returns-then-not-is_session
 returns-then-not-is_session c =
-    let told : is_session (drop c.loop-at.at c.args.text.now) ≡ c.is_session.result =
-    sym (rw (rest_part c.loop-at.at c.args.text.now) at c.is_session.ensures) in
-    sessions_told_wrong c.loop-at.invariant c.loop-at-test.true (told ∙ c.if-not-is_session.true)
+    let told : is_session (drop c.loop-at.at c.args.rows.now) ≡ c.is_session.result =
+    sym (rw (rest_part c.loop-at.at c.args.rows.now) at c.is_session.ensures) in
+    passed_wrong c.loop-at.invariant c.loop-at-test.true (told ∙ c.if-not-is_session.true)
 
 pub overflow_add-at : goal.overflow_add-at
 overflow_add-at c =
-    let told : is_session (drop c.loop-at.at c.args.text.now) ≡ c.is_session.result =
-    sym (rw (rest_part c.loop-at.at c.args.text.now) at c.is_session.ensures) in
+    let told : is_session (drop c.loop-at.at c.args.rows.now) ≡ c.is_session.result =
+    sym (rw (rest_part c.loop-at.at c.args.rows.now) at c.is_session.ensures) in
     record { fits = omega (arith, passed_inside c.loop-at.invariant (told ∙ c.if-not-is_session.false)) }
 
 pub overflow_add-count : goal.overflow_add-count
@@ -36,8 +36,8 @@ overflow_add-count c =
 
 pub loop-at-preserved : goal.loop-at-preserved
 loop-at-preserved c =
-    let told : is_session (drop c.loop-at.at c.args.text.now) ≡ c.is_session.result =
-    sym (rw (rest_part c.loop-at.at c.args.text.now) at c.is_session.ensures) in
+    let told : is_session (drop c.loop-at.at c.args.rows.now) ≡ c.is_session.result =
+    sym (rw (rest_part c.loop-at.at c.args.rows.now) at c.is_session.ensures) in
     passed_row c.loop-at.invariant c.loop-at-test.true (told ∙ c.if-not-is_session.false)
 
 pub returns : goal.returns
