@@ -9,12 +9,12 @@ loop-left-init c =
 pub move_piece-requires : goal.move_piece-requires
 move_piece-requires c =
     let t = c.loop-left.invariant in
-    let n = c.piece_of-n.ensures in
+    let n = c.min-n.ensures in
     ((omega (arith, t.within, t.long, n), omega (arith, t.within, t.long, n)), omega (arith, n))
 
 pub loop-left-preserved : goal.loop-left-preserved
 loop-left-preserved c =
-    let n = c.piece_of-n in
+    let n = c.min-n in
     back_next _ _ _ _ _ _ c.loop-left.invariant (omega arith) (omega arith) n.result _ _ (omega (arith, n.ensures)) c.move_piece.ensures
 
 pub shape_of-bytes : goal.shape_of-bytes

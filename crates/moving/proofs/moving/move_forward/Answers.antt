@@ -9,12 +9,12 @@ loop-done-init c =
 pub move_piece-requires : goal.move_piece-requires
 move_piece-requires c =
     let t = c.loop-done.invariant in
-    let n = c.piece_of-n.ensures in
+    let n = c.min-n.ensures in
     ((omega (arith, t.within, t.long, n), omega (arith, t.within, t.long, n)), omega (arith, n))
 
 pub loop-done-preserved : goal.loop-done-preserved
 loop-done-preserved c =
-    let n = c.piece_of-n.ensures in
+    let n = c.min-n.ensures in
     front_next _ _ _ _ _ _ c.loop-done.invariant (omega arith) (omega arith) _ _ (omega (arith, n)) c.move_piece.ensures
 
 pub shape_of-bytes : goal.shape_of-bytes
