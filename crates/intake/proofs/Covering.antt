@@ -8,6 +8,7 @@ use lib.Dec.{leb}
 use lib.ListN.{length, take, length-append, length-take}
 use lib.Seq.{sets, length-sets, length-take-le, take-length, take_at, take-add, take-take, take-append-add}
 use borrow.Author.Tests.{leb-true}
+use Rattle.std.specs.Prelude.{Option, Some}
 use Rattle.words.proofs.Choice.{and_left, and_right}
 use Rattle.words.proofs.Stores.{sets_behind}
 use Rattle.records.specs.Records.{size_of, length_of, kind_of, first_record, records, whole, all_good, size_limit}
@@ -18,8 +19,6 @@ use Rattle.records.proofs.Joining.{records_join, good_join, one_record_lem, one_
 use Rattle.records.proofs.Behind.{filled_front, front_due}
 use Rattle.records.proofs.Holding.{under}
 use Rattle.journal.specs.declared.judging.Shape.{Shape}
-use Rattle.journal.specs.declared.judging.Verdict.{Verdict}
-use Rattle.journal.specs.declared.judging.Verdict.TheVariants.{Good}
 use Rattle.journal.specs.Journal.{largest_type, good_record, well_formed}
 use Rattle.journal.specs.Terms.{IsKind, node_here, shape_at, verdict_at}
 use Rattle.journal.proofs.RecordLaws.{given_good}
@@ -135,7 +134,7 @@ module _ {store : List ℕ} {held : ℕ} {bytes after : List ℕ} (k : Stored st
   begins_not = begins_none store_size held_front put
 
   -- what was judged there as good
-  module _ (s : Shape) (v : Verdict) (e : v ≡ Good s) (g : v ≡ verdict_at 4 (take (held + 18) after) 0) where
+  module _ (s : Shape) (v : Option Shape) (e : v ≡ Some s) (g : v ≡ verdict_at 4 (take (held + 18) after) 0) where
     judged : (node_here joined 0 ≡ true) × (s ≡ shape_at joined 0)
     judged = rw judged_bytes at (given_good (take (held + 18) after) 0 4 v s e g)
 

@@ -7,7 +7,6 @@ ghost use Rattle.intake.specs.Inner.Terms.{Holds, Begins, Takeable, TakesStretch
 
 use crate::bursts::Intake;
 use crate::taking::{Place, is_going, number_after};
-use journal::Verdict;
 use stretch::Stretch;
 
 // No record of a node is longer.
@@ -61,14 +60,13 @@ fn begin_stretch(store: &mut [u8], held: usize, bytes: &[u8]) -> Stretch
         return no_stretch();
     }
     words::store_bytes(store, held, bytes, 0, NODE_LIMIT);
-    let verdict = journal::judge(&store[..held + NODE_LIMIT], 0, 4);
-    match verdict {
-        Verdict::Bad => no_stretch(),
-        Verdict::Good(shape) => Stretch {
-            end: shape.size - held,
-            records: 1,
-            counts: stretch::weights_for(shape.kind, shape.node),
-        },
+    let Some(shape) = journal::judge(&store[..held + NODE_LIMIT], 0, 4) else {
+        return no_stretch();
+    };
+    Stretch {
+        end: shape.size - held,
+        records: 1,
+        counts: stretch::weights_for(shape.kind, shape.node),
     }
 }
 

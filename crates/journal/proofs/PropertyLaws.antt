@@ -8,6 +8,7 @@ use lib.Dec.{leb, eqb}
 use lib.ListN.{length, drop, length-drop}
 use lib.Seq.{slice, length-slice, length-take-le}
 use borrow.Author.Tests.{le-leb, lt-leb, leb-true, leb-false}
+use Rattle.std.specs.Prelude.{Option, Some, None}
 use Rattle.words.specs.Nul.{until_nul, is_ended}
 use Rattle.words.proofs.Choice.{decide, choose, and_left, and_right}
 use Rattle.words.proofs.Ends.{ended_bounds, ended_none, ended_some}
@@ -17,8 +18,6 @@ use Rattle.records.proofs.Steps.{drop_part, record_length, record_kind, whole_at
 use Rattle.journal.specs.Property.{name_limit, name_place, name_of, value_start, value_of, value_most, property_frame, good_property}
 use Rattle.journal.specs.Holding.{property_here, property_in, held_at}
 use Rattle.journal.specs.declared.property.PropertyRecord.{PropertyRecord}
-use Rattle.journal.specs.declared.property.Held.{Held}
-use Rattle.journal.specs.declared.property.Held.TheVariants.{Other, Property}
 
 pub value_most_le : (kind : ℕ) → value_most kind ≤ 32_768
 value_most_le kind = choose (eqb kind 5) (λ (n : ℕ). n ≤ 32_768) (λ e. omega arith) (λ e. omega arith)
@@ -171,16 +170,16 @@ module _ (j : List ℕ) (at : ℕ) where
 
 -- ---- what the code tells of a place
 
-pub held_other : (j : List ℕ) (at : ℕ) (h : Held) → h ≡ Other → h ≡ held_at j at → property_here j at ≡ false
+pub held_other : (j : List ℕ) (at : ℕ) (h : Option PropertyRecord) → h ≡ None → h ≡ held_at j at → property_here j at ≡ false
 held_other j at h e q = go (property_here j at) (sym e ∙ q)
   where
-    go : (t : Bool) → Other ≡ cond t (Property (property_in j at)) Other → t ≡ false
+    go : (t : Bool) → None ≡ cond t (Some (property_in j at)) None → t ≡ false
     go true p = let z : ◌≡◌ {A = ℕ} 0 1 = cc in absurd (omega arith)
     go false p = refl
 
-pub held_property : (j : List ℕ) (at : ℕ) (h : Held) (r : PropertyRecord) → h ≡ Property r → h ≡ held_at j at → (property_here j at ≡ true) × (r ≡ property_in j at)
+pub held_property : (j : List ℕ) (at : ℕ) (h : Option PropertyRecord) (r : PropertyRecord) → h ≡ Some r → h ≡ held_at j at → (property_here j at ≡ true) × (r ≡ property_in j at)
 held_property j at h r e q = go (property_here j at) (sym e ∙ q)
   where
-    go : (t : Bool) → Property r ≡ cond t (Property (property_in j at)) Other → (t ≡ true) × (r ≡ property_in j at)
+    go : (t : Bool) → Some r ≡ cond t (Some (property_in j at)) None → (t ≡ true) × (r ≡ property_in j at)
     go true p = (refl, cc)
     go false p = let z : ◌≡◌ {A = ℕ} 0 1 = cc in absurd (omega arith)

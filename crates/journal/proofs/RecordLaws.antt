@@ -7,6 +7,7 @@ use native.Mathlib.Omega.{arith}
 use lib.Dec.{leb, eqb}
 use lib.ListN.{length, get_or, drop}
 use borrow.Author.Tests.{le-leb, lt-leb, ne_eqb, leb-true, leb-false, eqb-true, eqb-false}
+use Rattle.std.specs.Prelude.{Option, Some, None}
 use Rattle.words.specs.Numbers.{le}
 use Rattle.records.specs.Records.{length_of, kind_of, size_of, first_record, whole}
 use Rattle.records.proofs.Choosing.{one_if_lem, one_if_le}
@@ -14,8 +15,6 @@ use Rattle.records.proofs.Steps.{field_at, record_length, record_kind, whole_at}
 use Rattle.journal.specs.declared.scope.Units.{Units}
 use Rattle.journal.specs.declared.scope.Units.TheVariants.{All, One}
 use Rattle.journal.specs.declared.judging.Shape.{Shape}
-use Rattle.journal.specs.declared.judging.Verdict.{Verdict}
-use Rattle.journal.specs.declared.judging.Verdict.TheVariants.{Bad, Good}
 use Rattle.journal.specs.Journal.{within, largest_type, good_frame, good_type, node_type, good_node, opcode, operation_of, unit_of, entry_of}
 use Rattle.journal.specs.Scope.{holds, Selection}
 use Rattle.journal.specs.Reportable.{asks, reports}
@@ -188,28 +187,28 @@ module _ (j : List ℕ) (at : ℕ) where
   test_read f l k n p q r = ap (λ (x : ℕ). f x && node_here j at) (sym q) ∙ ap (λ (t : Bool). f k && t) (good_read l k n p q r)
 
   -- what the code gives, by a further test
-  pub test_short : (t : Bool) → left < 10 → Bad ≡ cond (t && node_here j at) (Good (shape_at j at)) Bad
+  pub test_short : (t : Bool) → left < 10 → None ≡ cond (t && node_here j at) (Some (shape_at j at)) None
   test_short t h = rw (short_bad h, and-false t)
 
-  pub test_bad : (t : Bool) → (t && node_here j at) ≡ false → Bad ≡ cond (t && node_here j at) (Good (shape_at j at)) Bad
+  pub test_bad : (t : Bool) → (t && node_here j at) ≡ false → None ≡ cond (t && node_here j at) (Some (shape_at j at)) None
   test_bad t e = rw e
 
-  pub test_good : (t : Bool) (s : Shape) → s ≡ shape_at j at → (t && node_here j at) ≡ true → Good s ≡ cond (t && node_here j at) (Good (shape_at j at)) Bad
+  pub test_good : (t : Bool) (s : Shape) → s ≡ shape_at j at → (t && node_here j at) ≡ true → Some s ≡ cond (t && node_here j at) (Some (shape_at j at)) None
   test_good t s q e = rw (e, q)
 
   -- and what was given: any good record is of a kind up to 4
-  pub given_bad : (v : Verdict) → v ≡ Bad → v ≡ verdict_at 4 j at → node_here j at ≡ false
+  pub given_bad : (v : Option Shape) → v ≡ None → v ≡ verdict_at 4 j at → node_here j at ≡ false
   given_bad v e q = decide (node_here j at)
       (λ g. let high = le-leb kind 4 (frame left len kind node (sym good_here_lem ∙ g)).of.high in
       let both : (leb kind 4 && node_here j at) ≡ true = rw (high, g) in
-      let wrong : Bad ≡ Good (shape_at j at) = sym e ∙ q ∙ ap (λ (t : Bool). cond t (Good (shape_at j at)) Bad) both in
+      let wrong : None ≡ Some (shape_at j at) = sym e ∙ q ∙ ap (λ (t : Bool). cond t (Some (shape_at j at)) None) both in
       let z : ◌≡◌ {A = ℕ} 0 1 = cc in absurd (omega arith))
       (λ g. g)
 
-  pub given_good : (most : ℕ) (v : Verdict) (s : Shape) → v ≡ Good s → v ≡ verdict_at most j at → (node_here j at ≡ true) × (s ≡ shape_at j at)
+  pub given_good : (most : ℕ) (v : Option Shape) (s : Shape) → v ≡ Some s → v ≡ verdict_at most j at → (node_here j at ≡ true) × (s ≡ shape_at j at)
   given_good most v s e q = go (leb kind most && node_here j at) refl (sym e ∙ q)
     where
-      go : (t : Bool) → (leb kind most && node_here j at) ≡ t → Good s ≡ cond t (Good (shape_at j at)) Bad → (node_here j at ≡ true) × (s ≡ shape_at j at)
+      go : (t : Bool) → (leb kind most && node_here j at) ≡ t → Some s ≡ cond t (Some (shape_at j at)) None → (node_here j at ≡ true) × (s ≡ shape_at j at)
       go true g p = (and_right (leb kind most) _ g, cc)
       go false g p = let z : ◌≡◌ {A = ℕ} 0 1 = cc in absurd (omega arith)
 

@@ -1,10 +1,8 @@
 -- What the functions that judge and read records of properties are held to.
-use Rattle.std.specs.Prelude.{ℕ, ◌+◌, ◌≤◌, ◌≡◌, Bool, true, cond, ◌&&◌, List, eqb, length, drop}
+use Rattle.std.specs.Prelude.{ℕ, ◌+◌, ◌≤◌, ◌≡◌, Bool, true, Option, Some, None, cond, ◌&&◌, List, eqb, length, drop}
 use Rattle.words.specs.Numbers.{le32}
 use Rattle.records.specs.Records.{kind_of, size_of, first_record, whole}
 use Rattle.journal.specs.declared.property.PropertyRecord.{PropertyRecord}
-use Rattle.journal.specs.declared.property.Held.{Held}
-use Rattle.journal.specs.declared.property.Held.TheVariants.{Other, Property}
 use Rattle.journal.specs.Property.{name_of, good_property}
 use Rattle.journal.specs.Journal.{good_record}
 
@@ -26,8 +24,8 @@ property_in j at =
     }
 
 -- a good record of a property stands at a place, or something else
-abbrev pub held_at : List ℕ → ℕ → Held
-held_at j at = cond (property_here j at) (Property (property_in j at)) Other
+abbrev pub held_at : List ℕ → ℕ → Option PropertyRecord
+held_at j at = cond (property_here j at) (Some (property_in j at)) None
 
 pub record HoldsProperty (j : List ℕ) (at : ℕ) : Type 0 where
   pub inside : at ≤ length j

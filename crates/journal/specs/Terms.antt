@@ -1,11 +1,9 @@
 -- Terms of the contracts by which records of nodes are judged, units asked for and marks sought, for the walk and for the scan above; no promise of a
 -- call cites them.
-use Rattle.std.specs.Prelude.{ℕ, ◌+◌, ◌≤◌, Bool, cond, ◌&&◌, List, leb, eqb, drop}
+use Rattle.std.specs.Prelude.{ℕ, ◌+◌, ◌≤◌, Bool, Option, Some, None, cond, ◌&&◌, List, leb, eqb, drop}
 use Rattle.words.specs.Numbers.{le16}
 use Rattle.records.specs.Records.{kind_of, size_of, first_record, whole}
 use Rattle.journal.specs.declared.judging.Shape.{Shape}
-use Rattle.journal.specs.declared.judging.Verdict.{Verdict}
-use Rattle.journal.specs.declared.judging.Verdict.TheVariants.{Bad, Good}
 use Rattle.journal.specs.declared.scope.Units.{Units}
 use Rattle.journal.specs.declared.scope.Units.TheVariants.{All, One}
 use Rattle.journal.specs.Journal.{good_node, entry_of}
@@ -28,8 +26,8 @@ abbrev pub shape_at : List ℕ → ℕ → Shape
 shape_at j at = record { size = size_of (drop at j); kind = kind_of (drop at j); node = le16 j (at + 4) }
 
 -- what the code tells of it, where it is of a kind up to this
-abbrev pub verdict_at : ℕ → List ℕ → ℕ → Verdict
-verdict_at most j at = cond (leb (kind_of (drop at j)) most && node_here j at) (Good (shape_at j at)) Bad
+abbrev pub verdict_at : ℕ → List ℕ → ℕ → Option Shape
+verdict_at most j at = cond (leb (kind_of (drop at j)) most && node_here j at) (Some (shape_at j at)) None
 
 -- the unit that is wanted, where one is
 abbrev pub wanted_of : Units → ℕ

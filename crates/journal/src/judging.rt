@@ -1,5 +1,5 @@
 // Judging the record at a place, by its length, kind and node type. No row is asked.
-ghost use Rattle.std.specs.Prelude.{◌≡◌, cond, ◌&&◌, ◌+◌, ◌≤◌, leb, length, drop};
+ghost use Rattle.std.specs.Prelude.{◌≡◌, Some, None, cond, ◌&&◌, ◌+◌, ◌≤◌, leb, length, drop};
 ghost use Rattle.words.specs.Numbers.{le16};
 ghost use Rattle.journal.specs.Terms.{IsKind, node_here, verdict_at};
 ghost use Rattle.journal.specs.Inner.Terms.{length_for, framed_at, good_at};
@@ -13,13 +13,6 @@ pub struct Shape {
     pub size: usize,
     pub kind: usize,
     pub node: usize,
-}
-
-// What stands at a place: no good record, or one of this shape.
-#[derive(Clone, Copy)]
-pub enum Verdict {
-    Bad,
-    Good(Shape),
 }
 
 // The node type of the record at a place.
@@ -72,34 +65,31 @@ fn is_good(left: usize, frame: Frame, node: u16, most: u16) -> bool
 }
 
 // The record at a place, where it is of a kind up to `most`: 4 for all, 3 for those without a unit.
-pub fn judge(j: &[u8], at: usize, most: u16) -> Verdict
+pub fn judge(j: &[u8], at: usize, most: u16) -> Option<Shape>
     requires { (at ≤ length j.now) × (most ≤ 4) }
     ensures { result ≡ verdict_at most j.now at }
 {
     let left = j.len() - at;
     if left < 10 {
-        return Verdict::Bad;
+        return None;
     }
     let frame = records::read_frame(j, at);
     let node = read_type(j, at);
     if !is_good(left, frame, node, most) {
-        return Verdict::Bad;
+        return None;
     }
-    Verdict::Good(Shape {
+    Some(Shape {
         size: records::record_size(frame),
         kind: frame.kind as usize,
         node: node as usize,
     })
 }
 
-// The size of the good record of a node at a place, or 0 where none stands there.
-pub fn node_size(j: &[u8], at: usize) -> usize
+// The size of the good record of a node at a place, where one stands there.
+#[tactic(auto, using(crate::proofs::RecordLaws::given_bad, crate::proofs::RecordLaws::given_good))]
+pub fn node_size(j: &[u8], at: usize) -> Option<usize>
     requires { at ≤ length j.now }
-    ensures { result ≡ cond (node_here j.now at) (size_of (drop at j.now)) 0 }
+    ensures { result ≡ cond (node_here j.now at) (Some (size_of (drop at j.now))) None }
 {
-    let verdict = judge(j, at, 4);
-    match verdict {
-        Verdict::Bad => 0,
-        Verdict::Good(shape) => shape.size,
-    }
+    judge(j, at, 4).map(|shape| shape.size)
 }

@@ -28,13 +28,6 @@ pub struct PropertyRecord {
     pub name_length: usize,
 }
 
-// What stands at a place: a good record of a property, or something else.
-#[derive(Clone, Copy)]
-pub enum Held {
-    Other,
-    Property(PropertyRecord),
-}
-
 // The most bytes of value that a record of this kind may have.
 fn value_most(kind: u16) -> usize
     ensures { result ≡ value_most kind }
@@ -61,28 +54,28 @@ fn is_property_frame(left: usize, frame: Frame) -> bool
     LEAST_SIZE <= size && size <= most
 }
 
-// The good record of a property at a place, or something else.
-pub fn held_at(j: &[u8], at: usize) -> Held
+// The good record of a property at a place, where one stands there.
+pub fn held_at(j: &[u8], at: usize) -> Option<PropertyRecord>
     requires { at ≤ length j.now }
     ensures { result ≡ held_at j.now at }
 {
     let left = j.len() - at;
     if left < LEAST_SIZE {
-        return Held::Other;
+        return None;
     }
     let frame = records::read_frame(j, at);
     if !is_property_frame(left, frame) {
-        return Held::Other;
+        return None;
     }
     let size = records::record_size(frame);
     let name_length = words::string_length(j, at + NAME_AT, at + size, NAME_LIMIT);
     if name_length == 0 {
-        return Held::Other;
+        return None;
     }
     if value_most(frame.kind) < size - (NAME_AT + 1 + name_length) {
-        return Held::Other;
+        return None;
     }
-    Held::Property(PropertyRecord {
+    Some(PropertyRecord {
         size,
         phandle: words::read_le32(j, at + 4),
         deleted: frame.kind == 6,

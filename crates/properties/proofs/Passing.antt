@@ -8,15 +8,14 @@ use native.Mathlib.Omega.{arith}
 use lib.Dec.{eqb}
 use lib.ListN.{length, drop}
 use borrow.Author.Tests.{eqb-true, le-leb, lt-leb}
-use Rattle.words.proofs.Choice.{decide, choose}
+use Rattle.words.proofs.Choice.{choose}
+use Rattle.std.specs.Prelude.{Option, Some, None}
 use Rattle.records.specs.Records.{kind_of, size_of, first_record, records, all_good, size_limit}
 use Rattle.records.proofs.Steps.{good_step, bad_step, none_good, formed, not_formed, oversized}
 use Rattle.journal.specs.Journal.{good_record, well_formed}
 use Rattle.journal.specs.Terms.{node_here}
 use Rattle.journal.specs.Holding.{good_here, property_here, property_in, held_at}
 use Rattle.journal.specs.declared.property.PropertyRecord.{PropertyRecord}
-use Rattle.journal.specs.declared.property.Held.{Held}
-use Rattle.journal.specs.declared.property.Held.TheVariants.{Other, Property}
 use Rattle.journal.proofs.PropertyLaws.{property_frame_lem, held_other, held_property}
 use Rattle.journal.proofs.RecordLaws.{good_kind}
 use Rattle.journal.proofs.Sizes.{sized_here, kind_read, phandle_read}
@@ -201,7 +200,7 @@ pub record Told (j : List ℕ) (at : ℕ) (p : PropertyRecord) : Type 0 where
   pub short : p.name_length ≤ 31
   pub fits : at + p.size ≤ length j
 
-pub told : (j : List ℕ) (at : ℕ) (h : Held) (p : PropertyRecord) → at ≤ length j → h ≡ Property p → h ≡ held_at j at → Told j at p
+pub told : (j : List ℕ) (at : ℕ) (h : Option PropertyRecord) (p : PropertyRecord) → at ≤ length j → h ≡ Some p → h ≡ held_at j at → Told j at p
 told j at h p inside e q =
     let both = held_property j at h p e q in
     let c = change_good j at inside both.0 in
@@ -213,16 +212,24 @@ told j at h p inside e q =
       fits = rw both.1 (sized_here j at (property_good j at both.0)).1;
     }
 
--- the size that the code is told of a record of a node is 0 where there is none
-module _ (j : List ℕ) (at n : ℕ) (sized : n ≡ cond (node_here j at) (size_of (drop at j)) 0) where
-  none_sized : n ≡ 0 → node_here j at ≡ false
-  none_sized z = decide (node_here j at) (λ t. absurd (omega (arith, rw t at sized))) (λ t. t)
+-- the size that the code is told of a record of a node, where there is one
+module _ (j : List ℕ) (at : ℕ) (v : Option ℕ) (sized : v ≡ cond (node_here j at) (Some (size_of (drop at j))) None) where
+  none_sized : v ≡ None → node_here j at ≡ false
+  none_sized e = go (node_here j at) (sym e ∙ sized)
+    where
+      go : (t : Bool) → None ≡ cond t (Some (size_of (drop at j))) None → t ≡ false
+      go true p = let z : ◌≡◌ {A = ℕ} 0 1 = cc in absurd (omega arith)
+      go false p = refl
 
-  some_sized : (n ≡ 0 → ⊥) → (node_here j at ≡ true) × (n ≡ size_of (drop at j))
-  some_sized z = decide (node_here j at) (λ t. (t, rw t at sized)) (λ t. absurd (z (rw t at sized)))
+  some_sized : (n : ℕ) → v ≡ Some n → (node_here j at ≡ true) × (n ≡ size_of (drop at j))
+  some_sized n e = go (node_here j at) (sym e ∙ sized)
+    where
+      go : (t : Bool) → Some n ≡ cond t (Some (size_of (drop at j))) None → (t ≡ true) × (n ≡ size_of (drop at j))
+      go true p = (refl, cc)
+      go false p = let z : ◌≡◌ {A = ℕ} 0 1 = cc in absurd (omega arith)
 
-  pub node_fits : (n ≡ 0 → ⊥) → at + n ≤ length j
-  node_fits z = let k = some_sized z in omega (arith, k.1, sized_here j at (node_good j at k.0))
+  pub node_fits : (n : ℕ) → v ≡ Some n → (0 < n) × (at + n ≤ length j)
+  node_fits n e = let k = some_sized n e in let s = sized_here j at (node_good j at k.0) in (omega (arith, k.1, s), omega (arith, k.1, s))
 
 module _ {phandle s : ℕ} {j : List ℕ} {at : ℕ} {w : Walk} (g : Passed phandle s j at w) (more : at < length j) where
   pub pass_told : (p : PropertyRecord) (v : Walk) → Told j at p → v ≡ walked_past w at p phandle s → Passed phandle s j (at + p.size) v
@@ -230,16 +237,17 @@ module _ {phandle s : ℕ} {j : List ℕ} {at : ℕ} {w : Walk} (g : Passed phan
       let next = pass_property g more (property_good j at t.stands) t.stands in
       rw (e, t.is) next
 
-  pub pass_sized : (n : ℕ) → n ≡ cond (node_here j at) (size_of (drop at j)) 0 → (n ≡ 0 → ⊥) → Passed phandle s j (at + n) w
-  pass_sized n sized z =
-      let k = some_sized j at n sized z in
+  pub pass_sized : (v : Option ℕ) → v ≡ cond (node_here j at) (Some (size_of (drop at j))) None → (n : ℕ) → v ≡ Some n → Passed phandle s j (at + n) w
+  pass_sized v sized n e =
+      let k = some_sized j at v sized n e in
       rw k.1 (pass_node g more (node_good j at k.0) k.0)
 
   -- neither a good record of a property nor one of a node stands at the place
-  pub pass_bad : (h : Held) (n : ℕ) → h ≡ Other → h ≡ held_at j at → n ≡ cond (node_here j at) (size_of (drop at j)) 0 → n ≡ 0 → well_formed j ≡ false
+  pub pass_bad : (h : Option PropertyRecord) (v : Option ℕ) → h ≡ None → h ≡ held_at j at → v ≡ cond (node_here j at) (Some (size_of (drop at j))) None
+      → v ≡ None → well_formed j ≡ false
   unfolding well_formed
-  pass_bad h n e q sized z =
-      not_formed size_limit good_record j (g.good ∙ bad_step good_record j at more (neither_good j at (none_sized j at n sized z) (held_other j at h e q)))
+  pass_bad h v e q sized z =
+      not_formed size_limit good_record j (g.good ∙ bad_step good_record j at more (neither_good j at (none_sized j at v sized z) (held_other j at h e q)))
 
 -- ---- how a pass ends
 

@@ -3,7 +3,7 @@ ghost use Rattle.std.specs.Prelude.{◌≡◌, ◌+◌, ◌<◌, ◌≤◌, leng
 ghost use Rattle.properties.specs.Inner.Following.{extent_of, walked_past, FollowFinds};
 
 use crate::walk::{AREA_ROOM, Extent, Walk, walk_over};
-use journal::{Held, PropertyRecord};
+use journal::PropertyRecord;
 
 // What a pass finds: the journal is malformed, the node's session does not carry the state, or it goes on from the record at this place.
 #[derive(Clone, Copy)]
@@ -53,19 +53,14 @@ pub fn follow(j: &[u8], phandle: u32, state: u32) -> Followed
         place: 0,
     };
     while at < j.len() {
-        let held = journal::held_at(j, at);
-        match held {
-            Held::Property(p) => {
-                walk = walk_past(walk, at, p, phandle, state as usize);
-                at += p.size;
-            }
-            Held::Other => {
-                let size = journal::node_size(j, at);
-                if size == 0 {
-                    return Followed::Malformed;
-                }
-                at += size;
-            }
+        if let Some(p) = journal::held_at(j, at) {
+            walk = walk_past(walk, at, p, phandle, state as usize);
+            at += p.size;
+        } else {
+            let Some(size) = journal::node_size(j, at) else {
+                return Followed::Malformed;
+            };
+            at += size;
         }
     }
     if walk.any && walk.found {

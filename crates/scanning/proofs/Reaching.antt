@@ -10,15 +10,13 @@ use Rattle.journal.specs.declared.counts.Judgement.TheVariants.{Malformed, Count
 use Rattle.journal.specs.declared.judging.Shape.{Shape}
 use Rattle.scanning.specs.declared.stride.Position.{Position}
 use Rattle.scanning.specs.declared.stride.Same.{Same}
-use Rattle.scanning.specs.declared.stride.Step.{Step}
-use Rattle.scanning.specs.declared.stride.Step.TheVariants.{Bad, Upto}
 use Rattle.journal.specs.Journal.{good_record, well_formed, IsOpcode, entries}
 use Rattle.journal.specs.Reportable.{operation, reports, chosen, judgement_of}
 use Rattle.journal.specs.Marks.{count_limit, count}
 use Rattle.journal.specs.Holding.{good_here, property_here}
 use Rattle.journal.specs.Terms.{node_here, shape_at, asked}
 use Rattle.journal.specs.Inner.Terms.{is_unit, Before}
-use Rattle.scanning.specs.Inner.Terms.{UnitHere, packed_limit, largest_weight, Reached, Advanced, Weights, Weighed, four_headed, Known, unpacked}
+use Rattle.scanning.specs.Inner.Terms.{UnitHere, packed_limit, largest_weight, Reached, Weights, Weighed, four_headed, Known, unpacked}
 use Rattle.journal.proofs.Opcodes.{code_1, code_2, code_3, each-code}
 use Rattle.journal.proofs.Entries.{each_entry}
 use Rattle.scanning.proofs.Weighing.{weighed_size, weighed_fits, weighed_light, weighed_adds}
@@ -171,14 +169,3 @@ module _ (sel : Selection) (j : List ℕ) (s : Same) (small : length j ≤ size_
       let t₃ = reached_same (at + size + size) _ (omega arith) (ap (le 6 j) s₂ ∙ q.2) t₂ in
       let t₄ = reached_same (at + size + size + size) _ (omega arith) (ap (le 6 j) s₃ ∙ q.3) t₃ in
       rw (s₄, w₄) at t₄
-
--- what a step gave
-pub advanced_lower : (sel : Selection) (j : List ℕ) (a b : ℕ) (s : Step) → a ≤ b → Advanced sel j b s → Advanced sel j a s
-advanced_lower sel j a b Bad h w = w
-advanced_lower sel j a b (Upto p) h w = (w.0, omega (arith, w.1))
-
-pub advanced_bad : (sel : Selection) (j : List ℕ) (end : ℕ) (s : Step) → s ≡ Bad → Advanced sel j end s → well_formed j ≡ false
-advanced_bad sel j end s e w = rw e at w
-
-pub advanced_upto : (sel : Selection) (j : List ℕ) (end : ℕ) (s : Step) (p : Position) → s ≡ Upto p → Advanced sel j end s → Reached sel j p × (end ≤ p.at)
-advanced_upto sel j end s p e w = rw e at w

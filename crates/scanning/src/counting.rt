@@ -7,7 +7,7 @@ ghost use Rattle.journal.specs.Claims.Journal.{JournalClaims};
 ghost use Rattle.scanning.specs.Inner.Terms.{unpacked};
 
 use crate::noting::note;
-use crate::stride::{Position, Step, stride};
+use crate::stride::{Position, stride};
 use crate::weights::{WeightTable, fill_weights};
 use journal::{Counts, Judgement, Units};
 
@@ -58,19 +58,14 @@ pub fn scan_noting(j: &[u8], row: &[u8; 17], units: Units, marks: &mut [u64; 128
     while at < j.len() {
         let from = Position { at, counts };
         noted = note(marks, noted, from);
-        let step = stride(j, row, units, &weights, from);
-        match step {
-            Step::Bad => {
-                return Noted {
-                    judgement: Judgement::Malformed,
-                    noted,
-                };
-            }
-            Step::Upto(p) => {
-                at = p.at;
-                counts = p.counts;
-            }
-        }
+        let Some(p) = stride(j, row, units, &weights, from) else {
+            return Noted {
+                judgement: Judgement::Malformed,
+                noted,
+            };
+        };
+        at = p.at;
+        counts = p.counts;
     }
     Noted {
         judgement: Judgement::Counted(counts_of(counts)),

@@ -9,7 +9,7 @@ ghost use Rattle.journal.specs.Terms.{node_here, shape_at, asked};
 ghost use Rattle.scanning.specs.Inner.Terms.{four_headed, UnitHere, Reached, Passed, Known, Advanced, Weights};
 
 use crate::noting::MARK_SPAN;
-use journal::{Held, Shape, Units, Verdict};
+use journal::{Shape, Units};
 
 // Records are passed one at a time for so many bytes; then a stride looks for equal headers again.
 const EACH_SPAN: usize = 4096;
@@ -22,13 +22,6 @@ const UNIT_HEADER: u64 = 0xf_0004_0010;
 pub struct Position {
     pub at: usize,
     pub counts: u64,
-}
-
-// What a step along the journal gives: a bad record was met, or the scan stands further on.
-#[derive(Clone, Copy)]
-pub enum Step {
-    Bad,
-    Upto(Position),
 }
 
 // Records of one header without a unit, and what one of them adds to the packed counts.
@@ -179,17 +172,12 @@ fn past_each(
     let mut at = from.at;
     let mut counts = from.counts;
     while at < end {
-        let verdict = journal::judge(j, at, most);
-        match verdict {
-            Verdict::Bad => {
-                return Position { at, counts };
-            }
-            Verdict::Good(shape) => {
-                let here = at;
-                at += shape.size;
-                counts += weigh(j, here, units, weights, shape);
-            }
-        }
+        let Some(shape) = journal::judge(j, at, most) else {
+            break;
+        };
+        let here = at;
+        at += shape.size;
+        counts += weigh(j, here, units, weights, shape);
     }
     Position { at, counts }
 }
@@ -248,52 +236,48 @@ fn past_properties(j: &[u8], from: usize) -> usize
 {
     let mut at = from;
     while at < j.len() {
-        let held = journal::held_at(j, at);
-        match held {
-            Held::Other => {
-                return at;
-            }
-            Held::Property(p) => {
-                at += p.size;
-            }
-        }
+        let Some(p) = journal::held_at(j, at) else {
+            break;
+        };
+        at += p.size;
     }
     at
 }
 
-// Past a record and more behind it.
-pub fn stride(j: &[u8], row: &[u8; 17], units: Units, weights: &[u64; 160], from: Position) -> Step
+// Past a record and more behind it, where a good one stands there.
+pub fn stride(
+    j: &[u8],
+    row: &[u8; 17],
+    units: Units,
+    weights: &[u64; 160],
+    from: Position,
+) -> Option<Position>
     requires { Reached (asking row.now units) j.now from × Weights row.now weights.now × (from.at < length j.now) ×
         (length j.now ≤ size_limit) }
     ensures { Advanced (asking row.now units) j.now (from.at + 1) result }
 {
     let at = from.at;
-    let verdict = journal::judge(j, at, 4);
-    match verdict {
-        Verdict::Bad => {
-            let past = past_properties(j, at);
-            if past == at {
-                return Step::Bad;
-            }
-            Step::Upto(Position {
-                at: past,
-                counts: from.counts,
-            })
+    let Some(shape) = journal::judge(j, at, 4) else {
+        let past = past_properties(j, at);
+        if past == at {
+            return None;
         }
-        Verdict::Good(shape) => {
-            let first = Position {
-                at: at + shape.size,
-                counts: from.counts + weigh(j, at, units, weights, shape),
-            };
-            if shape.kind == 4 {
-                return Step::Upto(behind_unit(j, row, units, weights, first));
-            }
-            let same = Same {
-                header: header_at(j, at),
-                size: shape.size,
-                weight: weight_of(weights, shape),
-            };
-            Step::Upto(behind_plain(j, row, units, weights, first, same))
-        }
+        return Some(Position {
+            at: past,
+            counts: from.counts,
+        });
+    };
+    let first = Position {
+        at: at + shape.size,
+        counts: from.counts + weigh(j, at, units, weights, shape),
+    };
+    if shape.kind == 4 {
+        return Some(behind_unit(j, row, units, weights, first));
     }
+    let same = Same {
+        header: header_at(j, at),
+        size: shape.size,
+        weight: weight_of(weights, shape),
+    };
+    Some(behind_plain(j, row, units, weights, first, same))
 }

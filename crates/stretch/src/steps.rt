@@ -7,7 +7,6 @@ ghost use Rattle.stretch.specs.Inner.Terms.{grown_by, Grows, Known, Moves};
 
 use crate::packed::{Packed, add_times, none_packed};
 use crate::weights::weights_for;
-use journal::{Held, Verdict};
 
 // Records of the same header are passed for so many bytes, then others for so many; then a stride looks for equal headers again.
 const SAME_SPAN: usize = 16_384;
@@ -75,15 +74,10 @@ fn past_each(j: &[u8], from: Stretch, end: usize) -> Stretch
 {
     let mut s = from;
     while s.end < end {
-        let verdict = journal::judge(j, s.end, 4);
-        match verdict {
-            Verdict::Bad => {
-                return s;
-            }
-            Verdict::Good(shape) => {
-                s = grown(s, 1, shape.size, weights_for(shape.kind, shape.node));
-            }
-        }
+        let Some(shape) = journal::judge(j, s.end, 4) else {
+            break;
+        };
+        s = grown(s, 1, shape.size, weights_for(shape.kind, shape.node));
     }
     s
 }
@@ -95,15 +89,10 @@ fn past_properties(j: &[u8], from: Stretch) -> Stretch
 {
     let mut s = from;
     while s.end < j.len() {
-        let held = journal::held_at(j, s.end);
-        match held {
-            Held::Other => {
-                return s;
-            }
-            Held::Property(p) => {
-                s = grown(s, 1, p.size, none_packed());
-            }
-        }
+        let Some(p) = journal::held_at(j, s.end) else {
+            break;
+        };
+        s = grown(s, 1, p.size, none_packed());
     }
     s
 }
@@ -124,19 +113,16 @@ fn stride(j: &[u8], from: Stretch) -> Stretch
     requires { Light j.now from × (from.end < length j.now) }
     ensures { Goes j.now from result × Light j.now result × Moves j.now from result }
 {
-    let verdict = journal::judge(j, from.end, 4);
-    match verdict {
-        Verdict::Bad => past_properties(j, from),
-        Verdict::Good(shape) => {
-            let weight = weights_for(shape.kind, shape.node);
-            let same = Same {
-                header: scanning::header_at(j, from.end),
-                size: shape.size,
-                weight,
-            };
-            behind_node(j, grown(from, 1, shape.size, weight), same)
-        }
-    }
+    let Some(shape) = journal::judge(j, from.end, 4) else {
+        return past_properties(j, from);
+    };
+    let weight = weights_for(shape.kind, shape.node);
+    let same = Same {
+        header: scanning::header_at(j, from.end),
+        size: shape.size,
+        weight,
+    };
+    behind_node(j, grown(from, 1, shape.size, weight), same)
 }
 
 // A stretch gone on with over a buffer, up to its end or the first place where no good record stands.

@@ -1,13 +1,11 @@
 -- Terms of the contracts of private functions of the scan; no public promise cites them.
-use Rattle.std.specs.Prelude.{◌≡◌, ℕ, ◌+◌, ◌-◌, ◌*◌, ◌/◌, ◌%◌, ◌^◌, ◌<◌, ◌≤◌, Bool, true, false, cond, ◌&&◌, List, [], ◌∷◌, length, drop, ◌==◌, slice_index}
+use Rattle.std.specs.Prelude.{◌≡◌, ℕ, ◌+◌, ◌-◌, ◌*◌, ◌/◌, ◌%◌, ◌^◌, ◌<◌, ◌≤◌, Bool, true, false, Option, Some, None, cond, ◌&&◌, List, [], ◌∷◌, length, drop, ◌==◌, slice_index}
 use Rattle.std.proofs.lemmas.List.Edits.{sets}
 use Rattle.words.specs.Numbers.{le, le16}
 use Rattle.records.specs.Records.{kind_of, size_of, records, all_good}
 use Rattle.journal.specs.declared.counts.Counts.{Counts}
 use Rattle.scanning.specs.declared.stride.Position.{Position}
 use Rattle.scanning.specs.declared.stride.Same.{Same}
-use Rattle.scanning.specs.declared.stride.Step.{Step}
-use Rattle.scanning.specs.declared.stride.Step.TheVariants as step
 use Rattle.journal.specs.Journal.{good_record, well_formed, IsOpcode}
 use Rattle.journal.specs.Holding.{property_here}
 use Rattle.journal.specs.Scope.{holds, Selection}
@@ -44,9 +42,9 @@ pub record Passed (j : List ℕ) (from at : ℕ) : Type 0 where
   pub none : at ≡ from → property_here j from ≡ false
 
 -- what a step along the journal gives: a bad record, or a position at or behind an end
-abbrev pub Advanced : Selection → List ℕ → ℕ → Step → Type 0
-Advanced selection j end step.Bad = well_formed j ≡ false
-Advanced selection j end (step.Upto p) = Reached selection j p × (end ≤ p.at)
+abbrev pub Advanced : Selection → List ℕ → ℕ → Option Position → Type 0
+Advanced selection j end None = well_formed j ≡ false
+Advanced selection j end (Some p) = Reached selection j p × (end ≤ p.at)
 
 -- what a good record of a unit that is asked for adds to the packed counts
 abbrev pub weight_of : List ℕ → ℕ → ℕ → ℕ

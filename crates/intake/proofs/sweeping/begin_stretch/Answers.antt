@@ -41,7 +41,7 @@ overflow_sub-result c =
       long = c.if-bytes-lt-NODE_LIMIT.false;
       is = c.store_bytes.ensures;
     } in
-    omega (arith, begun_size (stored) _ _ c.in-Good.is c.judge-verdict.ensures)
+    omega (arith, begun_size (stored) _ _ c.in-Some.is c.judge.ensures)
 
 pub weights_for-requires : goal.weights_for-requires
 weights_for-requires c =
@@ -53,10 +53,10 @@ weights_for-requires c =
       long = c.if-bytes-lt-NODE_LIMIT.false;
       is = c.store_bytes.ensures;
     } in
-    begun_known (stored) _ _ c.in-Good.is c.judge-verdict.ensures
+    begun_known (stored) _ _ c.in-Some.is c.judge.ensures
 
-pub returns-in-Bad : goal.returns-in-Bad
-returns-in-Bad c =
+pub returns-in_default : goal.returns-in_default
+returns-in_default c =
     let stored : Stored c.args.store.now c.args.held c.args.bytes.now c.store_bytes.new.s =
     record {
       holds = c.requires;
@@ -65,10 +65,10 @@ returns-in-Bad c =
       long = c.if-bytes-lt-NODE_LIMIT.false;
       is = c.store_bytes.ensures;
     } in
-    begins_not (stored) _ c.no_stretch-in-Bad.ensures
+    begins_not (stored) _ c.no_stretch-in_default.ensures
 
-pub returns-in-Good : goal.returns-in-Good
-returns-in-Good c =
+pub returns : goal.returns
+returns c =
     let stored : Stored c.args.store.now c.args.held c.args.bytes.now c.store_bytes.new.s =
     record {
       holds = c.requires;
@@ -77,4 +77,4 @@ returns-in-Good c =
       long = c.if-bytes-lt-NODE_LIMIT.false;
       is = c.store_bytes.ensures;
     } in
-    begins (stored) _ _ c.in-Good.is c.judge-verdict.ensures _ c.weights_for.ensures
+    begins (stored) _ _ c.in-Some.is c.judge.ensures _ c.weights_for.ensures

@@ -1,6 +1,6 @@
 use mathlib.Core.Path.{◌∙◌}
 use mathlib.Core.Logic.{⊎_elim}
-use Prim.Native.Nat.{◌+◌, ◌≤◌}
+use Prim.Native.Nat.{◌+◌, ◌<◌, ◌≤◌}
 use native.Mathlib.Omega.{arith}
 use lib.ListN.{length}
 use Rattle.properties.proofs.Passing.{pass_start, Told, told, node_fits, pass_told, pass_sized, pass_bad, pass_formed, pass_carried, pass_resumes, pass_oversized}
@@ -16,53 +16,52 @@ loop-at-init c =
 
 pub walk_past-walk-requires : goal.walk_past-walk-requires
 walk_past-walk-requires c =
-    let property : let a = c.args in Told a.j.now c.loop-at.at c.in-Property.p =
+    let property : let a = c.args in Told a.j.now c.loop-at.at c.in-Some.p =
     let g = c.loop-at.invariant in
-    told _ _ _ _ g.inside c.in-Property.is c.held_at-held.ensures in
+    told _ _ _ _ g.inside c.in-Some.is c.held_at.ensures in
     let t = property in
     (t.within, t.short, omega (arith, t.fits, c.if-j-gt-SIZE_LIMIT.false))
 
 pub overflow_add-at : goal.overflow_add-at
 overflow_add-at c =
-    let property : let a = c.args in Told a.j.now c.loop-at.at c.in-Property.p =
+    let property : let a = c.args in Told a.j.now c.loop-at.at c.in-Some.p =
     let g = c.loop-at.invariant in
-    told _ _ _ _ g.inside c.in-Property.is c.held_at-held.ensures in
+    told _ _ _ _ g.inside c.in-Some.is c.held_at.ensures in
     omega (arith, property.fits)
 
-pub loop-at-smaller-in-Property : goal.loop-at-smaller-in-Property
-loop-at-smaller-in-Property c =
-    let property : let a = c.args in Told a.j.now c.loop-at.at c.in-Property.p =
+pub loop-at-smaller-in-Some : goal.loop-at-smaller-in-Some
+loop-at-smaller-in-Some c =
+    let property : let a = c.args in Told a.j.now c.loop-at.at c.in-Some.p =
     let g = c.loop-at.invariant in
-    told _ _ _ _ g.inside c.in-Property.is c.held_at-held.ensures in
+    told _ _ _ _ g.inside c.in-Some.is c.held_at.ensures in
     omega (arith, property.fits, property.within)
 
-pub loop-at-preserved-in-Property : goal.loop-at-preserved-in-Property
-loop-at-preserved-in-Property c =
-    let property : let a = c.args in Told a.j.now c.loop-at.at c.in-Property.p =
+pub loop-at-preserved-in-Some : goal.loop-at-preserved-in-Some
+loop-at-preserved-in-Some c =
+    let property : let a = c.args in Told a.j.now c.loop-at.at c.in-Some.p =
     let g = c.loop-at.invariant in
-    told _ _ _ _ g.inside c.in-Property.is c.held_at-held.ensures in
+    told _ _ _ _ g.inside c.in-Some.is c.held_at.ensures in
     pass_told c.loop-at.invariant c.loop-at-test.true _ _ (property) c.walk_past-walk.ensures
 
-pub returns-then-size-eq0 : goal.returns-then-size-eq0
-returns-then-size-eq0 c =
-    let other = c.in-Other.is in
-    pass_bad c.loop-at.invariant c.loop-at-test.true _ _ other c.held_at-held.ensures c.node_size-size.ensures c.if-size-eq0.true
+pub returns-in_default-node_size : goal.returns-in_default-node_size
+returns-in_default-node_size c =
+    pass_bad c.loop-at.invariant c.loop-at-test.true _ _ c.in_default.is c.held_at.ensures c.node_size.ensures c.in_default-node_size.is
 
-pub overflow_add-at-in-Other : goal.overflow_add-at-in-Other
-overflow_add-at-in-Other c =
-    let fits : let a = c.args in c.loop-at.at + c.node_size-size.result ≤ length a.j.now =
-    node_fits _ _ _ c.node_size-size.ensures c.if-size-eq0.false in
+pub overflow_add-at-in_default : goal.overflow_add-at-in_default
+overflow_add-at-in_default c =
+    let fits : let a = c.args in let size = c.in-Some-node_size.size in (0 < size) × (c.loop-at.at + size ≤ length a.j.now) =
+    node_fits _ _ _ c.node_size.ensures _ c.in-Some-node_size.is in
     omega (arith, fits)
 
 pub loop-at-smaller : goal.loop-at-smaller
 loop-at-smaller c =
-    let fits : let a = c.args in c.loop-at.at + c.node_size-size.result ≤ length a.j.now =
-    node_fits _ _ _ c.node_size-size.ensures c.if-size-eq0.false in
+    let fits : let a = c.args in let size = c.in-Some-node_size.size in (0 < size) × (c.loop-at.at + size ≤ length a.j.now) =
+    node_fits _ _ _ c.node_size.ensures _ c.in-Some-node_size.is in
     omega (arith, fits)
 
 pub loop-at-preserved : goal.loop-at-preserved
 loop-at-preserved c =
-    pass_sized c.loop-at.invariant c.loop-at-test.true _ c.node_size-size.ensures c.if-size-eq0.false
+    pass_sized c.loop-at.invariant c.loop-at-test.true _ c.node_size.ensures _ c.in-Some-node_size.is
 
 pub returns-then-walk-2 : goal.returns-then-walk-2
 returns-then-walk-2 c =

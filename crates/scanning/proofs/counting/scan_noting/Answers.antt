@@ -1,10 +1,9 @@
-use Rattle.std.proofs.Common.{◌+◌, ◌≤◌, ap, ◌∙◌, arith, rules}
+use Rattle.std.proofs.Common.{ap, ◌∙◌, arith, rules}
 use Rattle.journal.proofs.Claims.{too_large, journal_claims}
 use Rattle.scanning.proofs.NoteLaws.{marked_none, marked_note, noted_length}
-use Rattle.scanning.proofs.Reaching.{reached_none, reached_end, malformed, advanced_bad, advanced_upto}
+use Rattle.scanning.proofs.Reaching.{reached_none, reached_end, malformed}
 use Rattle.journal.specs.Scope.{asking}
 use Rattle.journal.specs.Marks.{Marked}
-use Rattle.scanning.specs.Inner.Terms.{Reached}
 use Rattle.journal.specs.declared.counts.Judgement.TheVariants.{Counted}
 use Rattle.scanning.proofs.counting.scan_noting.Goals as goal
 
@@ -20,29 +19,25 @@ pub note-noted-requires : goal.note-noted-requires
 note-noted-requires c =
     c.loop-at.invariant.1.few
 
-pub stride-step-requires : goal.stride-step-requires
-stride-step-requires c =
+pub stride-requires : goal.stride-requires
+stride-requires c =
     (c.loop-at.invariant.0, c.fill_weights.ensures, c.loop-at-test.true, c.if-j-gt-SIZE_LIMIT.false)
 
-pub returns-in-Bad : goal.returns-in-Bad
-returns-in-Bad c =
+pub returns-in_default : goal.returns-in_default
+returns-in_default c =
     let marks_then : Marked (asking c.args.row.now c.args.units) c.args.j.now c.note-noted.new.marks c.note-noted.result =
     marked_note (asking c.args.row.now c.args.units) c.args.j.now _ _ _ _ _ c.loop-at.invariant.2 c.loop-at.invariant.0 c.loop-at.invariant.1 c.note-noted.ensures in
-    record { judgement_value = (malformed _ _ (advanced_bad (asking c.args.row.now c.args.units) c.args.j.now _ _ c.in-Bad.is c.stride-step.ensures), marks_then); rules = journal_claims }
+    record { judgement_value = (malformed _ _ c.in_default.ensures, marks_then); rules = journal_claims }
 
 pub loop-at-smaller : goal.loop-at-smaller
 loop-at-smaller c =
-    let turn : Reached (asking c.args.row.now c.args.units) c.args.j.now c.in-Upto.p × (c.loop-at.at + 1 ≤ c.in-Upto.p.at) =
-    advanced_upto (asking c.args.row.now c.args.units) c.args.j.now _ _ _ c.in-Upto.is c.stride-step.ensures in
-    omega (arith, turn.1)
+    omega (arith, c.in-Some.ensures.1)
 
 pub loop-at-preserved : goal.loop-at-preserved
 loop-at-preserved c =
-    let turn : Reached (asking c.args.row.now c.args.units) c.args.j.now c.in-Upto.p × (c.loop-at.at + 1 ≤ c.in-Upto.p.at) =
-    advanced_upto (asking c.args.row.now c.args.units) c.args.j.now _ _ _ c.in-Upto.is c.stride-step.ensures in
     let marks_then : Marked (asking c.args.row.now c.args.units) c.args.j.now c.note-noted.new.marks c.note-noted.result =
     marked_note (asking c.args.row.now c.args.units) c.args.j.now _ _ _ _ _ c.loop-at.invariant.2 c.loop-at.invariant.0 c.loop-at.invariant.1 c.note-noted.ensures in
-    (turn.0, marks_then, noted_length _ _ _ _ _ c.note-noted.ensures ∙ c.loop-at.invariant.2)
+    (c.in-Some.ensures.0, marks_then, noted_length _ _ _ _ _ c.note-noted.ensures ∙ c.loop-at.invariant.2)
 
 pub returns : goal.returns
 returns c =

@@ -11,22 +11,22 @@ pub loop-at-init : goal.loop-at-init
 loop-at-init c =
     record { inside = search rules; onward = search rules; reached = λ sel counts r. r }
 
-pub held_at-held-requires : goal.held_at-held-requires
-held_at-held-requires c =
+pub held_at-requires : goal.held_at-requires
+held_at-requires c =
     omega (arith, c.loop-at.invariant.inside)
 
-pub returns-in-Other : goal.returns-in-Other
-returns-in-Other c =
+pub returns-in_default : goal.returns-in_default
+returns-in_default c =
     let g = c.loop-at.invariant in
     let a = c.args in
-    let none = held_other a.j.now c.loop-at.at _ c.in-Other.is c.held_at-held.ensures in
+    let none = held_other a.j.now c.loop-at.at _ c.in_default.is c.held_at.ensures in
     record { reached = g.reached; onward = g.onward; none = λ e. rw e at none }
 
 pub overflow_add-at : goal.overflow_add-at
 overflow_add-at c =
-    let passed : let a = c.args in let at = c.loop-at.at in (property_here a.j.now at ≡ true) × (c.in-Property.p ≡ property_in a.j.now at) =
-    held_property _ _ _ _ c.in-Property.is c.held_at-held.ensures in
-    let sized : let a = c.args in let size = c.in-Property.p.size in (10 ≤ size) × (c.loop-at.at + size ≤ length a.j.now) =
+    let passed : let a = c.args in let at = c.loop-at.at in (property_here a.j.now at ≡ true) × (c.in-Some.p ≡ property_in a.j.now at) =
+    held_property _ _ _ _ c.in-Some.is c.held_at.ensures in
+    let sized : let a = c.args in let size = c.in-Some.p.size in (10 ≤ size) × (c.loop-at.at + size ≤ length a.j.now) =
     let a = c.args in
     let at = c.loop-at.at in
     let s = sized_here a.j.now at (property_good a.j.now at passed.0) in
@@ -35,9 +35,9 @@ overflow_add-at c =
 
 pub loop-at-smaller : goal.loop-at-smaller
 loop-at-smaller c =
-    let passed : let a = c.args in let at = c.loop-at.at in (property_here a.j.now at ≡ true) × (c.in-Property.p ≡ property_in a.j.now at) =
-    held_property _ _ _ _ c.in-Property.is c.held_at-held.ensures in
-    let sized : let a = c.args in let size = c.in-Property.p.size in (10 ≤ size) × (c.loop-at.at + size ≤ length a.j.now) =
+    let passed : let a = c.args in let at = c.loop-at.at in (property_here a.j.now at ≡ true) × (c.in-Some.p ≡ property_in a.j.now at) =
+    held_property _ _ _ _ c.in-Some.is c.held_at.ensures in
+    let sized : let a = c.args in let size = c.in-Some.p.size in (10 ≤ size) × (c.loop-at.at + size ≤ length a.j.now) =
     let a = c.args in
     let at = c.loop-at.at in
     let s = sized_here a.j.now at (property_good a.j.now at passed.0) in
@@ -46,9 +46,9 @@ loop-at-smaller c =
 
 pub loop-at-preserved : goal.loop-at-preserved
 loop-at-preserved c =
-    let passed : let a = c.args in let at = c.loop-at.at in (property_here a.j.now at ≡ true) × (c.in-Property.p ≡ property_in a.j.now at) =
-    held_property _ _ _ _ c.in-Property.is c.held_at-held.ensures in
-    let sized : let a = c.args in let size = c.in-Property.p.size in (10 ≤ size) × (c.loop-at.at + size ≤ length a.j.now) =
+    let passed : let a = c.args in let at = c.loop-at.at in (property_here a.j.now at ≡ true) × (c.in-Some.p ≡ property_in a.j.now at) =
+    held_property _ _ _ _ c.in-Some.is c.held_at.ensures in
+    let sized : let a = c.args in let size = c.in-Some.p.size in (10 ≤ size) × (c.loop-at.at + size ≤ length a.j.now) =
     let a = c.args in
     let at = c.loop-at.at in
     let s = sized_here a.j.now at (property_good a.j.now at passed.0) in
@@ -64,7 +64,7 @@ loop-at-preserved c =
           rw (← ap (λ (p : PropertyRecord). p.size) passed.1) at next;
     }
 
-pub returns : goal.returns
-returns c =
+pub returns-after-loop-at : goal.returns-after-loop-at
+returns-after-loop-at c =
     let g = c.loop-at.invariant in
     record { reached = g.reached; onward = g.onward; none = λ e. absurd (omega (arith, c.requires.0)) }

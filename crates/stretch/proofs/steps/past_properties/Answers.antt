@@ -13,38 +13,38 @@ pub loop-s-init : goal.loop-s-init
 loop-s-init c =
     (goes_nowhere _ _ c.requires, c.requires)
 
-pub held_at-held-requires : goal.held_at-held-requires
-held_at-held-requires c =
+pub held_at-requires : goal.held_at-requires
+held_at-requires c =
     c.loop-s.invariant.1.inside
 
-pub returns-in-Other : goal.returns-in-Other
-returns-in-Other c =
-    (c.loop-s.invariant.0, c.loop-s.invariant.1, λ h. held_other _ c.loop-s.s.end _ c.in-Other.is c.held_at-held.ensures)
+pub returns-in_default : goal.returns-in_default
+returns-in_default c =
+    (c.loop-s.invariant.0, c.loop-s.invariant.1, λ h. held_other _ c.loop-s.s.end _ c.in_default.is c.held_at.ensures)
 
 pub grown-s-requires : goal.grown-s-requires
 grown-s-requires c =
-    let adds : Adds c.args.j.now c.loop-s.s.end c.in-Property.p.size c.none_packed.result =
+    let adds : Adds c.args.j.now c.loop-s.s.end c.in-Some.p.size c.none_packed.result =
     let j = c.args.j.now in
-    let p : (property_here j c.loop-s.s.end ≡ true) × (c.in-Property.p ≡ property_in j c.loop-s.s.end) = held_property j c.loop-s.s.end _ _ c.in-Property.is c.held_at-held.ensures in
+    let p : (property_here j c.loop-s.s.end ≡ true) × (c.in-Some.p ≡ property_in j c.loop-s.s.end) = held_property j c.loop-s.s.end _ _ c.in-Some.is c.held_at.ensures in
     rw c.none_packed.ensures (property_adds j c.loop-s.s.end _ c.loop-s.invariant.1.inside p.0 (ap (λ (r : PropertyRecord). r.size) p.1)) in
     grows_one _ _ _ _ c.loop-s.invariant.1 (adds)
 
 pub loop-s-smaller : goal.loop-s-smaller
 loop-s-smaller c =
-    let adds : Adds c.args.j.now c.loop-s.s.end c.in-Property.p.size c.none_packed.result =
+    let adds : Adds c.args.j.now c.loop-s.s.end c.in-Some.p.size c.none_packed.result =
     let j = c.args.j.now in
-    let p : (property_here j c.loop-s.s.end ≡ true) × (c.in-Property.p ≡ property_in j c.loop-s.s.end) = held_property j c.loop-s.s.end _ _ c.in-Property.is c.held_at-held.ensures in
+    let p : (property_here j c.loop-s.s.end ≡ true) × (c.in-Some.p ≡ property_in j c.loop-s.s.end) = held_property j c.loop-s.s.end _ _ c.in-Some.is c.held_at.ensures in
     rw c.none_packed.ensures (property_adds j c.loop-s.s.end _ c.loop-s.invariant.1.inside p.0 (ap (λ (r : PropertyRecord). r.size) p.1)) in
     rw c.grown-s.ensures (omega (arith, adds_size _ _ _ _ c.loop-s.invariant.1 (adds), c.loop-s-test.true))
 
 pub loop-s-preserved : goal.loop-s-preserved
 loop-s-preserved c =
-    let adds : Adds c.args.j.now c.loop-s.s.end c.in-Property.p.size c.none_packed.result =
+    let adds : Adds c.args.j.now c.loop-s.s.end c.in-Some.p.size c.none_packed.result =
     let j = c.args.j.now in
-    let p : (property_here j c.loop-s.s.end ≡ true) × (c.in-Property.p ≡ property_in j c.loop-s.s.end) = held_property j c.loop-s.s.end _ _ c.in-Property.is c.held_at-held.ensures in
+    let p : (property_here j c.loop-s.s.end ≡ true) × (c.in-Some.p ≡ property_in j c.loop-s.s.end) = held_property j c.loop-s.s.end _ _ c.in-Some.is c.held_at.ensures in
     rw c.none_packed.ensures (property_adds j c.loop-s.s.end _ c.loop-s.invariant.1.inside p.0 (ap (λ (r : PropertyRecord). r.size) p.1)) in
     rw c.grown-s.ensures (onward_one _ _ _ _ _ c.loop-s.invariant (adds))
 
-pub returns : goal.returns
-returns c =
+pub returns-after-loop-s : goal.returns-after-loop-s
+returns-after-loop-s c =
     (c.loop-s.invariant.0, c.loop-s.invariant.1, λ h. absurd (omega (arith, c.loop-s-test.false)))
