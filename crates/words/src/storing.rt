@@ -8,7 +8,7 @@ pub fn store_be16(s: &mut [u8], at: usize, v: u16)
     requires { at + 2 ≤ length s.old }
     ensures { s.new ≡ sets s.old at (be_bytes 2 v) }
 {
-    s[at..at + 2].copy_from_slice(&v.to_be_bytes());
+    store(s, at, &u16::to_be_bytes(v));
 }
 
 // The word's four bytes from a place on; every other byte of the slice stays.
@@ -16,7 +16,7 @@ pub fn store_be32(s: &mut [u8], at: usize, v: u32)
     requires { at + 4 ≤ length s.old }
     ensures { s.new ≡ sets s.old at (be_bytes 4 v) }
 {
-    s[at..at + 4].copy_from_slice(&v.to_be_bytes());
+    store(s, at, &u32::to_be_bytes(v));
 }
 
 // The number's eight bytes from a place on; every other byte of the slice stays.
@@ -24,7 +24,7 @@ pub fn store_be64(s: &mut [u8], at: usize, v: u64)
     requires { at + 8 ≤ length s.old }
     ensures { s.new ≡ sets s.old at (be_bytes 8 v) }
 {
-    s[at..at + 8].copy_from_slice(&v.to_be_bytes());
+    store(s, at, &u64::to_be_bytes(v));
 }
 
 // Bytes from a place on; every other byte of the slice stays.
@@ -32,7 +32,9 @@ pub fn store(s: &mut [u8], at: usize, bytes: &[u8])
     requires { at + length bytes.now ≤ length s.old }
     ensures { s.new ≡ sets s.old at bytes.now }
 {
-    s[at..at + bytes.len()].copy_from_slice(bytes);
+    for i in 0..bytes.len() {
+        s[at + i] = bytes[i];
+    }
 }
 
 // Bytes of another slice, `n` of them, from a place on; every other byte of the slice stays.

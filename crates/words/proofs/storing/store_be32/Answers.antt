@@ -1,9 +1,11 @@
-use mathlib.Core.Path.{refl, ◌∙◌}
+use mathlib.Core.Path.{◌≡◌, ◌∙◌, ap}
 use native.Mathlib.Nat.{div-one}
+use lib.Seq.{sets}
 use Rattle.words.specs.Numbers.{be_bytes}
-use Rattle.words.proofs.Ranges.{put_stored}
 use Rattle.words.proofs.storing.store_be32.Goals as goal
 
 pub returns : goal.returns
 unfolding be_bytes
-returns c = put_stored _ _ (be_bytes 4 c.args.v) _ _ (c.copy_from_slice.ensures.after ∙ c.to_be_bytes.ensures ∙ simp div-one) refl c.requires
+returns c =
+    let same : c.to_be_bytes.result ≡ be_bytes 4 c.args.v = c.to_be_bytes.ensures ∙ simp div-one in
+    c.store.ensures ∙ ap (sets c.args.s.now c.args.at) same
