@@ -1,3 +1,4 @@
+pub mod Given
 pub mod Opcodes
 pub mod Entries
 pub mod PropertyLaws

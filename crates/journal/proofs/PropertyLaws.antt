@@ -1,5 +1,5 @@
 -- What is known of the record of a property at a place by the numbers that the code reads there.
-use mathlib.Core.Path.{◌≡◌, refl, sym, ap, ◌∙◌}
+use mathlib.Core.Path.{◌≡◌, sym, ap, ◌∙◌}
 use mathlib.Core.Bool.{Bool, true, false, cond, ◌&&◌, and-false}
 use mathlib.Core.List.{List}
 use Prim.Native.Nat.{ℕ, ◌+◌, ◌-◌, ◌<◌, ◌≤◌}
@@ -8,16 +8,19 @@ use lib.Dec.{leb, eqb}
 use lib.ListN.{length, drop, length-drop}
 use lib.Seq.{slice, length-slice, length-take-le}
 use borrow.Author.Tests.{le-leb, lt-leb, leb-true, leb-false}
-use Rattle.std.specs.Prelude.{Option, Some, None}
+use Rattle.std.specs.Prelude.{Option, Some, None, slice_range}
+use Rattle.std.proofs.lemmas.Option.{cond_some}
 use Rattle.words.specs.Nul.{until_nul, is_ended}
 use Rattle.words.proofs.Choice.{decide, choose, and_left, and_right}
-use Rattle.words.proofs.Ends.{ended_bounds, ended_none, ended_some}
+use Rattle.words.proofs.Ends.{ended_bounds}
+use Rattle.words.proofs.Ranges.{range_is}
 use Rattle.records.specs.Records.{length_of, kind_of, size_of, first_record, frame_of}
 use Rattle.records.specs.declared.framing.Frame.{Frame}
 use Rattle.records.proofs.Steps.{drop_part, record_length, record_kind, whole_at}
 use Rattle.journal.specs.Property.{name_limit, name_place, name_of, value_start, value_of, value_most, property_frame, good_property}
 use Rattle.journal.specs.Holding.{property_here, property_in, held_at}
 use Rattle.journal.specs.declared.property.PropertyRecord.{PropertyRecord}
+use Rattle.journal.proofs.Given.{cond_none}
 
 pub value_most_le : (kind : ℕ) → value_most kind ≤ 32_768
 value_most_le kind = choose (eqb kind 5) (λ (n : ℕ). n ≤ 32_768) (λ e. omega arith) (λ e. omega arith)
@@ -58,7 +61,7 @@ frame_short : (len kind : ℕ) → len < 2 → property_frame len kind ≡ false
 unfolding property_frame
 frame_short len kind h = rw (lt-leb 8 len (omega arith), and-false (leb 5 kind && leb kind 6))
 
--- what the length that the code finds of a name tells, where it is not 0
+-- what the length that the code finds of a name tells
 pub record NameFound (j : List ℕ) (at : ℕ) (f : Frame) (size length_found : ℕ) : Type 0 where
   pub within : 9 + length_found ≤ size
   pub over : value_most f.kind < size - (9 + length_found) → property_here j at ≡ false
@@ -133,8 +136,7 @@ module _ (j : List ℕ) (at : ℕ) where
       held_frame e = property_here_lem ∙ rw (sym test_is ∙ e)
 
       -- by the size, and the length of the name that it finds
-      module _ (yes : t ≡ true) (size length_found : ℕ) (sized : size ≡ f.length + 2)
-          (told : length_found ≡ cond (is_ended name_limit (slice (at + 8) (at + size) j)) (length (until_nul (slice (at + 8) (at + size) j))) 0) where
+      module _ (yes : t ≡ true) (size : ℕ) (sized : size ≡ f.length + 2) where
         size_is : size ≡ len + 2
         size_is = sized ∙ ap (λ (g : Frame). g.length + 2) framed
 
@@ -144,42 +146,38 @@ module _ (j : List ℕ) (at : ℕ) where
             let frame = property_framed len kind (and_right (leb (len + 2) (length j - at)) _ both) in
             (omega (arith, size_is, frame.large), omega (arith, size_is, leb-true (len + 2) (length j - at) (and_left _ (property_frame len kind) both)))
 
-        told_here : length_found ≡ cond (is_ended name_limit name) (length (until_nul name)) 0
-        told_here = told ∙ rw size_is
+        abbrev bytes : List ℕ
+        bytes = slice_range j (at + 8) (at + size)
 
-        pub held_name : length_found ≡ 0 → property_here j at ≡ false
-        held_name z = property_here_lem ∙ rw (ended_none name_limit name length_found told_here z, and-false _)
+        name_bytes : bytes ≡ name
+        name_bytes = range_is j (at + 8) (at + size) ∙ rw size_is
 
-        module _ (some : length_found ≡ 0 → ⊥) where
-          found-is : length_found ≡ length (until_nul name)
-          found-is = (ended_some name_limit name length_found told_here some).1
+        module _ (found : Option ℕ) (told : found ≡ cond (is_ended name_limit bytes) (Some (length (until_nul bytes))) None) where
+          pub held_name : found ≡ None → property_here j at ≡ false
+          held_name e = property_here_lem ∙ rw (rw name_bytes at (cond_none (is_ended name_limit bytes) _ (sym told ∙ e)), and-false _)
 
-          here_is : property_here j at ≡ leb (size - (9 + length_found)) (value_most f.kind)
-          here_is = property_here_lem ∙ rw (sym test_is ∙ yes, (ended_some name_limit name length_found told_here some).0, size_is, found-is, ap (λ (g : Frame). g.kind) framed)
+          module _ (n : ℕ) (some : found ≡ Some n) where
+            named : (is_ended name_limit name ≡ true) × (length (until_nul name) ≡ n)
+            named = rw name_bytes at (cond_some (is_ended name_limit bytes) (length (until_nul bytes)) n (sym told ∙ some))
 
-          pub held_some : NameFound j at f size length_found
-          unfolding name_of
-          held_some =
-              let ended = ended_bounds name_limit name (ended_some name_limit name length_found told_here some).0 in
-              record {
-                within = omega (arith, ended, found-is, size_is, length-slice (at + 8) (at + (len + 2)) j (omega (arith, held_fits, size_is)));
-                over = λ h. here_is ∙ lt-leb _ _ h;
-                good = λ h. here_is ∙ le-leb _ _ h;
-                length_is = found-is ∙ ap (λ (l : List ℕ). length (until_nul l)) (sym name_here);
-              }
+            here_is : property_here j at ≡ leb (size - (9 + n)) (value_most f.kind)
+            here_is = property_here_lem ∙ rw (sym test_is ∙ yes, named.0, size_is, sym named.1, ap (λ (g : Frame). g.kind) framed)
+
+            pub held_some : NameFound j at f size n
+            unfolding name_of
+            held_some =
+                let ended = ended_bounds name_limit name named.0 in
+                record {
+                  within = omega (arith, ended, named.1, size_is, length-slice (at + 8) (at + (len + 2)) j (omega (arith, held_fits, size_is)));
+                  over = λ h. here_is ∙ lt-leb _ _ h;
+                  good = λ h. here_is ∙ le-leb _ _ h;
+                  length_is = sym named.1 ∙ ap (λ (l : List ℕ). length (until_nul l)) (sym name_here);
+                }
 
 -- ---- what the code tells of a place
 
 pub held_other : (j : List ℕ) (at : ℕ) (h : Option PropertyRecord) → h ≡ None → h ≡ held_at j at → property_here j at ≡ false
-held_other j at h e q = go (property_here j at) (sym e ∙ q)
-  where
-    go : (t : Bool) → None ≡ cond t (Some (property_in j at)) None → t ≡ false
-    go true p = let z : ◌≡◌ {A = ℕ} 0 1 = cc in absurd (omega arith)
-    go false p = refl
+held_other j at h e q = cond_none (property_here j at) (property_in j at) (sym q ∙ e)
 
 pub held_property : (j : List ℕ) (at : ℕ) (h : Option PropertyRecord) (r : PropertyRecord) → h ≡ Some r → h ≡ held_at j at → (property_here j at ≡ true) × (r ≡ property_in j at)
-held_property j at h r e q = go (property_here j at) (sym e ∙ q)
-  where
-    go : (t : Bool) → Some r ≡ cond t (Some (property_in j at)) None → (t ≡ true) × (r ≡ property_in j at)
-    go true p = (refl, cc)
-    go false p = let z : ◌≡◌ {A = ℕ} 0 1 = cc in absurd (omega arith)
+held_property j at h r e q = let told = cond_some (property_here j at) (property_in j at) r (sym q ∙ e) in (told.0, sym told.1)

@@ -1,6 +1,6 @@
 -- What is known of the record at a place by its length, kind and node type, what it adds, and that its header tells as much.
 use mathlib.Core.Path.{◌≡◌, refl, sym, ap, ◌∙◌}
-use mathlib.Core.Bool.{Bool, true, false, cond, ◌&&◌, ◌||◌, and-false, or-false}
+use mathlib.Core.Bool.{Bool, true, false, cond, ◌&&◌, ◌||◌, and-false, or-false, false≢true}
 use mathlib.Core.List.{List}
 use Prim.Native.Nat.{ℕ, ◌+◌, ◌-◌, ◌*◌, ◌/◌, ◌<◌, ◌≤◌}
 use native.Mathlib.Omega.{arith}
@@ -8,6 +8,7 @@ use lib.Dec.{leb, eqb}
 use lib.ListN.{length, get_or, drop}
 use borrow.Author.Tests.{le-leb, lt-leb, ne_eqb, leb-true, leb-false, eqb-true, eqb-false}
 use Rattle.std.specs.Prelude.{Option, Some, None}
+use Rattle.std.proofs.lemmas.Option.{cond_some}
 use Rattle.words.specs.Numbers.{le}
 use Rattle.records.specs.Records.{length_of, kind_of, size_of, first_record, whole}
 use Rattle.records.proofs.Choosing.{one_if_lem, one_if_le}
@@ -21,6 +22,7 @@ use Rattle.journal.specs.Reportable.{asks, reports}
 use Rattle.journal.specs.Terms.{IsKind, opcode_for, node_here, shape_at, verdict_at, wanted_of, tallied, asked}
 use Rattle.journal.specs.Inner.Terms.{length_for, framed_at, good_at, is_unit}
 use Rattle.words.proofs.Choice.{decide, and_left, and_right}
+use Rattle.journal.proofs.Given.{cond_none}
 use Rattle.journal.proofs.Opcodes.{kind_1, kind_2, kind_3, kind_4, each_kind}
 
 -- ---- length and kind
@@ -198,19 +200,16 @@ module _ (j : List ℕ) (at : ℕ) where
 
   -- and what was given: any good record is of a kind up to 4
   pub given_bad : (v : Option Shape) → v ≡ None → v ≡ verdict_at 4 j at → node_here j at ≡ false
-  given_bad v e q = decide (node_here j at)
-      (λ g. let high = le-leb kind 4 (frame left len kind node (sym good_here_lem ∙ g)).of.high in
-      let both : (leb kind 4 && node_here j at) ≡ true = rw (high, g) in
-      let wrong : None ≡ Some (shape_at j at) = sym e ∙ q ∙ ap (λ (t : Bool). cond t (Some (shape_at j at)) None) both in
-      let z : ◌≡◌ {A = ℕ} 0 1 = cc in absurd (omega arith))
+  given_bad v e q =
+      let told = cond_none (leb kind 4 && node_here j at) (shape_at j at) (sym q ∙ e) in
+      decide (node_here j at)
+      (λ g. let high = le-leb kind 4 (frame left len kind node (sym good_here_lem ∙ g)).of.high in absurd (false≢true (sym told ∙ rw (high, g))))
       (λ g. g)
 
   pub given_good : (most : ℕ) (v : Option Shape) (s : Shape) → v ≡ Some s → v ≡ verdict_at most j at → (node_here j at ≡ true) × (s ≡ shape_at j at)
-  given_good most v s e q = go (leb kind most && node_here j at) refl (sym e ∙ q)
-    where
-      go : (t : Bool) → (leb kind most && node_here j at) ≡ t → Some s ≡ cond t (Some (shape_at j at)) None → (node_here j at ≡ true) × (s ≡ shape_at j at)
-      go true g p = (and_right (leb kind most) _ g, cc)
-      go false g p = let z : ◌≡◌ {A = ℕ} 0 1 = cc in absurd (omega arith)
+  given_good most v s e q =
+      let told = cond_some (leb kind most && node_here j at) (shape_at j at) s (sym q ∙ e) in
+      (and_right (leb kind most) _ told.0, sym told.1)
 
   -- what a good record tells
   module _ (good : node_here j at ≡ true) where

@@ -68,10 +68,7 @@ pub fn held_at(j: &[u8], at: usize) -> Option<PropertyRecord>
         return None;
     }
     let size = records::record_size(frame);
-    let name_length = words::string_length(j, at + NAME_AT, at + size, NAME_LIMIT);
-    if name_length == 0 {
-        return None;
-    }
+    let name_length = words::ended_length(&j[at + NAME_AT..at + size], NAME_LIMIT)?;
     if value_most(frame.kind) < size - (NAME_AT + 1 + name_length) {
         return None;
     }
@@ -100,11 +97,10 @@ pub fn read_property(j: &[u8], at: usize) -> PropertyRecord
 {
     let frame = records::read_frame(j, at);
     let size = records::record_size(frame);
-    let name = at + NAME_AT;
     PropertyRecord {
         size,
         phandle: words::read_le32(j, at + 4),
         deleted: frame.kind == 6,
-        name_length: words::find_nul(j, name, at + size) - name,
+        name_length: words::until_nul(&j[at + NAME_AT..at + size]),
     }
 }
