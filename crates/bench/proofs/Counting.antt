@@ -6,8 +6,8 @@ use Prim.Native.Nat.{ℕ, ◌+◌, ◌≤◌}
 use native.Mathlib.Omega.{arith}
 use lib.ListN.{length, length-append}
 use Rattle.journal.specs.Scope.{Selection}
-use Rattle.journal.specs.declared.counts.Judgement.{Judgement}
-use Rattle.journal.specs.declared.counts.Judgement.TheVariants.{Malformed, Counted}
+use Rattle.std.specs.Prelude.{Option, Some, None}
+use Rattle.journal.specs.declared.counts.Counts.{Counts}
 use Rattle.journal.specs.Journal.{entries, well_formed}
 use Rattle.journal.specs.Reportable.{chosen, reportable, judgement_of}
 use Rattle.inventory.specs.declared.scanning.Judgement as inventory-judgement
@@ -22,14 +22,14 @@ use Rattle.journal.proofs.Walks.{within_limit}
 -- ---- the judgement as a number
 
 -- what the code makes of a judgement
-abbrev pub total : Judgement → ℕ
-total Malformed = 0xffff_ffff_ffff_ffff
-total (Counted c) = c.deletes + c.updates + c.additions
+abbrev pub total : Option Counts → ℕ
+total None = 0xffff_ffff_ffff_ffff
+total (Some c) = c.deletes + c.updates + c.additions
 
 -- counts whose sum is far below the highest number
-abbrev pub Light : Judgement → Type 0
-Light Malformed = Unit {0}
-Light (Counted c) = c.deletes + c.updates + c.additions ≤ 3_145_728
+abbrev pub Light : Option Counts → Type 0
+Light None = Unit {0}
+Light (Some c) = c.deletes + c.updates + c.additions ≤ 3_145_728
 
 module _ (sel : Selection) (j : List ℕ) where
   pub total-is : total (judgement_of sel j) ≡ cond (well_formed j) (length (reportable sel j)) 0xffff_ffff_ffff_ffff
@@ -43,7 +43,7 @@ module _ (sel : Selection) (j : List ℕ) where
   light = choose (well_formed j) Light (λ t. omega (arith, within_limit j t, operations_few sel j 1, operations_few sel j 2, operations_few sel j 3)) (λ _. tt)
 
   -- what is known of a judgement that is the scan's
-  module _ (g : Judgement) (is : g ≡ judgement_of sel j) where
+  module _ (g : Option Counts) (is : g ≡ judgement_of sel j) where
     pub total_of : total g ≡ cond (well_formed j) (length (reportable sel j)) 0xffff_ffff_ffff_ffff
     total_of = ap total is ∙ total-is
 

@@ -7,20 +7,17 @@ ghost use Rattle.inventory.specs.Claims.Scanning.{GoodFrom};
 ghost use Rattle.bench.specs.Inner.Bench.{reported_of, listed_of, last_index};
 
 use inventory::StartingNumber;
-use journal::Judgement;
 
 // How many operations a scope reports of a journal, in scope 3 of a unit; the highest number for a malformed journal.
 #[unsafe(no_mangle)]
 pub extern "C" fn draugsten_bench_scan(journal: &[u8], scope: u32, unit: u64) -> u64
     ensures { result ≡ reported_of scope unit journal.now }
 {
-    let row = journal::scope_row(scope);
-    let sets = row.sets;
-    let found = scanning::scan(journal, &sets, journal::units_of(scope, unit));
-    let judgement = found.judgement;
-    match judgement {
-        Judgement::Malformed => 18446744073709551615,
-        Judgement::Counted(c) => (c.deletes + c.updates + c.additions) as u64,
+    let row = journal::scope_row(scope).unwrap_or([0; 17]);
+    let found = scanning::scan(journal, &row, journal::units_of(scope, unit));
+    match found.judgement {
+        None => u64::MAX,
+        Some(c) => (c.deletes + c.updates + c.additions) as u64,
     }
 }
 

@@ -9,8 +9,7 @@ use lib.ListN.{length, take, drop}
 use borrow.Author.Tests.{leb-true, le-leb, ltb-true, eqb-true, eq-eqb}
 use Rattle.words.specs.Numbers.{be32}
 use Rattle.journal.specs.declared.counts.Counts.{Counts}
-use Rattle.journal.specs.declared.counts.Judgement.{Judgement}
-use Rattle.journal.specs.declared.counts.Judgement.TheVariants.{Malformed, Counted}
+use Rattle.std.specs.Prelude.{Option, Some, None}
 use Rattle.journal.specs.Journal.{well_formed}
 use Rattle.journal.specs.Scope.{valid, Selection}
 use Rattle.journal.specs.Reportable.{reportable, counts_of, judgement_of}
@@ -48,11 +47,11 @@ unfolding good_state
 state_within selection j area e = decide (eqb (be32 area 0) 0)
     (λ t. omega (arith, eqb-true (be32 area 0) 0 t)) (λ t. omega (arith, ltb-true (be32 area 0) (length (reportable selection j)) (rw t at e)))
 
-pub scanned_malformed : (selection : Selection) (j : List ℕ) (g : Judgement) → g ≡ Malformed → g ≡ judgement_of selection j → well_formed j ≡ false
+pub scanned_malformed : (selection : Selection) (j : List ℕ) (g : Option Counts) → g ≡ None → g ≡ judgement_of selection j → well_formed j ≡ false
 unfolding judgement_of
 scanned_malformed selection j g e f = decide (well_formed j) (λ t. let q = rw t at f in cc) (λ t. t)
 
-pub scanned_counted : (selection : Selection) (j : List ℕ) (g : Judgement) (c : Counts) → g ≡ Counted c → g ≡ judgement_of selection j → (well_formed j ≡ true) × (c ≡ counts_of selection j)
+pub scanned_counted : (selection : Selection) (j : List ℕ) (g : Option Counts) (c : Counts) → g ≡ Some c → g ≡ judgement_of selection j → (well_formed j ≡ true) × (c ≡ counts_of selection j)
 unfolding judgement_of
 scanned_counted selection j g c e f = decide (well_formed j) (λ t. let q = rw t at f in (t, cc)) (λ t. let q = rw t at f in (cc, cc))
 

@@ -7,6 +7,7 @@ pub mod Sizes
 pub mod GoodLaws
 pub mod MarkLaws
 pub mod Claims
+pub mod Rows
 pub mod Walks
 pub mod Operands
 pub mod Joins

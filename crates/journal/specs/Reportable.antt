@@ -1,12 +1,10 @@
 -- The reportable list of a journal (document 01, "What each scope reports"), and what a scan tells of it.
-use Rattle.std.specs.Prelude.{ℕ, ◌+◌, Bool, true, cond, ◌&&◌, ◌||◌, List, [], ◌∷◌, ◌++◌, leb, eqb, length, get_or}
+use Rattle.std.specs.Prelude.{ℕ, ◌+◌, Bool, true, cond, ◌&&◌, ◌||◌, Option, Some, None, List, [], ◌∷◌, ◌++◌, leb, eqb, length, get_or}
 use Rattle.records.specs.Choosing.{chosen_by}
 use Rattle.journal.specs.declared.operation.Operation.{Operation}
 use Rattle.journal.specs.declared.scope.Units.{Units}
 use Rattle.journal.specs.declared.scope.Units.TheVariants.{All, One}
 use Rattle.journal.specs.declared.counts.Counts.{Counts}
-use Rattle.journal.specs.declared.counts.Judgement.{Judgement}
-use Rattle.journal.specs.declared.counts.Judgement.TheVariants.{Malformed, Counted}
 use Rattle.journal.specs.Journal.{Entry, opcode, operands, entries, well_formed}
 use Rattle.journal.specs.Scope.{holds, Selection}
 
@@ -37,7 +35,7 @@ unfoldable pub operand_words : List Operation → ℕ
 operand_words [] = 0
 operand_words (o ∷ os) = length (operands o) + operand_words os
 
--- What a scan tells: the journal is malformed, or how many operations of each opcode a selection reports of it.
+-- What a scan tells: nothing of a malformed journal, else how many operations of each opcode a selection reports of it.
 abbrev pub counts_of : Selection → List ℕ → Counts
 counts_of selection j = record {
   deletes = length (chosen selection 1 (entries j));
@@ -45,5 +43,5 @@ counts_of selection j = record {
   additions = length (chosen selection 3 (entries j));
 }
 
-unfoldable pub judgement_of : Selection → List ℕ → Judgement
-judgement_of selection j = cond (well_formed j) (Counted (counts_of selection j)) Malformed
+unfoldable pub judgement_of : Selection → List ℕ → Option Counts
+judgement_of selection j = cond (well_formed j) (Some (counts_of selection j)) None

@@ -1,6 +1,5 @@
 -- The table of the scopes (document 01, "What each scope reports"). A scope is a 32-bit word.
-use Rattle.std.specs.Prelude.{ℕ, ◌-◌, ◌/◌, ◌%◌, ◌^◌, Bool, cond, ◌||◌, List, [], ◌∷◌, leb, eqb}
-use Rattle.journal.specs.declared.scope.Row.{Row}
+use Rattle.std.specs.Prelude.{ℕ, ◌-◌, ◌/◌, ◌%◌, ◌^◌, Bool, cond, ◌||◌, Option, Some, None, List, [], ◌∷◌, leb, eqb}
 use Rattle.journal.specs.declared.scope.Units.{Units}
 use Rattle.journal.specs.declared.scope.Units.TheVariants.{All, One}
 use Rattle.journal.specs.Journal.{within}
@@ -77,5 +76,5 @@ units_of scope unit = cond (eqb scope 3) (One unit) All
 abbrev pub selection_of : ℕ → ℕ → Selection
 selection_of scope unit = asking (row_of scope) (units_of scope unit)
 
-abbrev pub scope_row : ℕ → Row
-scope_row scope = record { valid = valid scope; sets = row_of scope }
+abbrev pub scope_row : ℕ → Option (List ℕ)
+scope_row scope = cond (valid scope) (Some (row_of scope)) None

@@ -1,4 +1,4 @@
-// What a scan tells of a journal, which the calls hand on.
+// What a scan tells of a well-formed journal, which the calls hand on.
 
 // How many deletes, updates and additions a row reports of a journal.
 #[derive(Clone, Copy)]
@@ -6,10 +6,4 @@ pub struct Counts {
     pub deletes: usize,
     pub updates: usize,
     pub additions: usize,
-}
-
-#[derive(Clone, Copy)]
-pub enum Judgement {
-    Malformed,
-    Counted(Counts),
 }

@@ -10,11 +10,11 @@ mod scope;
 mod units;
 mod walking;
 
-pub use counts::{Counts, Judgement};
+pub use counts::Counts;
 pub use judging::{Shape, judge, node_size};
 pub use marks::{COUNT_LIMIT, LARGEST_WEIGHT, count_of};
 pub use operation::Operation;
 pub use property::{NAME_LIMIT, PropertyRecord, VALUE_LIMIT, held_at, is_change, read_property};
-pub use scope::{Row, Units, scope_row, units_of};
+pub use scope::{Units, scope_row, units_of};
 pub use units::{asked_here, read_unit, same_unit, tally, wanted_unit};
 pub use walking::{Visited, find, read_operand, visit};

@@ -1,5 +1,5 @@
 // The scope table.
-ghost use Rattle.std.specs.Prelude.{◌≡◌, ◌<◌, ◌≤◌, true, [], get_or};
+ghost use Rattle.std.specs.Prelude.{◌≡◌, ◌<◌, ◌≤◌, [], get_or};
 ghost use Rattle.journal.specs.Journal.{largest_type};
 ghost use Rattle.journal.specs.Scope.{rows, units_of, scope_row};
 ghost use Rattle.journal.specs.Claims.Journal.{ScopeRows};
@@ -21,13 +21,6 @@ pub enum Units {
     One(u64),
 }
 
-// A scope's row; a scope with none is not valid, and reports nothing.
-#[derive(Clone, Copy)]
-pub struct Row {
-    pub valid: bool,
-    pub sets: [u8; 17],
-}
-
 // The units that a scope asks for: in scope 3 the one of this address, in all others all of them.
 pub fn units_of(scope: u32, unit: u64) -> Units
     ensures { result ≡ units_of scope unit }
@@ -46,35 +39,16 @@ fn row_at(number: usize) -> [u8; 17]
     ROWS[number]
 }
 
-fn valid_row(number: usize) -> Row
-    requires { number < 4 }
-    ensures { (result.valid ≡ true) × (result.sets ≡ get_or rows number []) }
-{
-    Row {
-        valid: true,
-        sets: row_at(number),
-    }
-}
-
-// The row of a scope.
-pub fn scope_row(scope: u32) -> Row
+// The row of a scope; a scope with none is not valid, and reports nothing.
+pub fn scope_row(scope: u32) -> Option<[u8; 17]>
     ensures value { result ≡ scope_row scope }
     ensures rows { ScopeRows }
 {
-    if 0x8000_0000 <= scope {
-        return valid_row(0);
-    }
-    if scope == 1 {
-        return valid_row(1);
-    }
-    if scope == 2 {
-        return valid_row(2);
-    }
-    if scope == 3 {
-        return valid_row(3);
-    }
-    Row {
-        valid: false,
-        sets: [0; 17],
+    match scope {
+        0x8000_0000.. => Some(row_at(0)),
+        1 => Some(row_at(1)),
+        2 => Some(row_at(2)),
+        3 => Some(row_at(3)),
+        _ => None,
     }
 }

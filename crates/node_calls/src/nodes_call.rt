@@ -6,7 +6,7 @@ ghost use Rattle.nodes.specs.Inner.Source.{Source};
 ghost use Rattle.calls.specs.UpdateNodes.{placed, area_status, area_after, nodes_status, nodes_memory};
 
 use calls::Status;
-use journal::{Counts, Judgement, Units};
+use journal::{Counts, Units};
 use node_area::StateVariable;
 use nodes::Progress;
 
@@ -66,12 +66,10 @@ fn answer_area(area: &mut [u8], j: &[u8], row: &[u8; 17], scope: u32) -> Status
 {
     let mut marks: [u64; 128] = [0; 128];
     let scanned = scanning::scan_noting(j, row, units_in(area, scope), &mut marks);
-    let judgement = scanned.judgement;
-    let noted = scanned.noted;
-    match judgement {
-        Judgement::Malformed => Status::Malformed,
-        Judgement::Counted(counts) => answer_counted(area, j, row, scope, &marks, noted, counts),
-    }
+    let Some(counts) = scanned.judgement else {
+        return Status::Malformed;
+    };
+    answer_counted(area, j, row, scope, &marks, scanned.noted, counts)
 }
 
 // The call: only the work area is handed down to be written.
@@ -83,10 +81,8 @@ pub fn update_nodes(memory: &mut [u8], j: &[u8], address: u32, scope: u32) -> St
     if !is_placed(memory, at) {
         return Status::Parameter;
     }
-    let row = journal::scope_row(scope);
-    if !row.valid {
+    let Some(row) = journal::scope_row(scope) else {
         return Status::Parameter;
-    }
-    let sets = row.sets;
-    answer_area(&mut memory[at..at + node_area::AREA_SIZE], j, &sets, scope)
+    };
+    answer_area(&mut memory[at..at + node_area::AREA_SIZE], j, &row, scope)
 }

@@ -27,8 +27,7 @@ pub fn update_properties(memory: &mut [u8], j: &[u8], address: u32, scope: u32) 
     if !is_placed(memory, at) {
         return Status::Parameter;
     }
-    let row = journal::scope_row(scope);
-    if !row.valid {
+    if journal::scope_row(scope).is_none() {
         return Status::Parameter;
     }
     let outcome = properties::answer(&mut memory[at..at + node_area::AREA_SIZE], j);

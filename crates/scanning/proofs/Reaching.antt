@@ -1,12 +1,11 @@
 -- A scan going on: past a record, past two of kind 4, past four of the same header, at a bad record, at the end.
-use Rattle.std.proofs.Common.{◌≡◌, ℕ, ◌+◌, ◌*◌, ◌/◌, ◌%◌, ◌<◌, ◌≤◌, true, false, cond, List, length, get_or, drop, sym, refl, ap, ◌∙◌, add-zero, mod-eq_of_lt, mul-add, div-one, arith}
+use Rattle.std.proofs.Common.{◌≡◌, ℕ, ◌+◌, ◌*◌, ◌/◌, ◌%◌, ◌<◌, ◌≤◌, true, false, cond, Some, None, List, length, get_or, drop, sym, refl, ap, ◌∙◌, add-zero, mod-eq_of_lt, mul-add, div-one, arith}
 use native.Mathlib.Nat.{div-div-eq-div-mul}
 use Rattle.words.specs.Numbers.{le}
 use Rattle.records.specs.Records.{size_of, records, all_good, size_limit}
 use Rattle.records.proofs.Choosing.{before_step, before_none, before_all}
 use Rattle.records.proofs.Steps.{good_step, bad_step, none_good, formed, not_formed}
 use Rattle.journal.specs.Scope.{Selection}
-use Rattle.journal.specs.declared.counts.Judgement.TheVariants.{Malformed, Counted}
 use Rattle.journal.specs.declared.judging.Shape.{Shape}
 use Rattle.scanning.specs.declared.stride.Position.{Position}
 use Rattle.scanning.specs.declared.stride.Same.{Same}
@@ -118,13 +117,13 @@ module _ (sel : Selection) (j : List ℕ) (at counts : ℕ) (small : length j �
   reached_bad h e = not_formed size_limit good_record j (t.good ∙ bad_step good_record j at h e)
 
   -- at the end
-  pub reached_end : length j ≤ at → Counted (unpacked counts) ≡ judgement_of sel j
+  pub reached_end : length j ≤ at → Some (unpacked counts) ≡ judgement_of sel j
   unfolding judgement_of well_formed
   reached_end h =
       let all : (code : ℕ) → IsOpcode code → count code counts ≡ length (chosen sel code (entries j)) = λ code o. before_all (reports sel code) operation each_entry j at (count code counts) (t.before code o) h in
       rw (formed size_limit good_record j small (t.good ∙ none_good good_record j at h), ← all 1 code_1, ← all 2 code_2, ← all 3 code_3)
 
-pub malformed : (sel : Selection) (j : List ℕ) → well_formed j ≡ false → Malformed ≡ judgement_of sel j
+pub malformed : (sel : Selection) (j : List ℕ) → well_formed j ≡ false → None ≡ judgement_of sel j
 unfolding judgement_of
 malformed sel j h = rw h
 

@@ -9,12 +9,12 @@ ghost use Rattle.scanning.specs.Inner.Terms.{unpacked};
 use crate::noting::note;
 use crate::stride::{Position, stride};
 use crate::weights::{WeightTable, fill_weights};
-use journal::{Counts, Judgement, Units};
+use journal::{Counts, Units};
 
 // What a scan finds, and the marks that it noted: each a place and the packed counts of what stands before it.
 #[derive(Clone, Copy)]
 pub struct Scanned {
-    pub judgement: Judgement,
+    pub judgement: Option<Counts>,
     pub noted: usize,
     pub marks: [u64; 128],
 }
@@ -22,7 +22,7 @@ pub struct Scanned {
 // What a scan finds, and how many marks it noted.
 #[derive(Clone, Copy)]
 pub struct Noted {
-    pub judgement: Judgement,
+    pub judgement: Option<Counts>,
     pub noted: usize,
 }
 
@@ -47,7 +47,7 @@ pub fn scan_noting(j: &[u8], row: &[u8; 17], units: Units, marks: &mut [u64; 128
     let mut noted: usize = 0;
     if records::SIZE_LIMIT < j.len() {
         return Noted {
-            judgement: Judgement::Malformed,
+            judgement: None,
             noted,
         };
     }
@@ -60,7 +60,7 @@ pub fn scan_noting(j: &[u8], row: &[u8; 17], units: Units, marks: &mut [u64; 128
         noted = note(marks, noted, from);
         let Some(p) = stride(j, row, units, &weights, from) else {
             return Noted {
-                judgement: Judgement::Malformed,
+                judgement: None,
                 noted,
             };
         };
@@ -68,7 +68,7 @@ pub fn scan_noting(j: &[u8], row: &[u8; 17], units: Units, marks: &mut [u64; 128
         counts = p.counts;
     }
     Noted {
-        judgement: Judgement::Counted(counts_of(counts)),
+        judgement: Some(counts_of(counts)),
         noted,
     }
 }

@@ -1,10 +1,9 @@
-use Rattle.std.proofs.Common.{ap, ◌∙◌, arith, rules}
+use Rattle.std.proofs.Common.{Some, ap, ◌∙◌, arith, rules}
 use Rattle.journal.proofs.Claims.{too_large, journal_claims}
 use Rattle.scanning.proofs.NoteLaws.{marked_none, marked_note, noted_length}
 use Rattle.scanning.proofs.Reaching.{reached_none, reached_end, malformed}
 use Rattle.journal.specs.Scope.{asking}
 use Rattle.journal.specs.Marks.{Marked}
-use Rattle.journal.specs.declared.counts.Judgement.TheVariants.{Counted}
 use Rattle.scanning.proofs.counting.scan_noting.Goals as goal
 
 pub returns-then-j-gt-SIZE_LIMIT : goal.returns-then-j-gt-SIZE_LIMIT
@@ -41,4 +40,4 @@ loop-at-preserved c =
 
 pub returns : goal.returns
 returns c =
-    record { judgement_value = (ap Counted c.counts_of.ensures ∙ reached_end (asking c.args.row.now c.args.units) c.args.j.now c.loop-at.at _ c.if-j-gt-SIZE_LIMIT.false c.loop-at.invariant.0 c.loop-at-test.false, c.loop-at.invariant.1); rules = journal_claims }
+    record { judgement_value = (ap Some c.counts_of.ensures ∙ reached_end (asking c.args.row.now c.args.units) c.args.j.now c.loop-at.at _ c.if-j-gt-SIZE_LIMIT.false c.loop-at.invariant.0 c.loop-at-test.false, c.loop-at.invariant.1); rules = journal_claims }
