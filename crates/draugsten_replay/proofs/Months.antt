@@ -1,4 +1,5 @@
 -- Totals over sessions: what is claimed of totals, said of the sessions that they come from.
+use Rattle.std.specs.Prelude.{is_some, IsSome}
 use Prim.Native.Nat.{ℕ, zero, suc, ◌+◌, ◌*◌}
 use mathlib.Core.Path.{◌≡◌, refl, sym, ap, ◌∙◌}
 use mathlib.Core.Bool.{Bool, true, false, cond, true≢false, false≢true}
@@ -28,7 +29,7 @@ use Rattle.counting.proofs.Consistent.{figures_consistent}
 use Rattle.counting.proofs.Growing.{within_none, within_more}
 use Rattle.counting.proofs.Summing.{length_figures}
 use Rattle.totals.specs.declared.adding.Totals.{Totals}
-use Rattle.totals.specs.Adding.{no_totals, added_to}
+use Rattle.totals.specs.Adding.{no_totals, added_to, totals_after}
 use Rattle.totals.specs.Claims.Totals.{added_all, AllTaken, AllSized, figure_over, exchanged, reordered}
 use Rattle.totals.specs.Consistent.{consistent}
 use Rattle.totals.proofs.Claims.{totals_claims, sized as add-sized}
@@ -55,14 +56,14 @@ by_taken true e = refl
 by_taken false e = absurd (omega (arith, e))
 
 -- what is not refused agreed, fits, and is added
-added_is : (t : Totals) (r : Report) (m : Totals) → (added_by t r m).number ≡ 0 → ((added_to t m).taken ≡ true) × (((added_by t r m).totals ≡ (added_to t m).totals) × (is_over r ≡ false))
+added_is : (t : Totals) (r : Report) (m : Totals) → (added_by t r m).number ≡ 0 → IsSome (added_to t m) × (((added_by t r m).totals ≡ totals_after t m) × (is_over r ≡ false))
 unfolding counts_added
-added_is t (Agreed calls) m e = (by_taken (added_to t m).taken e, (refl, refl))
+added_is t (Agreed calls) m e = (by_taken (is_some (added_to t m)) e, (refl, refl))
 added_is t (Differs call offset) m e = absurd (omega (arith, e))
 added_is t (Malformed number) m e = absurd (omega (arith, e))
 
 -- and the other way round
-added_by_lem : (t : Totals) (r : Report) (m : Totals) → is_over r ≡ false → (added_to t m).taken ≡ true → ((added_by t r m).number ≡ 0) × ((added_by t r m).totals ≡ (added_to t m).totals)
+added_by_lem : (t : Totals) (r : Report) (m : Totals) → is_over r ≡ false → IsSome (added_to t m) → ((added_by t r m).number ≡ 0) × ((added_by t r m).totals ≡ totals_after t m)
 unfolding counts_added
 added_by_lem t (Agreed calls) m g e = (rw e, refl)
 added_by_lem t (Differs call offset) m g e = absurd (true≢false g)
@@ -82,7 +83,7 @@ added_over t (Malformed number) m o = refl
 -- a refusal keeps the totals
 kept_by : (t : Totals) (r : Report) (m : Totals) → ((added_by t r m).number ≡ 0 → ⊥) → (added_by t r m).totals ≡ t
 unfolding counts_added
-kept_by t (Agreed calls) m h = decide (added_to t m).taken (λ e. absurd (h (rw e))) (λ e. totals_claims.refused_whole t m e)
+kept_by t (Agreed calls) m h = decide (is_some (added_to t m)) (λ e. absurd (h (rw e))) (λ e. totals_claims.refused_whole t m e)
 kept_by t (Differs call offset) m h = refl
 kept_by t (Malformed number) m h = refl
 
@@ -127,7 +128,7 @@ unfolding figures month_of added_all
 none_refused t [] a g = (tt, refl)
 none_refused t (s ∷ ss) a g =
     let b = added_by_lem t (report_for s) (figures_for s) g.0 a.0 in
-    let r = none_refused (added_to t (figures_for s)).totals ss a.1 g.1 in
+    let r = none_refused (totals_after t (figures_for s)) ss a.1 g.1 in
     rw b.1 ((b.0, r.0), r.1)
 
 -- ---- in any order
@@ -194,7 +195,7 @@ all_consistent : (t : Totals) (ss : List Session) → length t.figures ≡ 35 �
 unfolding figures added_all
 all_consistent t [] h e a = e
 all_consistent t (s ∷ ss) h e a =
-    all_consistent (added_to t (figures_for s)).totals ss (add-sized t (figures_for s) h (session_figures s) a.0)
+    all_consistent (totals_after t (figures_for s)) ss (add-sized t (figures_for s) h (session_figures s) a.0)
     (consistent_claims.kept t (figures_for s) h (session_figures s) e (session_consistent s) a.0) a.1
 
 pub month_consistent : MonthConsistent

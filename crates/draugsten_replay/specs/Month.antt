@@ -1,5 +1,5 @@
 -- A replay that counts, and totals over traces, at the C boundary (document 02, M-111).
-use Rattle.std.specs.Prelude.{ℕ, ◌≡◌, Bool, cond, ◌&&◌, List, eqb, length, get_or}
+use Rattle.std.specs.Prelude.{ℕ, ◌≡◌, Bool, cond, ◌&&◌, List, eqb, length, get_or, is_some}
 use Rattle.records.specs.Cutting.{Standing, fed}
 use Rattle.trace.specs.declared.report.Report.{Report}
 use Rattle.trace.specs.declared.report.Report.TheVariants.{Agreed, Differs, Malformed}
@@ -8,7 +8,7 @@ use Rattle.counting.specs.Counts.{no_counts}
 use Rattle.counting.specs.Figures.{figures_of}
 use Rattle.counting.specs.OfTrace.{Counting, counter}
 use Rattle.totals.specs.declared.adding.Totals.{Totals}
-use Rattle.totals.specs.Adding.{added_to}
+use Rattle.totals.specs.Adding.{added_to, totals_after}
 use Rattle.totals.specs.Consistent.{consistent}
 use Rattle.shares.specs.declared.share.Share.{Share}
 use Rattle.shares.specs.Share.{share_of}
@@ -61,7 +61,7 @@ pub record CountingFeeds (journal inventory held args memory : List ℕ) (f : Fl
 
 -- The counts of a trace with this report, added to totals. "a count that would pass 2^64 - 1": 17; "the counts before that trace are kept whole"
 unfoldable pub counts_added : Totals → Totals → FlatReport → FlatAdded
-counts_added t figures report = let a = added_to t figures in record { number = cond a.taken 0 17; report = report; totals = a.totals }
+counts_added t figures report = record { number = cond (is_some (added_to t figures)) 0 17; report = report; totals = totals_after t figures }
 
 -- "Refusals: a malformed or differing trace, then a count that would pass 2^64 - 1": 16 with the report, before 17
 abbrev pub added_by : Totals → Report → Totals → FlatAdded
@@ -79,8 +79,9 @@ month_added t f =
 -- Totals of other traces. 18 for figures that are not consistent; the totals that they are added to are not looked at.
 unfoldable pub merged_to : Totals → Totals → FlatMerged
 merged_to t more =
-    let a = added_to t more in
-    cond (consistent more) (record { number = cond a.taken 0 17; totals = a.totals }) (record { number = 18; totals = t })
+    cond (consistent more)
+    (record { number = cond (is_some (added_to t more)) 0 17; totals = totals_after t more })
+    (record { number = 18; totals = t })
 
 -- "the share used": words used over words available, from the sums
 abbrev pub share_in : Totals → Share

@@ -138,19 +138,17 @@ fn add_counts(totals: Totals, counts: Counts, report: FlatReport) -> FlatAdded
     requires { Within 4_294_967_295 counts }
     ensures { result ≡ counts_added totals (figures_of counts) report }
 {
-    let added = totals::add(totals, figures_of(counts));
-    let sums = added.totals;
-    if added.taken {
-        return FlatAdded {
+    match totals::add(totals, figures_of(counts)) {
+        Some(sums) => FlatAdded {
             number: 0,
             report,
             totals: sums,
-        };
-    }
-    FlatAdded {
-        number: 17,
-        report,
-        totals: sums,
+        },
+        None => FlatAdded {
+            number: 17,
+            report,
+            totals,
+        },
     }
 }
 
@@ -194,17 +192,12 @@ pub extern "C" fn draugsten_month_merge(totals: Totals, more: Totals) -> FlatMer
     if !totals::is_consistent(more) {
         return FlatMerged { number: 18, totals };
     }
-    let added = totals::add(totals, more);
-    let sums = added.totals;
-    if added.taken {
-        return FlatMerged {
+    match totals::add(totals, more) {
+        Some(sums) => FlatMerged {
             number: 0,
             totals: sums,
-        };
-    }
-    FlatMerged {
-        number: 17,
-        totals: sums,
+        },
+        None => FlatMerged { number: 17, totals },
     }
 }
 

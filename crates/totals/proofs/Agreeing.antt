@@ -2,11 +2,13 @@
 use mathlib.Core.Path.{◌≡◌, refl, sym, ◌∙◌}
 use mathlib.Core.Bool.{Bool, true, false, ◌&&◌}
 use mathlib.Core.List.{List}
-use Prim.Native.Nat.{ℕ, zero, suc, ◌+◌, ◌*◌, ◌-◌, ◌/◌, ◌%◌, ◌<◌, ◌≤◌}
-use native.Mathlib.Numerals.{add-one}
+use Prim.Native.Nat.{ℕ, zero, suc, ◌+◌, ◌*◌, ◌/◌, ◌%◌, ◌≤◌}
 use native.Mathlib.Omega.{arith}
 use lib.Dec.{eqb, leb}
-use lib.ListN.{length, get_or}
+use Rattle.std.specs.Prelude.{sum}
+use lib.ListN.{length, get_or, take, drop}
+use lib.Seq.{drop-cons}
+use Rattle.std.proofs.lemmas.List.Sums.{sum_by-cons}
 use borrow.Author.Tests.{eqb-true, eqb-false, eq-eqb, ne_eqb, le-leb, leb-true}
 use Rattle.words.proofs.Choice.{decide, and_left, and_right}
 use Rattle.words.proofs.Exactly.{equal, at_most, both}
@@ -25,28 +27,22 @@ same_test a b c d f g =
 
 -- ---- a sum, figure by figure
 
-module _ (fs : List ℕ) (rest at end : ℕ) (h : at < end) where
-  abbrev here : ℕ
-  here = get_or fs at 0
-
-  abbrev behind : ℕ
-  behind = sum_from fs (at + 1) (end - (at + 1))
-
-  front : sum_from fs at (end - at) ≡ here + behind
-  unfolding sum_from
-  front = let one : end - at ≡ suc (end - suc at) = omega arith in rw (one, add-one)
-
-  pub sum_next : here ≤ rest → eqb (rest - here) behind ≡ eqb rest (sum_from fs at (end - at))
-  sum_next f = rw front (same_test (rest - here) behind rest (here + behind) (λ e. omega arith) (λ e. omega arith))
-
-  pub sum_not : rest < here → eqb rest (sum_from fs at (end - at)) ≡ false
-  sum_not f = rw front (ne_eqb rest (here + behind) (λ e. omega arith))
-
-pub sum_end : (fs : List ℕ) (rest at end : ℕ) → end ≤ at → eqb rest (sum_from fs at (end - at)) ≡ eqb rest 0
+-- the figures of a part, one after the other
+pub sum_part : (fs : List ℕ) (at n : ℕ) → at + n ≤ length fs → sum (take n (drop at fs)) ≡ sum_from fs at n
 unfolding sum_from
-sum_end fs rest at end h = let none : end - at ≡ 0 = omega arith in rw none
+sum_part fs at zero h = refl
+sum_part fs at (suc n) h = rw (drop-cons fs at 0 (omega arith), sum_by-cons (λ (x : ℕ). x), sum_part fs (suc at) n (omega arith))
 
 -- ---- the figures agree
+
+-- the calls of each token, a part of the figures each
+module _ (fs : List ℕ) (h : length fs ≡ 35) where
+  abbrev pub calls_of : ℕ → ℕ → Bool
+  calls_of i at = eqb (get_or fs i 0) (sum (take 7 (drop at fs)))
+
+  pub calls_agree_lem : calls_agree fs ≡ (calls_of 28 0 && (calls_of 29 7 && (calls_of 30 14 && calls_of 31 21)))
+  unfolding calls_agree
+  calls_agree_lem = rw (sum_part fs 0 7 (omega arith), sum_part fs 7 7 (omega arith), sum_part fs 14 7 (omega arith), sum_part fs 21 7 (omega arith))
 
 -- words available as calls, where they are a multiple of 1,019
 module _ (fs : List ℕ) where

@@ -1,4 +1,5 @@
 -- The claims about totals hold.
+use Rattle.std.specs.Prelude.{IsSome}
 use mathlib.Core.Path.{◌≡◌, refl, sym, ap, ◌∙◌}
 use mathlib.Core.Bool.{true, false≢true}
 use mathlib.Core.List.{List, [], ◌∷◌}
@@ -8,7 +9,7 @@ use native.Mathlib.Omega.{arith}
 use lib.ListN.{length, get_or, replicate}
 use Rattle.words.proofs.Choice.{decide}
 use Rattle.totals.specs.declared.adding.Totals.{Totals}
-use Rattle.totals.specs.Adding.{totals_of, no_totals, sums, all_fit, added_to}
+use Rattle.totals.specs.Adding.{totals_of, no_totals, sums, all_fit, added_to, totals_after}
 use Rattle.totals.specs.Claims.Totals.{added_all, AllTaken, AllSized, figure_over, SumsOfAll, NoTrace, FromNothing, exchanged, reordered, Reverses, InAnyOrder, TakenExactly, RefusedWhole, TotalsReadings, TotalsClaims}
 use Rattle.totals.proofs.Taken.{taken}
 use Rattle.totals.proofs.Joining.{totals_join}
@@ -26,14 +27,14 @@ taken_exactly t m h s =
     (λ f. rw (added t m (fit_all (both t m) (λ i. rw (each i) (f i)))), λ e i. rw (each i) at (fit_each (both t m) i (taken t m e).0))
 
 -- totals of 35 figures keep 35
-pub sized : (t m : Totals) → length t.figures ≡ 35 → length m.figures ≡ 35 → (added_to t m).taken ≡ true → length (added_to t m).totals.figures ≡ 35
+pub sized : (t m : Totals) → length t.figures ≡ 35 → length m.figures ≡ 35 → IsSome (added_to t m) → length (totals_after t m).figures ≡ 35
 sized t m h s e = rw (taken t m e).1 (length_sums t.figures m.figures (h ∙ sym s) ∙ s)
 
 sums_of_all : SumsOfAll
 unfolding added_all figure_over
 sums_of_all t [] i h s f = sym (add-zero _)
 sums_of_all t (m ∷ ms) i h s f =
-    sums_of_all (added_to t m).totals ms i (sized t m h s.0 f.0) s.1 f.1
+    sums_of_all (totals_after t m) ms i (sized t m h s.0 f.0) s.1 f.1
     ∙ rw (taken t m f.0).1 (omega (arith, get_d_sums t.figures m.figures i (h ∙ sym s.0)))
 
 -- zeros, and 0 behind them
@@ -50,7 +51,7 @@ from_nothing ms i s f = sums_of_all no_totals ms i refl s f ∙ omega (arith, ze
 
 -- two traces, one after the other in either order
 swapped : (t a b : Totals) (ms : List Totals) → length t.figures ≡ 35 → AllSized (a ∷ b ∷ ms) → AllTaken t (a ∷ b ∷ ms) →
-    ((added_to t b).taken ≡ true) × ((added_to (added_to t b).totals a).taken ≡ true) × ((added_to (added_to t b).totals a).totals ≡ (added_to (added_to t a).totals b).totals)
+    IsSome (added_to t b) × IsSome (added_to (totals_after t b) a) × (totals_after (totals_after t b) a ≡ (totals_after (totals_after t a) b))
 swapped t a b ms h s f =
     let p = taken t a f.0 in
     let q = taken (totals_of (both t a)) b (rw p.1 at f.1.0) in
@@ -70,7 +71,7 @@ exchange zero t (a ∷ b ∷ ms) h s f =
     let w = swapped t a b ms h s f in
     ((s.1.0, (s.0, s.1.1)), (w.0, (w.1, rw w.2 f.1.1)), ap (λ (u : Totals). added_all u ms) w.2)
 exchange (suc k) t (a ∷ b ∷ ms) h s f =
-    let r = exchange k (added_to t a).totals (b ∷ ms) (sized t a h s.0 f.0) s.1 f.1 in
+    let r = exchange k (totals_after t a) (b ∷ ms) (sized t a h s.0 f.0) s.1 f.1 in
     ((s.0, r.0), (f.0, r.1), r.2)
 
 reverses : Reverses

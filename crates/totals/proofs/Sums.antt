@@ -1,8 +1,9 @@
 -- Laws of sums: figure by figure, in either order, and one figure after the other as the code adds them.
+use Rattle.std.specs.Prelude.{Some, None}
 use mathlib.Core.Path.{◌≡◌, refl, sym, ap, ◌∙◌}
 use mathlib.Core.Bool.{true, false, ◌&&◌}
 use mathlib.Core.List.{List, [], ◌∷◌, ◌++◌, append-nil}
-use Prim.Native.Nat.{ℕ, zero, suc, ◌+◌, ◌-◌, ◌<◌, ◌≤◌}
+use Prim.Native.Nat.{ℕ, zero, suc, ◌+◌, ◌^◌, ◌<◌, ◌≤◌}
 use native.Mathlib.Numerals.{add-one}
 use native.Mathlib.Omega.{arith}
 use lib.Dec.{leb}
@@ -84,21 +85,17 @@ module _ {t m now : List ℕ} {i : ℕ} (a : Adding t m now i) where
   unfolding all_fit
   fit_front h = rw (front h) at a.fits
 
-  -- the code's test passes
-  pub adding_fits : get_or m i 0 ≤ most - get_or now i 0 → sum ≤ most
-  adding_fits f = omega (arith, a.small i (omega arith))
-
-  pub adding_next : i < 35 → get_or m i 0 ≤ most - get_or now i 0 → Adding t m (set now i sum) (i + 1)
+  pub adding_next : i < 35 → sum < 2 ^ 64 → Adding t m (set now i sum) (i + 1)
   adding_next h f =
       let behind = drop-set-lt (suc i) now i sum (omega arith) in
       record {
         sized = (length-set now i sum ∙ a.sized.0, a.sized.1);
         small = λ k l. rw (get_or-set_other now i k sum 0 (λ e. omega arith)) (a.small k (omega arith));
         rest = rw (add-one, take-suc-set now i sum (omega arith), behind, append_snoc) (rw (front h) at a.rest);
-        fits = rw (add-one, behind) (rw (le-leb sum most (adding_fits f)) at (fit_front h));
+        fits = rw (add-one, behind) (rw (le-leb sum most (omega arith)) at (fit_front h));
       }
 
-  pub adding_not : i < 35 → most - get_or now i 0 < get_or m i 0 → all_fit (sums t m) ≡ false
+  pub adding_not : i < 35 → (sum < 2 ^ 64 → ⊥) → all_fit (sums t m) ≡ false
   adding_not h f = sym (rw (lt-leb sum most (omega arith)) at (fit_front h))
 
   pub adding_end : 35 ≤ i → (now ≡ sums t m) × (all_fit (sums t m) ≡ true)
@@ -113,10 +110,10 @@ module _ (t more : Totals) where
   abbrev pub both : List ℕ
   both = sums t.figures more.figures
 
-  pub added : all_fit both ≡ true → added_to t more ≡ record { taken = true; totals = totals_of both }
+  pub added : all_fit both ≡ true → added_to t more ≡ Some (totals_of both)
   unfolding added_to
   added f = rw f
 
-  pub not_added : all_fit both ≡ false → added_to t more ≡ record { taken = false; totals = t }
+  pub not_added : all_fit both ≡ false → added_to t more ≡ None
   unfolding added_to
   not_added f = rw f

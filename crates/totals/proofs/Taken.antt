@@ -1,13 +1,14 @@
 -- What is known of figures that were taken.
+use Rattle.std.specs.Prelude.{IsSome}
 use mathlib.Core.Path.{◌≡◌}
 use mathlib.Core.Bool.{true, false≢true}
 use Rattle.words.proofs.Choice.{decide}
 use Rattle.totals.specs.declared.adding.Totals.{Totals}
-use Rattle.totals.specs.Adding.{totals_of, all_fit, added_to}
+use Rattle.totals.specs.Adding.{totals_of, all_fit, added_to, totals_after}
 use Rattle.totals.proofs.Sums.{both, added, not_added}
 
 -- what was taken fits, and is the sums
-pub taken : (t m : Totals) → (added_to t m).taken ≡ true → (all_fit (both t m) ≡ true) × ((added_to t m).totals ≡ totals_of (both t m))
+pub taken : (t m : Totals) → IsSome (added_to t m) → (all_fit (both t m) ≡ true) × (totals_after t m ≡ totals_of (both t m))
 taken t m e =
     decide (all_fit (both t m))
     (λ f. (f, rw (added t m f)))

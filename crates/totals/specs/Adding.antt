@@ -1,9 +1,8 @@
 -- Totals over traces (document 02, M-111: "counts are the sums of the traces' counts", "Refusals: .. then a count that would pass 2^64 - 1; .. the
 -- counts before that
 -- trace are kept whole").
-use Rattle.std.specs.Prelude.{ℕ, ◌+◌, Bool, true, false, cond, ◌&&◌, List, [], ◌∷◌, leb, replicate}
+use Rattle.std.specs.Prelude.{ℕ, ◌+◌, Bool, true, cond, ◌&&◌, List, [], ◌∷◌, leb, replicate, Option, Some, None, unwrap_or}
 use Rattle.totals.specs.declared.adding.Totals.{Totals}
-use Rattle.totals.specs.declared.adding.Added.{Added}
 
 abbrev pub totals_of : List ℕ → Totals
 totals_of figures = record { figures = figures }
@@ -22,7 +21,9 @@ unfoldable pub all_fit : List ℕ → Bool
 all_fit [] = true
 all_fit (n ∷ ns) = leb n 0xffff_ffff_ffff_ffff && all_fit ns
 
-unfoldable pub added_to : Totals → Totals → Added
-added_to t more =
-    let s = sums t.figures more.figures in
-    cond (all_fit s) (record { taken = true; totals = totals_of s }) (record { taken = false; totals = t })
+unfoldable pub added_to : Totals → Totals → Option Totals
+added_to t more = let s = sums t.figures more.figures in cond (all_fit s) (Some (totals_of s)) None
+
+-- "the counts before that trace are kept whole"
+abbrev pub totals_after : Totals → Totals → Totals
+totals_after t more = unwrap_or (added_to t more) t

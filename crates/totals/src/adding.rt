@@ -13,13 +13,6 @@ pub struct Totals {
     pub figures: [u64; FIGURES],
 }
 
-// The totals with a trace's figures added, or as they were where a sum would pass 2^64 - 1.
-#[derive(Clone, Copy)]
-pub struct Added {
-    pub taken: bool,
-    pub totals: Totals,
-}
-
 // The totals of no trace.
 pub fn no_totals() -> Totals
     ensures { result ≡ no_totals }
@@ -29,26 +22,14 @@ pub fn no_totals() -> Totals
     }
 }
 
-// All figures are added, or none.
-pub fn add(totals: Totals, more: Totals) -> Added
+// All figures are added, or none: None where a sum would pass 2^64 - 1. The caller's totals are then as they were.
+pub fn add(totals: Totals, more: Totals) -> Option<Totals>
     ensures value { result ≡ added_to totals more }
     ensures claims { TotalsClaims }
 {
     let mut sums = totals.figures;
-    let figures = more.figures;
-    let mut i: usize = 0;
-    while i < FIGURES {
-        if 0xffff_ffff_ffff_ffff - sums[i] < figures[i] {
-            return Added {
-                taken: false,
-                totals,
-            };
-        }
-        sums[i] += figures[i];
-        i += 1;
+    for i in 0..FIGURES {
+        sums[i] = sums[i].checked_add(more.figures[i])?;
     }
-    Added {
-        taken: true,
-        totals: Totals { figures: sums },
-    }
+    Some(Totals { figures: sums })
 }

@@ -4,5 +4,5 @@
 mod adding;
 mod consistent;
 
-pub use adding::{Added, FIGURES, Totals, add, no_totals};
+pub use adding::{FIGURES, Totals, add, no_totals};
 pub use consistent::is_consistent;

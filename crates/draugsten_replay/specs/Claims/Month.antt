@@ -1,5 +1,5 @@
 -- What is claimed of the month at the C boundary, cited by the contracts of the functions of `month`.
-use Rattle.std.specs.Prelude.{ℕ, ◌+◌, ◌*◌, ◌≤◌, ◌<◌, ◌≡◌, true, false, cond, ◌&&◌, List, [], ◌∷◌, ◌++◌, eqb, length, take, drop, get_or, replicate}
+use Rattle.std.specs.Prelude.{ℕ, ◌+◌, ◌*◌, ◌≤◌, ◌<◌, ◌≡◌, true, false, cond, ◌&&◌, List, [], ◌∷◌, ◌++◌, eqb, length, take, drop, get_or, replicate, is_some}
 use Rattle.words.specs.Numbers.{be32}
 use Rattle.calls.specs.Buffer.{input, status_at, is_nodes}
 use Rattle.counting.specs.declared.counts.Counts.{Counts}
@@ -8,7 +8,7 @@ use Rattle.counting.specs.Claims.Counts.{CountClaims}
 use Rattle.counting.specs.CountsCame.{counts_came}
 use Rattle.counting.specs.Claims.CountsCame.{TraceCountClaims}
 use Rattle.totals.specs.declared.adding.Totals.{Totals}
-use Rattle.totals.specs.Adding.{no_totals, added_to}
+use Rattle.totals.specs.Adding.{no_totals, added_to, totals_after}
 use Rattle.totals.specs.Claims.Totals.{reordered, EachFits, TotalsClaims}
 use Rattle.totals.specs.Consistent.{consistent}
 use Rattle.totals.specs.Claims.Consistent.{ConsistentClaims}
@@ -164,7 +164,7 @@ MergeTaken =
     (t more : Totals) → length t.figures ≡ 35 → length more.figures ≡ 35
     → (consistent more ≡ false → (merged_to t more).number ≡ 18)
     × ((consistent more ≡ true → (EachFits t more → ⊥) → (merged_to t more).number ≡ 17)
-    × (consistent more ≡ true → EachFits t more → ((merged_to t more).number ≡ 0) × ((merged_to t more).totals ≡ (added_to t more).totals)))
+    × (consistent more ≡ true → EachFits t more → ((merged_to t more).number ≡ 0) × ((merged_to t more).totals ≡ totals_after t more)))
 
 -- Two machines: where no session of either would be refused after the other's, the totals of one merged into those of the other are the totals of all.
 abbrev pub MergedMonths : Type 0
@@ -182,16 +182,16 @@ ShareFromSums =
 pub record SessionsExactly : Type 0 where
   pub report : (s : Session) → report_for s ≡ (replay_of (platform s.journal s.inventory s.edition) s.memory s.trace).report
   pub figures : (s : Session) → figures_for s ≡ figures_of (counts_of (platform s.journal s.inventory s.edition) s.memory s.trace)
-  pub added : (t : Totals) (s : Session) (calls : ℕ) → report_for s ≡ Agreed calls → (session_added t s).totals ≡ (added_to t (figures_for s)).totals
+  pub added : (t : Totals) (s : Session) (calls : ℕ) → report_for s ≡ Agreed calls → (session_added t s).totals ≡ (totals_after t (figures_for s))
   pub not_taken : (t : Totals) (f : FlatCounting) → is_counting f ≡ false
       → month_added t f ≡ record { number = 14; report = record { verdict = 2; offset = 0; number = 0 }; totals = t }
   pub taken : (t : Totals) (f : FlatCounting) → is_counting f ≡ true
       → month_added t f ≡ added_by t (end_of (report_of f.replay.report) f.replay.records (waits f.replay) f.replay.held) (figures_of f.counts)
   pub adds : (t figures : Totals) (n k : ℕ)
       → (added_by t (Agreed n) figures ≡ record {
-        number = cond (added_to t figures).taken 0 17;
+        number = cond (is_some (added_to t figures)) 0 17;
         report = record { verdict = 0; offset = 0; number = n };
-        totals = (added_to t figures).totals;
+        totals = totals_after t figures;
       })
       × (added_by t (Differs n k) figures ≡ record { number = 16; report = record { verdict = 1; offset = k; number = n }; totals = t })
       × (added_by t (Malformed n) figures ≡ record { number = 16; report = record { verdict = 2; offset = 0; number = n }; totals = t })

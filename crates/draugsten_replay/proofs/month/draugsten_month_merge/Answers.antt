@@ -11,16 +11,16 @@ unfolding merged_to
 returns-then-not-is_consistent c =
     record { value = rw (sym c.is_consistent.ensures.value ∙ c.if-not-is_consistent.true); promise = month_promise }
 
-pub returns-then-added : goal.returns-then-added
+pub returns-in-Some : goal.returns-in-Some
 unfolding merged_to
-returns-then-added c =
+returns-in-Some c =
     let fine : consistent c.args.more ≡ true =
     sym c.is_consistent.ensures.value ∙ c.if-not-is_consistent.false in
-    record { value = rw (fine, ← c.add-added.ensures.value, c.if-added.true); promise = month_promise }
+    record { value = rw (fine, sym c.add.ensures.value ∙ c.in-Some.is); promise = month_promise }
 
-pub returns : goal.returns
+pub returns-in-None : goal.returns-in-None
 unfolding merged_to
-returns c =
+returns-in-None c =
     let fine : consistent c.args.more ≡ true =
     sym c.is_consistent.ensures.value ∙ c.if-not-is_consistent.false in
-    record { value = rw (fine, ← c.add-added.ensures.value, c.if-added.false); promise = month_promise }
+    record { value = rw (fine, sym c.add.ensures.value ∙ c.in-None.is); promise = month_promise }

@@ -1,12 +1,9 @@
 -- `consistent::is_sum` meets its contract.
 use mathlib.Core.Path.{◌≡◌}
-use Prim.Native.Nat.{◌-◌}
 use lib.Dec.{eqb}
-use Rattle.totals.specs.Consistent.{sum_from}
+use lib.ListN.{drop}
+use Rattle.std.specs.Prelude.{sum}
 use Rattle.totals.proofs.consistent.is_sum.Given as goal
 
-abbrev pub invariant-loop-at : goal.invariant-loop-at
-invariant-loop-at l = eqb l.rest (sum_from l.figures l.at (l.end - l.at)) ≡ eqb l.whole (sum_from l.figures l.from l.n)
-
-abbrev pub decreases-loop-at : goal.decreases-loop-at
-decreases-loop-at l = l.end - l.at
+abbrev pub invariant-loop-figure : goal.invariant-loop-figure
+invariant-loop-figure l = eqb l.rest (sum (drop l.figure-index l.figures)) ≡ eqb l.whole (sum l.figures)
