@@ -7,9 +7,10 @@ ghost use Rattle.tallies.specs.Claims.Tallies.{TallyClaims};
 ghost use Rattle.intake.specs.Claims.Intake.{IntakeClaims};
 
 use crate::filling::{gather, ripe_at};
-use crate::sweeping::{Passed, no_stretch, sweep, take_stretch};
+use crate::sweeping::{Passed, sweep, take_stretch};
 use crate::taking::{Place, is_going, take};
 use records::fill;
+use stretch::Stretch;
 use tallies::{Outcome, Tallied};
 
 // Where an intake stands between bursts: between records as its place says, and how many bytes of an unfinished record are held.
@@ -79,7 +80,13 @@ fn advance(buffer: &mut [u8], from: Passed, bytes: &[u8], n: usize) -> Passed
     ensures { Advances buffer.old from bytes.now buffer.new result }
 {
     let at = from.at;
-    let run = take_stretch(buffer, &bytes[..0], from.place, &bytes[at..], no_stretch());
+    let run = take_stretch(
+        buffer,
+        &bytes[..0],
+        from.place,
+        &bytes[at..],
+        Stretch::nothing(),
+    );
     let place = run.place;
     let more = run.at;
     if 0 < more {

@@ -1,7 +1,6 @@
 // All whole good records at once: judged and counted in one pass, and copied together.
 ghost use Rattle.std.specs.Prelude.{◌≡◌, ◌&&◌, ◌||◌, leb, eqb, ltb, ◌+◌, ◌-◌, ◌≤◌, min, length};
 ghost use Rattle.records.specs.Records.{size_limit};
-ghost use Rattle.stretch.specs.Inner.Stretches.{nothing};
 ghost use Rattle.intake.specs.Bursts.{Ready};
 ghost use Rattle.intake.specs.Inner.Terms.{Holds, Begins, Takeable, TakesStretch, Sweeps};
 
@@ -33,17 +32,6 @@ fn room_for(size: usize, used: usize) -> usize
     words::saturating_sub(words::least(size, records::SIZE_LIMIT), used)
 }
 
-// A stretch of no records.
-pub fn no_stretch() -> Stretch
-    ensures { result ≡ nothing }
-{
-    Stretch {
-        end: 0,
-        records: 0,
-        counts: stretch::none_packed(),
-    }
-}
-
 // The held record, where it is one of a node and the burst is long enough to end any: the place of the burst behind it, and what it counts. Bytes
 // of the burst go behind the held ones so that it can be judged.
 fn begin_stretch(store: &mut [u8], held: usize, bytes: &[u8]) -> Stretch
@@ -51,17 +39,17 @@ fn begin_stretch(store: &mut [u8], held: usize, bytes: &[u8]) -> Stretch
     ensures { Begins store.old held bytes.now store.new result }
 {
     if held == 0 {
-        return no_stretch();
+        return Stretch::nothing();
     }
     if NODE_LIMIT <= held {
-        return no_stretch();
+        return Stretch::nothing();
     }
     if bytes.len() < NODE_LIMIT {
-        return no_stretch();
+        return Stretch::nothing();
     }
     words::store_bytes(store, held, bytes, 0, NODE_LIMIT);
     let Some(shape) = journal::judge(&store[..held + NODE_LIMIT], 0, 4) else {
-        return no_stretch();
+        return Stretch::nothing();
     };
     Stretch {
         end: shape.size - held,

@@ -182,17 +182,6 @@ fn past_each(
     Position { at, counts }
 }
 
-// A place at most `by` bytes on, and not past the end.
-fn clamped_end(at: usize, by: usize, end: usize) -> usize
-    requires { at ≤ end }
-    ensures { result ≤ end }
-{
-    if end - at < by {
-        return end;
-    }
-    at + by
-}
-
 // Behind a record without a unit: past those of the same header, then past others without a unit.
 fn behind_plain(
     j: &[u8],
@@ -206,9 +195,9 @@ fn behind_plain(
         (length j.now ≤ size_limit) }
     ensures { Reached (asking row.now units) j.now result × (from.at ≤ result.at) }
 {
-    let limit = clamped_end(from.at, MARK_SPAN, j.len());
+    let limit = j.len().min(from.at + MARK_SPAN);
     let past = past_same(j, row, units, from, same, limit);
-    let end = clamped_end(from.at, EACH_SPAN, j.len());
+    let end = j.len().min(from.at + EACH_SPAN);
     past_each(j, row, units, weights, past, end, 3)
 }
 
@@ -223,9 +212,9 @@ fn behind_unit(
     requires { Reached (asking row.now units) j.now from × Weights row.now weights.now × (length j.now ≤ size_limit) }
     ensures { Reached (asking row.now units) j.now result × (from.at ≤ result.at) }
 {
-    let limit = clamped_end(from.at, MARK_SPAN, j.len());
+    let limit = j.len().min(from.at + MARK_SPAN);
     let past = past_units(j, row, units, weights, from, limit);
-    let end = clamped_end(from.at, EACH_SPAN, j.len());
+    let end = j.len().min(from.at + EACH_SPAN);
     past_each(j, row, units, weights, past, end, 4)
 }
 

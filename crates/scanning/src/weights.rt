@@ -11,10 +11,7 @@ use journal::{COUNT_LIMIT, LARGEST_WEIGHT};
 fn set_of(row: &[u8], node: usize) -> u8
     ensures { result ≡ slice_index row.now node }
 {
-    if row.len() <= node {
-        return 0;
-    }
-    row[node]
+    row.get(node).copied().unwrap_or(0)
 }
 
 // One operation of a kind, where the set holds its opcode: kinds 2 and 4 are updates.
@@ -23,12 +20,12 @@ fn weight(set: u8, kind: usize) -> u64
     ensures { result ≡ (if holds set (opcode_for kind) then count_limit ^ (opcode_for kind - 1) else 0) }
 {
     if kind == 1 {
-        return (set % 2) as u64;
+        return u64::from(set % 2);
     }
     if kind == 3 {
-        return LARGEST_WEIGHT * ((set / 4 % 2) as u64);
+        return LARGEST_WEIGHT * u64::from(set / 4 % 2);
     }
-    COUNT_LIMIT * ((set / 2 % 2) as u64)
+    COUNT_LIMIT * u64::from(set / 2 % 2)
 }
 
 // The weights of a row, by kind and node type.
@@ -38,9 +35,7 @@ pub type WeightTable = [u64; 160];
 pub fn fill_weights(row: &[u8; 17], table: &mut WeightTable)
     ensures { Weights row.now table.new }
 {
-    let mut i: usize = 32;
-    while i < 160 {
+    for i in 32..160 {
         table[i] = weight(set_of(row, i % 32), i / 32);
-        i += 1;
     }
 }

@@ -5,6 +5,6 @@ mod packed;
 mod steps;
 mod weights;
 
-pub use packed::{Packed, none_packed};
+pub use packed::Packed;
 pub use steps::{Stretch, stretch_of, stretch_on};
 pub use weights::weights_for;

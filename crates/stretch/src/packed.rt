@@ -12,14 +12,17 @@ pub struct Packed {
     pub third: u64,
 }
 
-pub fn none_packed() -> Packed
-    ensures { result ≡ no_packed }
-{
-    Packed {
-        negative: 0,
-        first: 0,
-        second: 0,
-        third: 0,
+impl Packed {
+    // No operation of any row.
+    pub fn none() -> Packed
+        ensures { result ≡ no_packed }
+    {
+        Packed {
+            negative: 0,
+            first: 0,
+            second: 0,
+            third: 0,
+        }
     }
 }
 

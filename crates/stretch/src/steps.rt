@@ -5,7 +5,7 @@ ghost use Rattle.journal.specs.Holding.{good_here, property_here};
 ghost use Rattle.stretch.specs.Inner.Stretches.{nothing, Light, Goes, Ends};
 ghost use Rattle.stretch.specs.Inner.Terms.{grown_by, Grows, Known, Moves};
 
-use crate::packed::{Packed, add_times, none_packed};
+use crate::packed::{Packed, add_times};
 use crate::weights::weights_for;
 
 // Records of the same header are passed for so many bytes, then others for so many; then a stride looks for equal headers again.
@@ -19,6 +19,19 @@ pub struct Stretch {
     pub end: usize,
     pub records: usize,
     pub counts: Packed,
+}
+
+impl Stretch {
+    // A stretch of no records.
+    pub fn nothing() -> Stretch
+        ensures { result ≡ nothing }
+    {
+        Stretch {
+            end: 0,
+            records: 0,
+            counts: Packed::none(),
+        }
+    }
 }
 
 // Records of one header, and what one of them adds.
@@ -39,17 +52,6 @@ fn grown(from: Stretch, n: usize, size: usize, weight: Packed) -> Stretch
         records: from.records + n,
         counts: add_times(from.counts, n as u64, weight),
     }
-}
-
-// A place at most `by` bytes behind another, and not past the end.
-fn clamped_end(at: usize, by: usize, end: usize) -> usize
-    requires { at ≤ end }
-    ensures { result ≤ end }
-{
-    if end - at < by {
-        return end;
-    }
-    at + by
 }
 
 // Past records of a known header, four at a time, up to a limit.
@@ -92,7 +94,7 @@ fn past_properties(j: &[u8], from: Stretch) -> Stretch
         let Some(p) = journal::held_at(j, s.end) else {
             break;
         };
-        s = grown(s, 1, p.size, none_packed());
+        s = grown(s, 1, p.size, Packed::none());
     }
     s
 }
@@ -102,8 +104,8 @@ fn behind_node(j: &[u8], from: Stretch, same: Same) -> Stretch
     requires { Light j.now from × Known j.now same }
     ensures { Goes j.now from result × Light j.now result }
 {
-    let limit = clamped_end(from.end, SAME_SPAN, j.len());
-    let end = clamped_end(from.end, EACH_SPAN, j.len());
+    let limit = j.len().min(from.end + SAME_SPAN);
+    let end = j.len().min(from.end + EACH_SPAN);
     let past = past_same(j, from, same, limit);
     past_each(j, past, end)
 }
@@ -146,10 +148,5 @@ pub fn stretch_of(j: &[u8]) -> Stretch
     requires { length j.now ≤ size_limit }
     ensures { Goes j.now nothing result × Ends good_here j.now result }
 {
-    let nothing = Stretch {
-        end: 0,
-        records: 0,
-        counts: none_packed(),
-    };
-    stretch_on(j, nothing)
+    stretch_on(j, Stretch::nothing())
 }

@@ -18,6 +18,7 @@ const SECOND: u64 = 0o00000000000002000;
 const THIRD: u64 = 0o22000000000000000;
 
 // The opcode of a kind: kinds 2 and 4 are updates. It is computed with no test, as is what an operation adds: the kinds of records are random.
+// Kept: journal has a twin of its own, which takes any number and tests it; to share one, journal would have to ask for a kind from 1 to 4.
 fn opcode_of(kind: usize) -> usize
     requires { IsKind kind }
     ensures { result ≡ opcode_for kind }

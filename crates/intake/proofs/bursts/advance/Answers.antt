@@ -5,7 +5,7 @@ use Rattle.intake.proofs.bursts.advance.Goals as goal
 
 pub take_stretch-run-requires : goal.take_stretch-run-requires
 take_stretch-run-requires c =
-    advance_takeable c.requires _ _ c.no_stretch.ensures
+    advance_takeable c.requires _ _ c.nothing.ensures
 
 pub returns-then-more-gt0 : goal.returns-then-more-gt0
 returns-then-more-gt0 c =

@@ -9,15 +9,15 @@ use Rattle.intake.proofs.sweeping.begin_stretch.Goals as goal
 -- without bytes behind the held ones
 pub returns-then-held-eq0 : goal.returns-then-held-eq0
 returns-then-held-eq0 c =
-    begins_none refl refl (completed_far _ _ _ (λ some _ _. some c.if-held-eq0.true)) _ c.no_stretch.ensures
+    begins_none refl refl (completed_far _ _ _ (λ some _ _. some c.if-held-eq0.true)) _ c.nothing.ensures
 
 pub returns-then-held-ge-NODE_LIMIT : goal.returns-then-held-ge-NODE_LIMIT
 returns-then-held-ge-NODE_LIMIT c =
-    begins_none refl refl (completed_far _ _ _ (λ _ low _. omega (arith, low, c.if-held-ge-NODE_LIMIT.true))) _ c.no_stretch-then-held-ge-NODE_LIMIT.ensures
+    begins_none refl refl (completed_far _ _ _ (λ _ low _. omega (arith, low, c.if-held-ge-NODE_LIMIT.true))) _ c.nothing-then-held-ge-NODE_LIMIT.ensures
 
 pub returns-then-bytes-lt-NODE_LIMIT : goal.returns-then-bytes-lt-NODE_LIMIT
 returns-then-bytes-lt-NODE_LIMIT c =
-    begins_none refl refl (completed_far _ _ _ (λ _ _ long. omega (arith, long, c.if-bytes-lt-NODE_LIMIT.true))) _ c.no_stretch-then-bytes-lt-NODE_LIMIT.ensures
+    begins_none refl refl (completed_far _ _ _ (λ _ _ long. omega (arith, long, c.if-bytes-lt-NODE_LIMIT.true))) _ c.nothing-then-bytes-lt-NODE_LIMIT.ensures
 
 pub slice_bounds-judge-end-2 : goal.slice_bounds-judge-end-2
 slice_bounds-judge-end-2 c =
@@ -65,7 +65,7 @@ returns-in_default c =
       long = c.if-bytes-lt-NODE_LIMIT.false;
       is = c.store_bytes.ensures;
     } in
-    begins_not (stored) _ c.no_stretch-in_default.ensures
+    begins_not (stored) _ c.nothing-in_default.ensures
 
 pub returns : goal.returns
 returns c =

@@ -2,21 +2,21 @@
 use Rattle.std.proofs.Common.{arith}
 use Rattle.scanning.proofs.stride.behind_plain.Goals as goal
 
-pub clamped_end-limit-requires : goal.clamped_end-limit-requires
-clamped_end-limit-requires c =
-    c.requires.0.inside
+pub overflow_add-from : goal.overflow_add-from
+overflow_add-from c =
+    omega (arith, c.requires.0.inside, c.requires.3)
 
 pub past_same-past-requires : goal.past_same-past-requires
 past_same-past-requires c =
-    (c.requires.0, c.requires.2, c.clamped_end-limit.ensures, c.requires.3)
+    (c.requires.0, c.requires.2, omega (arith, c.min-limit.ensures), c.requires.3)
 
-pub clamped_end-end-requires : goal.clamped_end-end-requires
-clamped_end-end-requires c =
-    c.requires.0.inside
+pub overflow_add-from-2 : goal.overflow_add-from-2
+overflow_add-from-2 c =
+    omega (arith, c.requires.0.inside, c.requires.3)
 
 pub past_each-requires : goal.past_each-requires
 past_each-requires c =
-    (c.past_same-past.ensures.0, c.requires.1, c.clamped_end-end.ensures, c.requires.3, omega arith)
+    (c.past_same-past.ensures.0, c.requires.1, omega (arith, c.min-end.ensures), c.requires.3, omega arith)
 
 pub returns : goal.returns
 returns c =

@@ -1,22 +1,23 @@
 -- `steps::behind_node` meets its contract.
+use native.Mathlib.Omega.{arith}
 use Rattle.stretch.proofs.Going.{goes_on}
 use Rattle.stretch.proofs.steps.behind_node.Goals as goal
 
-pub clamped_end-limit-requires : goal.clamped_end-limit-requires
-clamped_end-limit-requires c =
-    c.requires.0.inside
+pub overflow_add-from : goal.overflow_add-from
+overflow_add-from c =
+    omega (arith, c.requires.0.inside, c.requires.0.small)
 
-pub clamped_end-end-requires : goal.clamped_end-end-requires
-clamped_end-end-requires c =
-    c.requires.0.inside
+pub overflow_add-from-2 : goal.overflow_add-from-2
+overflow_add-from-2 c =
+    omega (arith, c.requires.0.inside, c.requires.0.small)
 
 pub past_same-past-requires : goal.past_same-past-requires
 past_same-past-requires c =
-    (c.requires.0, c.requires.1, c.clamped_end-limit.ensures)
+    (c.requires.0, c.requires.1, omega (arith, c.min-limit.ensures))
 
 pub past_each-requires : goal.past_each-requires
 past_each-requires c =
-    (c.past_same-past.ensures.1, c.clamped_end-end.ensures)
+    (c.past_same-past.ensures.1, omega (arith, c.min-end.ensures))
 
 pub returns : goal.returns
 returns c =

@@ -23,26 +23,26 @@ returns-in_default c =
 
 pub grown-s-requires : goal.grown-s-requires
 grown-s-requires c =
-    let adds : Adds c.args.j.now c.loop-s.s.end c.in-Some.p.size c.none_packed.result =
+    let adds : Adds c.args.j.now c.loop-s.s.end c.in-Some.p.size c.none.result =
     let j = c.args.j.now in
     let p : (property_here j c.loop-s.s.end ≡ true) × (c.in-Some.p ≡ property_in j c.loop-s.s.end) = held_property j c.loop-s.s.end _ _ c.in-Some.is c.held_at.ensures in
-    rw c.none_packed.ensures (property_adds j c.loop-s.s.end _ c.loop-s.invariant.1.inside p.0 (ap (λ (r : PropertyRecord). r.size) p.1)) in
+    rw c.none.ensures (property_adds j c.loop-s.s.end _ c.loop-s.invariant.1.inside p.0 (ap (λ (r : PropertyRecord). r.size) p.1)) in
     grows_one _ _ _ _ c.loop-s.invariant.1 (adds)
 
 pub loop-s-smaller : goal.loop-s-smaller
 loop-s-smaller c =
-    let adds : Adds c.args.j.now c.loop-s.s.end c.in-Some.p.size c.none_packed.result =
+    let adds : Adds c.args.j.now c.loop-s.s.end c.in-Some.p.size c.none.result =
     let j = c.args.j.now in
     let p : (property_here j c.loop-s.s.end ≡ true) × (c.in-Some.p ≡ property_in j c.loop-s.s.end) = held_property j c.loop-s.s.end _ _ c.in-Some.is c.held_at.ensures in
-    rw c.none_packed.ensures (property_adds j c.loop-s.s.end _ c.loop-s.invariant.1.inside p.0 (ap (λ (r : PropertyRecord). r.size) p.1)) in
+    rw c.none.ensures (property_adds j c.loop-s.s.end _ c.loop-s.invariant.1.inside p.0 (ap (λ (r : PropertyRecord). r.size) p.1)) in
     rw c.grown-s.ensures (omega (arith, adds_size _ _ _ _ c.loop-s.invariant.1 (adds), c.loop-s-test.true))
 
 pub loop-s-preserved : goal.loop-s-preserved
 loop-s-preserved c =
-    let adds : Adds c.args.j.now c.loop-s.s.end c.in-Some.p.size c.none_packed.result =
+    let adds : Adds c.args.j.now c.loop-s.s.end c.in-Some.p.size c.none.result =
     let j = c.args.j.now in
     let p : (property_here j c.loop-s.s.end ≡ true) × (c.in-Some.p ≡ property_in j c.loop-s.s.end) = held_property j c.loop-s.s.end _ _ c.in-Some.is c.held_at.ensures in
-    rw c.none_packed.ensures (property_adds j c.loop-s.s.end _ c.loop-s.invariant.1.inside p.0 (ap (λ (r : PropertyRecord). r.size) p.1)) in
+    rw c.none.ensures (property_adds j c.loop-s.s.end _ c.loop-s.invariant.1.inside p.0 (ap (λ (r : PropertyRecord). r.size) p.1)) in
     rw c.grown-s.ensures (onward_one _ _ _ _ _ c.loop-s.invariant (adds))
 
 pub returns-after-loop-s : goal.returns-after-loop-s

@@ -4,8 +4,8 @@ use Rattle.stretch.proofs.steps.stretch_of.Goals as goal
 
 pub stretch_on-requires : goal.stretch_on-requires
 stretch_on-requires c =
-    rw c.none_packed.ensures (light_nothing _ c.requires)
+    rw c.nothing.ensures (light_nothing _ c.requires)
 
 pub returns : goal.returns
 returns c =
-    rw (← c.none_packed.ensures) (c.stretch_on.ensures.0, c.stretch_on.ensures.2)
+    rw (← c.nothing.ensures) (c.stretch_on.ensures.0, c.stretch_on.ensures.2)
