@@ -14,8 +14,8 @@ pub extern "C" fn draugsten_bench_scan(journal: &[u8], scope: u32, unit: u64) ->
     ensures { result ≡ reported_of scope unit journal.now }
 {
     let row = journal::scope_row(scope).unwrap_or([0; 17]);
-    let found = scanning::scan(journal, &row, journal::units_of(scope, unit));
-    match found.judgement {
+    let (counted, _) = scanning::scan(journal, &row, journal::units_of(scope, unit));
+    match counted {
         None => u64::MAX,
         Some(c) => (c.deletes + c.updates + c.additions) as u64,
     }

@@ -1,9 +1,11 @@
 -- Marks that a scan notes, from which the operation due is found without a walk from the journal's start.
-use Rattle.std.specs.Prelude.{ℕ, ◌+◌, ◌*◌, ◌-◌, ◌/◌, ◌%◌, ◌^◌, ◌≤◌, ◌<◌, ◌≡◌, true, List, length, get_or, drop}
+use Rattle.std.specs.Prelude.{ℕ, ◌+◌, ◌-◌, ◌/◌, ◌%◌, ◌^◌, ◌≤◌, ◌<◌, ◌≡◌, true, List, [], ◌∷◌, ◌++◌, length, take, drop, All}
 use Rattle.records.specs.Records.{records, all_good}
 use Rattle.journal.specs.Scope.{Selection}
 use Rattle.journal.specs.Journal.{good_record, IsOpcode, entries}
 use Rattle.journal.specs.Reportable.{chosen}
+use Rattle.journal.specs.declared.marks.Mark.{Mark}
+use Rattle.journal.specs.declared.marks.Marks.{Marks}
 
 -- Three counts in one number, 21 bits for each opcode.
 abbrev pub count_limit : ℕ
@@ -24,7 +26,16 @@ pub record Resumes (selection : Selection) (j : List ℕ) (code k at skip : ℕ)
   pub number : length (chosen selection code (entries j)) + skip ≡ k + length (chosen selection code (entries (drop at j)))
   pub same : drop k (chosen selection code (entries j)) ≡ drop skip (chosen selection code (entries (drop at j)))
 
--- A mark is two numbers, a place and the packed counts of what the selection reports before it. Of n marks each resumes the list of every opcode.
-pub record Marked (selection : Selection) (j marks : List ℕ) (n : ℕ) : Type 0 where
-  pub few : n ≤ mark_limit
-  pub each : (i code : ℕ) → i < n → IsOpcode code → Resumes selection j code (count code (get_or marks (2 * i + 1) 0)) (get_or marks (2 * i) 0) 0
+-- The marks that were noted, in the order of their places.
+abbrev pub listed : Marks → List Mark
+listed marks = take marks.noted marks.places
+
+-- A mark is a place and the packed counts of what the selection reports before it. Each mark that was noted resumes the list of every opcode.
+pub record Marked (selection : Selection) (j : List ℕ) (marks : Marks) : Type 0 where
+  pub few : marks.noted ≤ mark_limit
+  pub each : (code : ℕ) → IsOpcode code → All (λ (m : Mark). Resumes selection j code (count code m.counts) m.at 0) (listed marks)
+
+-- the marks after a mark was offered as the next one
+pub data Noted (marks : Marks) (m : Mark) (after : Marks) : Type 0 where
+  unchanged : after ≡ marks → Noted marks m after
+  added : after.noted ≡ marks.noted + 1 → marks.noted < mark_limit → listed after ≡ listed marks ++ (m ∷ []) → Noted marks m after

@@ -1,13 +1,30 @@
 // Marks: places that a scan came to, with the packed counts of what stands before them.
 ghost use Rattle.std.specs.Prelude.{◌≡◌, ◌+◌, ◌*◌, ◌≤◌};
 ghost use Rattle.journal.specs.Journal.{IsOpcode};
-ghost use Rattle.journal.specs.Marks.{count, mark_limit};
-ghost use Rattle.journal.specs.Inner.Terms.{sought};
+ghost use Rattle.journal.specs.Marks.{count, mark_limit, Noted, listed};
+ghost use Rattle.journal.specs.Inner.Terms.{last_before, sought};
 
 // Packed counts have 21 bits for each opcode: a delete adds 1, an update this, and an addition this times this.
 pub const COUNT_LIMIT: u64 = 2_097_152;
 
 pub const LARGEST_WEIGHT: u64 = 4_398_046_511_104;
+
+// How many marks there are at most.
+const MARK_LIMIT: usize = 64;
+
+// A place of the journal, and the packed counts of what stands before it.
+#[derive(Clone, Copy)]
+pub struct Mark {
+    pub at: usize,
+    pub counts: u64,
+}
+
+// Marks in the order of their places: the first so many of the table are noted.
+#[derive(Clone, Copy)]
+pub struct Marks {
+    pub places: [Mark; 64],
+    pub noted: usize,
+}
 
 // A place of the journal, and how many operations of an opcode are passed over from there.
 #[derive(Clone, Copy)]
@@ -30,21 +47,51 @@ pub fn count_of(code: usize, packed: u64) -> usize
     (packed / LARGEST_WEIGHT % COUNT_LIMIT) as usize
 }
 
-// Where to look for operation number k of an opcode, by the marks.
-pub fn seek(marks: &[u64; 128], noted: usize, code: usize, k: usize) -> Place
-    requires { (noted ≤ mark_limit) × IsOpcode code }
-    ensures { result ≡ sought marks.now noted code k }
-{
-    let mut n = noted;
-    while 0 < n {
-        n -= 1;
-        let before = count_of(code, marks[2 * n + 1]);
-        if before <= k {
-            return Place {
-                at: marks[2 * n] as usize,
-                skip: k - before,
-            };
+impl Marks {
+    // A table with no marks.
+    pub fn none() -> Marks
+        ensures { result.noted ≡ 0 }
+    {
+        Marks {
+            places: [Mark { at: 0, counts: 0 }; 64],
+            noted: 0,
         }
     }
-    Place { at: 0, skip: k }
+
+    // One mark more, where the table has room for it.
+    pub fn note(&mut self, mark: Mark)
+        requires { self.old.noted ≤ mark_limit }
+        ensures { Noted self.old mark self.new }
+    {
+        if self.noted < MARK_LIMIT {
+            self.places[self.noted] = mark;
+            self.noted += 1;
+        }
+    }
+
+    // The last mark with no more than k operations of an opcode before it.
+    fn last_before(&self, code: usize, k: usize) -> Option<Mark>
+        requires { (self.now.noted ≤ mark_limit) × IsOpcode code }
+        ensures { result ≡ last_before code k (listed self.now) }
+    {
+        self.places[..self.noted]
+            .iter()
+            .rev()
+            .copied()
+            .find(|mark| count_of(code, mark.counts) <= k)
+    }
+
+    // Where to look for operation number k of an opcode: from that mark, or from the start.
+    pub fn seek(&self, code: usize, k: usize) -> Place
+        requires { (self.now.noted ≤ mark_limit) × IsOpcode code }
+        ensures { result ≡ sought code k (listed self.now) }
+    {
+        match self.last_before(code, k) {
+            None => Place { at: 0, skip: k },
+            Some(mark) => Place {
+                at: mark.at,
+                skip: k - count_of(code, mark.counts),
+            },
+        }
+    }
 }

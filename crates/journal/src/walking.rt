@@ -9,7 +9,7 @@ ghost use Rattle.journal.specs.Terms.{opcode_for, node_here};
 ghost use Rattle.journal.specs.Marks.{Resumes, Marked};
 
 use crate::judging::read_type;
-use crate::marks::seek;
+use crate::marks::Marks;
 use crate::scope::Units;
 use crate::units::asked_here;
 
@@ -92,20 +92,12 @@ pub fn visit(j: &[u8], row: &[u8; 17], units: Units, code: usize, at: usize) -> 
 }
 
 // A place from which the list of an opcode is what it is of the whole journal from operation number k on, by the marks of a scan.
-pub fn find(
-    j: &[u8],
-    row: &[u8; 17],
-    units: Units,
-    marks: &[u64; 128],
-    noted: usize,
-    code: usize,
-    k: usize,
-) -> usize
-    requires { (well_formed j.now ≡ true) × Marked (asking row.now units) j.now marks.now noted × IsOpcode code ×
+pub fn find(j: &[u8], row: &[u8; 17], units: Units, marks: &Marks, code: usize, k: usize) -> usize
+    requires { (well_formed j.now ≡ true) × Marked (asking row.now units) j.now marks.now × IsOpcode code ×
         (k < length (chosen (asking row.now units) code (entries j.now))) }
     ensures { Resumes (asking row.now units) j.now code k result 0 }
 {
-    let place = seek(marks, noted, code, k);
+    let place = marks.seek(code, k);
     let mut at = place.at;
     let mut skip = place.skip;
     while 0 < skip {

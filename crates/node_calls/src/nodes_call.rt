@@ -6,7 +6,7 @@ ghost use Rattle.nodes.specs.Inner.Source.{Source};
 ghost use Rattle.calls.specs.UpdateNodes.{placed, area_status, area_after, nodes_status, nodes_memory};
 
 use calls::Status;
-use journal::{Counts, Units};
+use journal::{Counts, Marks, Units};
 use node_area::StateVariable;
 use nodes::Progress;
 
@@ -32,11 +32,10 @@ fn answer_counted(
     j: &[u8],
     row: &[u8; 17],
     scope: u32,
-    marks: &[u64; 128],
-    noted: usize,
+    marks: &Marks,
     counts: Counts,
 ) -> Status
-    requires { (length area.old ≡ area_size) × Source (asking row.now (units_of scope (unit_in area.old))) j.now counts marks.now noted }
+    requires { (length area.old ≡ area_size) × Source (asking row.now (units_of scope (unit_in area.old))) j.now counts marks.now }
     ensures value { result ≡ area_status scope (asking row.now (units_of scope (unit_in area.old))) j.now area.old }
     ensures area_after { area.new ≡ area_after scope (asking row.now (units_of scope (unit_in area.old))) j.now
         area.old }
@@ -50,7 +49,7 @@ fn answer_counted(
     }
     let units = units_in(area, scope);
     let progress = Progress { counts, state };
-    if nodes::write_answer(area, j, row, units, marks, noted, progress) {
+    if nodes::write_answer(area, j, row, units, marks, progress) {
         Status::Again
     } else {
         Status::Done
@@ -64,12 +63,11 @@ fn answer_area(area: &mut [u8], j: &[u8], row: &[u8; 17], scope: u32) -> Status
     ensures area_after { area.new ≡ area_after scope (asking row.now (units_of scope (unit_in area.old))) j.now
         area.old }
 {
-    let mut marks: [u64; 128] = [0; 128];
-    let scanned = scanning::scan_noting(j, row, units_in(area, scope), &mut marks);
-    let Some(counts) = scanned.judgement else {
+    let mut marks = Marks::none();
+    let Some(counts) = scanning::scan_noting(j, row, units_in(area, scope), &mut marks) else {
         return Status::Malformed;
     };
-    answer_counted(area, j, row, scope, &marks, scanned.noted, counts)
+    answer_counted(area, j, row, scope, &marks, counts)
 }
 
 // The call: only the work area is handed down to be written.

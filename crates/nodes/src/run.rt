@@ -15,7 +15,7 @@ fn room_after(room: usize, n: usize) -> usize
     if n == 0 {
         return room;
     }
-    words::saturating_sub(words::saturating_sub(room, n), 1)
+    room.saturating_sub(n).saturating_sub(1)
 }
 
 // How many deletes, updates and additions the longest run has, from how many remain.
@@ -23,11 +23,11 @@ pub fn longest_run(remaining: Counts) -> Counts
     ensures value { result ≡ cut remaining }
     ensures longest { CutIsLongest }
 {
-    let deletes = words::least(remaining.deletes, AREA_WORDS - 1);
+    let deletes = remaining.deletes.min(AREA_WORDS - 1);
     let second = room_after(AREA_WORDS, deletes);
-    let updates = words::least(remaining.updates, words::saturating_sub(second, 1));
+    let updates = remaining.updates.min(second.saturating_sub(1));
     let third = room_after(second, updates);
-    let additions = words::least(remaining.additions, words::saturating_sub(third, 1) / 2);
+    let additions = remaining.additions.min(third.saturating_sub(1) / 2);
     Counts {
         deletes,
         updates,

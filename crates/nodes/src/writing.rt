@@ -16,7 +16,7 @@ ghost use Rattle.nodes.specs.Inner.Source.{Source};
 ghost use Rattle.nodes.specs.Inner.Writing.{width, Due, due_words, part_from, Handed, body_from};
 
 use crate::run::longest_run;
-use journal::{Counts, Units};
+use journal::{Counts, Marks, Units};
 use node_area::{HEAD_SIZE, StateVariable, write_head};
 
 // The operand words of one operation of an opcode.
@@ -89,11 +89,10 @@ fn write_part(
     j: &[u8],
     row: &[u8; 17],
     units: Units,
-    marks: &[u64; 128],
-    noted: usize,
+    marks: &Marks,
     part: Part,
 ) -> usize
-    requires { (well_formed j.now ≡ true) × Marked (asking row.now units) j.now marks.now noted × IsOpcode part.code ×
+    requires { (well_formed j.now ≡ true) × Marked (asking row.now units) j.now marks.now × IsOpcode part.code ×
         (part.count ≤ length (chosen (asking row.now units) part.code
         (entries j.now)) - part.first) × (part.count ≤ area_words) × (part.to + 4 * part_words (width part.code * part.count) ≤ length area.old) }
     ensures value { result ≡ part.to + 4 * part_words (width part.code * part.count) }
@@ -107,7 +106,7 @@ fn write_part(
     if count == 0 {
         return to;
     }
-    let from = journal::find(j, row, units, marks, noted, code, first);
+    let from = journal::find(j, row, units, marks, code, first);
     let operands = width_of(code) * count;
     words::store_be32(area, to, (code * 0x0100_0000 + operands) as u32);
     write_operands(area, j, row, units, part, from);
@@ -127,11 +126,10 @@ fn write_body(
     j: &[u8],
     row: &[u8; 17],
     units: Units,
-    marks: &[u64; 128],
-    noted: usize,
+    marks: &Marks,
     handing: Handing,
 )
-    requires { (length area.old ≡ area_size) × (well_formed j.now ≡ true) × Marked (asking row.now units) j.now marks.now noted × Handed
+    requires { (length area.old ≡ area_size) × (well_formed j.now ≡ true) × Marked (asking row.now units) j.now marks.now × Handed
         (asking row.now units) j.now handing.passed handing.run }
     ensures { area.new ≡ sets area.old head_size
         (word_bytes (body_from (asking row.now units) j.now handing.passed handing.run)) }
@@ -144,21 +142,21 @@ fn write_body(
         count: run.deletes,
         to: HEAD_SIZE,
     };
-    let second = write_part(area, j, row, units, marks, noted, deletes);
+    let second = write_part(area, j, row, units, marks, deletes);
     let updates = Part {
         code: 2,
         first: passed.updates,
         count: run.updates,
         to: second,
     };
-    let third = write_part(area, j, row, units, marks, noted, updates);
+    let third = write_part(area, j, row, units, marks, updates);
     let additions = Part {
         code: 3,
         first: passed.additions,
         count: run.additions,
         to: third,
     };
-    let end = write_part(area, j, row, units, marks, noted, additions);
+    let end = write_part(area, j, row, units, marks, additions);
     words::store_be32(area, end, 0);
 }
 
@@ -175,11 +173,10 @@ pub fn write_answer(
     j: &[u8],
     row: &[u8; 17],
     units: Units,
-    marks: &[u64; 128],
-    noted: usize,
+    marks: &Marks,
     progress: Progress,
 ) -> bool
-    requires { (length area.old ≡ area_size) × Source (asking row.now units) j.now progress.counts marks.now noted ×
+    requires { (length area.old ≡ area_size) × Source (asking row.now units) j.now progress.counts marks.now ×
         (progress.state.0 ≤ total progress.counts) }
     ensures value { result ≡ remains (reportable (asking row.now units) j.now) progress.state.0 }
     ensures area_after { area.new ≡ written units area.old (reportable (asking row.now units) j.now)
@@ -196,6 +193,6 @@ pub fn write_answer(
         passed: state.passed(counts),
         run,
     };
-    write_body(area, j, row, units, marks, noted, handing);
+    write_body(area, j, row, units, marks, handing);
     more
 }

@@ -7,7 +7,7 @@ use Rattle.records.proofs.Choosing.{before_step, before_none, before_all}
 use Rattle.records.proofs.Steps.{good_step, bad_step, none_good, formed, not_formed}
 use Rattle.journal.specs.Scope.{Selection}
 use Rattle.journal.specs.declared.judging.Shape.{Shape}
-use Rattle.scanning.specs.declared.stride.Position.{Position}
+use Rattle.journal.specs.declared.marks.Mark.{Mark}
 use Rattle.scanning.specs.declared.stride.Same.{Same}
 use Rattle.journal.specs.Journal.{good_record, well_formed, IsOpcode, entries}
 use Rattle.journal.specs.Reportable.{operation, reports, chosen, judgement_of}
@@ -67,7 +67,7 @@ packed_more p w n h c l k =
     sum : (p w x : ℕ) → x ≤ size_limit → p < (x + 1) * largest_weight → w ≤ largest_weight → p + w < packed_limit
     sum p w x a b c = omega arith
 
-abbrev pub position : ℕ → ℕ → Position
+abbrev pub position : ℕ → ℕ → Mark
 position at counts = record { at = at; counts = counts }
 
 pub reached_none : (sel : Selection) (j : List ℕ) → Reached sel j (position 0 0)

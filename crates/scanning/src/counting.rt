@@ -7,24 +7,9 @@ ghost use Rattle.journal.specs.Claims.Journal.{JournalClaims};
 ghost use Rattle.scanning.specs.Inner.Terms.{unpacked};
 
 use crate::noting::note;
-use crate::stride::{Position, stride};
+use crate::stride::stride;
 use crate::weights::{WeightTable, fill_weights};
-use journal::{Counts, Units};
-
-// What a scan finds, and the marks that it noted: each a place and the packed counts of what stands before it.
-#[derive(Clone, Copy)]
-pub struct Scanned {
-    pub judgement: Option<Counts>,
-    pub noted: usize,
-    pub marks: [u64; 128],
-}
-
-// What a scan finds, and how many marks it noted.
-#[derive(Clone, Copy)]
-pub struct Noted {
-    pub judgement: Option<Counts>,
-    pub noted: usize,
-}
+use journal::{Counts, Mark, Marks, Units};
 
 // The three counts that were packed in one number.
 pub fn counts_of(packed: u64) -> Counts
@@ -37,54 +22,36 @@ pub fn counts_of(packed: u64) -> Counts
     }
 }
 
-// The journal judged, and the operations counted that the row reports of the units asked for, with marks noted into a lent table. Which marks were
-// noted is left free; each is true.
-pub fn scan_noting(j: &[u8], row: &[u8; 17], units: Units, marks: &mut [u64; 128]) -> Noted
-    ensures judgement_value { (result.judgement ≡ judgement_of (asking row.now units) j.now) × Marked (asking row.now units)
-        j.now marks.new result.noted }
+// The journal judged, and the operations counted that the row reports of the units asked for, with marks noted into a lent table; nothing where
+// the journal is malformed. Which marks were noted is left free; each is true.
+pub fn scan_noting(j: &[u8], row: &[u8; 17], units: Units, marks: &mut Marks) -> Option<Counts>
+    ensures judgement_value { (result ≡ judgement_of (asking row.now units) j.now) × Marked (asking row.now units) j.now marks.new }
     ensures rules { JournalClaims }
 {
-    let mut noted: usize = 0;
+    marks.noted = 0;
     if records::SIZE_LIMIT < j.len() {
-        return Noted {
-            judgement: None,
-            noted,
-        };
+        return None;
     }
     let mut weights: WeightTable = [0; 160];
     fill_weights(row, &mut weights);
     let mut at: usize = 0;
     let mut counts: u64 = 0;
     while at < j.len() {
-        let from = Position { at, counts };
-        noted = note(marks, noted, from);
-        let Some(p) = stride(j, row, units, &weights, from) else {
-            return Noted {
-                judgement: None,
-                noted,
-            };
-        };
+        let from = Mark { at, counts };
+        note(marks, from);
+        let p = stride(j, row, units, &weights, from)?;
         at = p.at;
         counts = p.counts;
     }
-    Noted {
-        judgement: Some(counts_of(counts)),
-        noted,
-    }
+    Some(counts_of(counts))
 }
 
-// The journal judged, and the operations counted that the row reports of the units asked for. Which marks were noted is left free; each is true.
-pub fn scan(j: &[u8], row: &[u8; 17], units: Units) -> Scanned
-    ensures judgement_value { (result.judgement ≡ judgement_of (asking row.now units) j.now) × Marked (asking row.now units)
-        j.now result.marks result.noted }
+// The same, with a table of its own. Which marks were noted is left free; each is true.
+pub fn scan(j: &[u8], row: &[u8; 17], units: Units) -> (Option<Counts>, Marks)
+    ensures judgement_value { (result.0 ≡ judgement_of (asking row.now units) j.now) × Marked (asking row.now units) j.now result.1 }
     ensures rules { JournalClaims }
 {
-    let mut marks: [u64; 128] = [0; 128];
-    let found = scan_noting(j, row, units, &mut marks);
-    let judgement = found.judgement;
-    Scanned {
-        judgement,
-        noted: found.noted,
-        marks,
-    }
+    let mut marks = Marks::none();
+    let counted = scan_noting(j, row, units, &mut marks);
+    (counted, marks)
 }

@@ -6,5 +6,5 @@ mod noting;
 mod stride;
 mod weights;
 
-pub use counting::{Noted, Scanned, counts_of, scan, scan_noting};
+pub use counting::{counts_of, scan, scan_noting};
 pub use stride::{four_headers, header_at};

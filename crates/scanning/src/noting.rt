@@ -1,28 +1,18 @@
 // Marks noted on the way of a scan.
 ghost use Rattle.std.specs.Prelude.{◌≤◌};
-ghost use Rattle.journal.specs.Marks.{mark_limit};
-ghost use Rattle.scanning.specs.Inner.Terms.{Noted};
+ghost use Rattle.journal.specs.Marks.{mark_limit, Noted};
 
-use crate::stride::Position;
+use journal::{Mark, Marks};
 
-// How many marks there are at most, one for each so many bytes.
-const MARK_LIMIT: usize = 64;
-
+// Marks are noted one for each so many bytes.
 pub const MARK_SPAN: usize = 16_384;
 
-// The next mark is stored where one is due: one for each span of the journal, up to the limit. Gives the number of marks.
-pub fn note(marks: &mut [u64; 128], noted: usize, p: Position) -> usize
-    requires { noted ≤ mark_limit }
-    ensures { Noted marks.old noted p marks.new result }
+// The next mark is noted where one is due: one for each span of the journal, up to the limit.
+pub fn note(marks: &mut Marks, p: Mark)
+    requires { marks.old.noted ≤ mark_limit }
+    ensures { Noted marks.old p marks.new }
 {
-    if MARK_LIMIT <= noted {
-        return noted;
+    if MARK_SPAN * marks.noted <= p.at {
+        marks.note(p);
     }
-    if p.at < MARK_SPAN * noted {
-        return noted;
-    }
-    let i = 2 * noted;
-    marks[i] = p.at as u64;
-    marks[i + 1] = p.counts;
-    noted + 1
 }

@@ -9,20 +9,13 @@ ghost use Rattle.journal.specs.Terms.{node_here, shape_at, asked};
 ghost use Rattle.scanning.specs.Inner.Terms.{four_headed, UnitHere, Reached, Passed, Known, Advanced, Weights};
 
 use crate::noting::MARK_SPAN;
-use journal::{Shape, Units};
+use journal::{Mark, Shape, Units};
 
 // Records are passed one at a time for so many bytes; then a stride looks for equal headers again.
 const EACH_SPAN: usize = 4096;
 
 // Length 16, kind 4 and node type 15 as one number.
 const UNIT_HEADER: u64 = 0xf_0004_0010;
-
-// A place of the journal, and the packed counts of what stands before it.
-#[derive(Clone, Copy)]
-pub struct Position {
-    pub at: usize,
-    pub counts: u64,
-}
 
 // Records of one header without a unit, and what one of them adds to the packed counts.
 #[derive(Clone, Copy)]
@@ -72,14 +65,7 @@ pub fn four_headers(j: &[u8], at: usize, size: usize, header: u64) -> bool
 }
 
 // Past the records of a known header, four at a time, up to a limit.
-fn past_same(
-    j: &[u8],
-    row: &[u8; 17],
-    units: Units,
-    from: Position,
-    same: Same,
-    limit: usize,
-) -> Position
+fn past_same(j: &[u8], row: &[u8; 17], units: Units, from: Mark, same: Same, limit: usize) -> Mark
     requires { Reached (asking row.now units) j.now from × Known (asking row.now units) j.now same × (limit ≤ length j.now) ×
         (length j.now ≤ size_limit) }
     ensures { Reached (asking row.now units) j.now result × (from.at ≤ result.at) }
@@ -94,7 +80,7 @@ fn past_same(
         counts += 4 * same.weight;
         at += four;
     }
-    Position { at, counts }
+    Mark { at, counts }
 }
 
 // Whether a record of kind 4 stands at a place that has room for one. Its length, kind and node type are compared as one number: what it
@@ -124,9 +110,9 @@ fn past_units(
     row: &[u8; 17],
     units: Units,
     weights: &[u64; 160],
-    from: Position,
+    from: Mark,
     limit: usize,
-) -> Position
+) -> Mark
     requires { Reached (asking row.now units) j.now from × Weights row.now weights.now × (limit ≤ length j.now) × (length j.now ≤ size_limit) }
     ensures { Reached (asking row.now units) j.now result × (from.at ≤ result.at) }
 {
@@ -148,7 +134,7 @@ fn past_units(
         at += 36;
     }
     let asked = journal::tally(units, passed, same);
-    Position {
+    Mark {
         at,
         counts: from.counts + weight * (asked as u64),
     }
@@ -161,10 +147,10 @@ fn past_each(
     row: &[u8; 17],
     units: Units,
     weights: &[u64; 160],
-    from: Position,
+    from: Mark,
     end: usize,
     most: u16,
-) -> Position
+) -> Mark
     requires { Reached (asking row.now units) j.now from × Weights row.now weights.now × (end ≤ length j.now) × (length j.now ≤ size_limit) ×
         (most ≤ 4) }
     ensures { Reached (asking row.now units) j.now result × (from.at ≤ result.at) }
@@ -179,7 +165,7 @@ fn past_each(
         at += shape.size;
         counts += weigh(j, here, units, weights, shape);
     }
-    Position { at, counts }
+    Mark { at, counts }
 }
 
 // Behind a record without a unit: past those of the same header, then past others without a unit.
@@ -188,9 +174,9 @@ fn behind_plain(
     row: &[u8; 17],
     units: Units,
     weights: &[u64; 160],
-    from: Position,
+    from: Mark,
     same: Same,
-) -> Position
+) -> Mark
     requires { Reached (asking row.now units) j.now from × Weights row.now weights.now × Known (asking row.now units) j.now same ×
         (length j.now ≤ size_limit) }
     ensures { Reached (asking row.now units) j.now result × (from.at ≤ result.at) }
@@ -202,13 +188,7 @@ fn behind_plain(
 }
 
 // Behind a record of kind 4: past more of that kind, then past any.
-fn behind_unit(
-    j: &[u8],
-    row: &[u8; 17],
-    units: Units,
-    weights: &[u64; 160],
-    from: Position,
-) -> Position
+fn behind_unit(j: &[u8], row: &[u8; 17], units: Units, weights: &[u64; 160], from: Mark) -> Mark
     requires { Reached (asking row.now units) j.now from × Weights row.now weights.now × (length j.now ≤ size_limit) }
     ensures { Reached (asking row.now units) j.now result × (from.at ≤ result.at) }
 {
@@ -239,8 +219,8 @@ pub fn stride(
     row: &[u8; 17],
     units: Units,
     weights: &[u64; 160],
-    from: Position,
-) -> Option<Position>
+    from: Mark,
+) -> Option<Mark>
     requires { Reached (asking row.now units) j.now from × Weights row.now weights.now × (from.at < length j.now) ×
         (length j.now ≤ size_limit) }
     ensures { Advanced (asking row.now units) j.now (from.at + 1) result }
@@ -251,12 +231,12 @@ pub fn stride(
         if past == at {
             return None;
         }
-        return Some(Position {
+        return Some(Mark {
             at: past,
             counts: from.counts,
         });
     };
-    let first = Position {
+    let first = Mark {
         at: at + shape.size,
         counts: from.counts + weigh(j, at, units, weights, shape),
     };

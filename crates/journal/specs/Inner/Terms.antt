@@ -1,10 +1,12 @@
 -- Terms of contracts inside the crate.
-use Rattle.std.specs.Prelude.{ℕ, ◌+◌, ◌*◌, ◌-◌, zero, suc, true, cond, Bool, ◌&&◌, List, [], ◌∷◌, eqb, leb, get_or}
+use Rattle.std.specs.Prelude.{ℕ, ◌+◌, ◌-◌, true, cond, Bool, ◌&&◌, Option, Some, None, List, [], ◌∷◌, reverse, eqb, leb}
+use Rattle.std.specs.List.{find}
 use Rattle.words.specs.Numbers.{le32}
 use Rattle.journal.specs.Scope.{Selection}
 use Rattle.journal.specs.Journal.{entries, good_frame, good_type}
 use Rattle.journal.specs.Marks.{count}
 use Rattle.records.specs.Inner.Terms as choosing
+use Rattle.journal.specs.declared.marks.Mark.{Mark}
 use Rattle.journal.specs.declared.marks.Place.{Place}
 use Rattle.journal.specs.declared.scope.Units.{Units}
 use Rattle.journal.specs.declared.scope.Units.TheVariants.{All, One}
@@ -35,11 +37,15 @@ is_unit (One wanted) unit = eqb unit wanted
 abbrev pub Before : Selection → List ℕ → ℕ → ℕ → ℕ → Type 0
 Before selection j at code n = choosing.Before (reports selection code) operation entries j at n
 
--- where to look for operation number k of an opcode: from the last of n marks with no more than k before it, or from the start.
-unfoldable pub sought : List ℕ → ℕ → ℕ → ℕ → Place
-sought marks zero code k = record { at = 0; skip = k }
-sought marks (suc n) code k =
-    let earlier = sought marks n code k in
-    let before = count code (get_or marks (2 * n + 1) 0) in
-    let here : Place = record { at = get_or marks (2 * n) 0; skip = k - before } in
-    cond (leb before k) here earlier
+-- the last of the marks with no more than k operations of an opcode before it
+abbrev pub last_before : ℕ → ℕ → List Mark → Option Mark
+last_before code k marks = find (λ (m : Mark). leb (count code m.counts) k) (reverse marks)
+
+-- from a mark, or from the start, to operation number k of an opcode
+abbrev pub place_from : ℕ → ℕ → Option Mark → Place
+place_from code k None = record { at = 0; skip = k }
+place_from code k (Some m) = record { at = m.at; skip = k - count code m.counts }
+
+-- where to look for operation number k of an opcode: from the last of the marks with no more than k before it, or from the start.
+abbrev pub sought : ℕ → ℕ → List Mark → Place
+sought code k marks = place_from code k (last_before code k marks)

@@ -1,15 +1,14 @@
 -- Terms of the contracts of private functions of the scan; no public promise cites them.
-use Rattle.std.specs.Prelude.{◌≡◌, ℕ, ◌+◌, ◌-◌, ◌*◌, ◌/◌, ◌%◌, ◌^◌, ◌<◌, ◌≤◌, Bool, true, false, Option, Some, None, cond, ◌&&◌, List, [], ◌∷◌, length, drop, ◌==◌, slice_index}
-use Rattle.std.proofs.lemmas.List.Edits.{sets}
+use Rattle.std.specs.Prelude.{◌≡◌, ℕ, ◌+◌, ◌-◌, ◌*◌, ◌/◌, ◌%◌, ◌^◌, ◌<◌, ◌≤◌, Bool, true, false, Option, Some, None, cond, ◌&&◌, List, length, drop, ◌==◌, slice_index}
 use Rattle.words.specs.Numbers.{le, le16}
 use Rattle.records.specs.Records.{kind_of, size_of, records, all_good}
 use Rattle.journal.specs.declared.counts.Counts.{Counts}
-use Rattle.scanning.specs.declared.stride.Position.{Position}
+use Rattle.journal.specs.declared.marks.Mark.{Mark}
 use Rattle.scanning.specs.declared.stride.Same.{Same}
 use Rattle.journal.specs.Journal.{good_record, well_formed, IsOpcode}
 use Rattle.journal.specs.Holding.{property_here}
 use Rattle.journal.specs.Scope.{holds, Selection}
-use Rattle.journal.specs.Marks.{count_limit, count, mark_limit}
+use Rattle.journal.specs.Marks.{count_limit, count}
 use Rattle.journal.specs.Terms.{opcode_for, node_here, asked}
 use Rattle.journal.specs.Inner.Terms.{Before}
 
@@ -26,7 +25,7 @@ abbrev pub largest_weight : ℕ
 largest_weight = 4_398_046_511_104
 
 -- a scan has come to a place over good records alone, and has counted what the selection reports of them
-pub record Reached (selection : Selection) (j : List ℕ) (p : Position) : Type 0 where
+pub record Reached (selection : Selection) (j : List ℕ) (p : Mark) : Type 0 where
   pub inside : p.at ≤ length j
   pub good : all_good good_record (records j) ≡ all_good good_record (records (drop p.at j))
   pub before : (code : ℕ) → IsOpcode code → Before selection j p.at code (count code p.counts)
@@ -42,7 +41,7 @@ pub record Passed (j : List ℕ) (from at : ℕ) : Type 0 where
   pub none : at ≡ from → property_here j from ≡ false
 
 -- what a step along the journal gives: a bad record, or a position at or behind an end
-abbrev pub Advanced : Selection → List ℕ → ℕ → Option Position → Type 0
+abbrev pub Advanced : Selection → List ℕ → ℕ → Option Mark → Type 0
 Advanced selection j end None = well_formed j ≡ false
 Advanced selection j end (Some p) = Reached selection j p × (end ≤ p.at)
 
@@ -70,11 +69,6 @@ pub record Known (selection : Selection) (j : List ℕ) (s : Same) : Type 0 wher
   pub small : s.size ≤ 18
   pub narrow : s.weight ≤ largest_weight
   pub here : (at : ℕ) → at + s.size ≤ length j → le 6 j at ≡ s.header → Weighed selection j at s.size s.weight
-
--- the marks after p was offered as the next one
-pub data Noted (marks : List ℕ) (n : ℕ) (p : Position) : List ℕ → ℕ → Type 0 where
-  unchanged : Noted marks n p marks n
-  added : n < mark_limit → Noted marks n p (sets marks (2 * n) (p.at ∷ p.counts ∷ [])) (n + 1)
 
 abbrev pub unpacked : ℕ → Counts
 unpacked packed = record { deletes = count 1 packed; updates = count 2 packed; additions = count 3 packed }

@@ -19,7 +19,7 @@ seek-place-requires c =
 
 pub loop-skip-init : goal.loop-skip-init
 loop-skip-init c =
-    rw c.seek-place.ensures (sought_resumes (asking c.args.row.now c.args.units) c.args.j.now _ _ _ _ c.requires.1 c.requires.2)
+    rw c.seek-place.ensures (sought_resumes (asking c.args.row.now c.args.units) c.args.j.now _ _ _ c.requires.1 c.requires.2)
 
 pub visit-p-requires : goal.visit-p-requires
 visit-p-requires c =

@@ -1,6 +1,6 @@
-use Rattle.std.proofs.Common.{Some, ap, ◌∙◌, arith, rules}
+use Rattle.std.proofs.Common.{Some, ap, ◌∙◌, arith, refl}
 use Rattle.journal.proofs.Claims.{too_large, journal_claims}
-use Rattle.scanning.proofs.NoteLaws.{marked_none, marked_note, noted_length}
+use Rattle.scanning.proofs.NoteLaws.{marked_none, marked_note}
 use Rattle.scanning.proofs.Reaching.{reached_none, reached_end, malformed}
 use Rattle.journal.specs.Scope.{asking}
 use Rattle.journal.specs.Marks.{Marked}
@@ -8,35 +8,35 @@ use Rattle.scanning.proofs.counting.scan_noting.Goals as goal
 
 pub returns-then-j-gt-SIZE_LIMIT : goal.returns-then-j-gt-SIZE_LIMIT
 returns-then-j-gt-SIZE_LIMIT c =
-    record { judgement_value = (malformed _ _ (too_large c.args.j.now c.if-j-gt-SIZE_LIMIT.true), marked_none _ _ _); rules = journal_claims }
+    record { judgement_value = (malformed _ _ (too_large c.args.j.now c.if-j-gt-SIZE_LIMIT.true), marked_none _ _ _ refl); rules = journal_claims }
 
 pub loop-at-init : goal.loop-at-init
 loop-at-init c =
-    (reached_none _ _, marked_none _ _ _, search rules)
+    (reached_none _ _, marked_none _ _ _ refl)
 
-pub note-noted-requires : goal.note-noted-requires
-note-noted-requires c =
+pub note-requires : goal.note-requires
+note-requires c =
     c.loop-at.invariant.1.few
 
 pub stride-requires : goal.stride-requires
 stride-requires c =
     (c.loop-at.invariant.0, c.fill_weights.ensures, c.loop-at-test.true, c.if-j-gt-SIZE_LIMIT.false)
 
-pub returns-in_default : goal.returns-in_default
-returns-in_default c =
-    let marks_then : Marked (asking c.args.row.now c.args.units) c.args.j.now c.note-noted.new.marks c.note-noted.result =
-    marked_note (asking c.args.row.now c.args.units) c.args.j.now _ _ _ _ _ c.loop-at.invariant.2 c.loop-at.invariant.0 c.loop-at.invariant.1 c.note-noted.ensures in
-    record { judgement_value = (malformed _ _ c.in_default.ensures, marks_then); rules = journal_claims }
+pub returns-in_err-p : goal.returns-in_err-p
+returns-in_err-p c =
+    let marks_then : Marked (asking c.args.row.now c.args.units) c.args.j.now c.note.new.marks =
+    marked_note (asking c.args.row.now c.args.units) c.args.j.now _ _ _ c.loop-at.invariant.0 c.loop-at.invariant.1 c.note.ensures in
+    record { judgement_value = (let none = malformed (asking c.args.row.now c.args.units) c.args.j.now c.in_err-p.ensures in cc, marks_then); rules = journal_claims }
 
 pub loop-at-smaller : goal.loop-at-smaller
 loop-at-smaller c =
-    omega (arith, c.in-Some.ensures.1)
+    omega (arith, c.in_ok-p.ensures.1)
 
 pub loop-at-preserved : goal.loop-at-preserved
 loop-at-preserved c =
-    let marks_then : Marked (asking c.args.row.now c.args.units) c.args.j.now c.note-noted.new.marks c.note-noted.result =
-    marked_note (asking c.args.row.now c.args.units) c.args.j.now _ _ _ _ _ c.loop-at.invariant.2 c.loop-at.invariant.0 c.loop-at.invariant.1 c.note-noted.ensures in
-    (c.in-Some.ensures.0, marks_then, noted_length _ _ _ _ _ c.note-noted.ensures ∙ c.loop-at.invariant.2)
+    let marks_then : Marked (asking c.args.row.now c.args.units) c.args.j.now c.note.new.marks =
+    marked_note (asking c.args.row.now c.args.units) c.args.j.now _ _ _ c.loop-at.invariant.0 c.loop-at.invariant.1 c.note.ensures in
+    (c.in_ok-p.ensures.0, marks_then)
 
 pub returns : goal.returns
 returns c =
