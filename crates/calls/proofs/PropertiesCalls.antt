@@ -5,12 +5,13 @@ use mathlib.Core.List.{List}
 use Prim.Native.Nat.{ℕ, ◌+◌, ◌%◌, ◌≤◌}
 use native.Mathlib.Omega.{arith}
 use lib.ListN.{length}
+use Rattle.std.specs.Prelude.{Ok, Err}
 use Rattle.words.specs.Numbers.{be32}
 use Rattle.words.proofs.Choice.{and_left, and_right}
 use Rattle.journal.specs.Journal.{well_formed}
 use Rattle.journal.specs.Scope.{valid}
 use Rattle.property_area.specs.Area.{written}
-use Rattle.properties.specs.declared.answering.Outcome.TheVariants as outcome
+use Rattle.properties.specs.declared.following.Refusal.TheVariants as refusal
 use Rattle.properties.specs.Changes.{is_due, offset_or}
 use Rattle.properties.specs.Answer.{carries, handed, outcome_of, area_after}
 use Rattle.calls.specs.declared.status.Status.{Status}
@@ -27,7 +28,7 @@ use Rattle.calls.proofs.Calls.{status_word_lem, answered_by, word_either}
 -- ---- the checks
 
 -- what the area decides is the ladder's lower part: what it carries is one test
-area_ladder : (w r more : Bool) → status_for (cond w (cond r (cond more outcome.More outcome.Done) outcome.Refused) outcome.Malformed) ≡ ladder true true w r true more
+area_ladder : (w r more : Bool) → status_for (cond w (cond r (Ok more) (Err refusal.Carried)) (Err refusal.Malformed)) ≡ ladder true true w r true more
 area_ladder false r more = refl
 area_ladder true false more = refl
 area_ladder true true false = refl

@@ -5,6 +5,7 @@ use Prim.Native.Nat.{ℕ, ◌+◌, ◌-◌, ◌≤◌, ◌<◌}
 use native.Mathlib.Omega.{arith}
 use lib.Dec.{eqb}
 use borrow.Author.Tests.{eq-eqb, ne_eqb}
+use Rattle.std.specs.Prelude.{Some}
 use Rattle.properties.specs.declared.walk.Extent.{Extent}
 use Rattle.properties.specs.declared.walk.Walk.{Walk}
 use Rattle.properties.specs.Filling.{area_room}
@@ -68,15 +69,15 @@ module _ (room h at v l s x : ℕ) (b : Bool) where
 
 module _ (w : Walk) (e : Extent) (s : ℕ) where
   pub walked_whole : e.header + e.length ≤ w.room
-      → record { room = w.room - (e.header + e.length); any = true; found = w.found; place = w.place } ≡ walked_over w e s
+      → record { room = w.room - (e.header + e.length); any = true; place = w.place } ≡ walked_over w e s
   unfolding walked_over member
-  walked_whole k = let p = goes_whole w.room e.header e.at e.start e.length k in rw (p.0, p.1, or-false w.found)
+  walked_whole k = let p = goes_whole w.room e.header e.at e.start e.length k in rw (p.0, p.1)
 
   module _ (x : ℕ) (b : Bool) (g : Over w.room e.header e.at e.start e.length s x b b) where
-    pub walked_hit : b ≡ true → record { room = x; any = true; found = true; place = e.at } ≡ walked_over w e s
+    pub walked_hit : b ≡ true → record { room = x; any = true; place = Some e.at } ≡ walked_over w e s
     unfolding walked_over
-    walked_hit t = rw (g.0, ← g.1, t, or-true w.found)
+    walked_hit t = rw (g.0, ← g.1, t)
 
-    pub walked_miss : b ≡ false → record { room = x; any = true; found = w.found; place = w.place } ≡ walked_over w e s
+    pub walked_miss : b ≡ false → record { room = x; any = true; place = w.place } ≡ walked_over w e s
     unfolding walked_over
-    walked_miss t = rw (g.0, ← g.1, t, or-false w.found)
+    walked_miss t = rw (g.0, ← g.1, t)

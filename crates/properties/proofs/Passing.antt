@@ -1,5 +1,5 @@
 -- One pass over the journal: what is known of a node's session when the pass has come to a place.
-use mathlib.Core.Path.{◌≡◌, refl, sym, ◌∙◌}
+use mathlib.Core.Path.{◌≡◌, refl, sym, subst, ◌∙◌}
 use mathlib.Core.Bool.{Bool, true, false, cond, ◌&&◌, ◌||◌, or-true, or-false, or_assoc, false≢true}
 use mathlib.Core.List.{List, [], ◌∷◌}
 use mathlib.Core.Logic.{◌⊎◌, inl, inr, ⊎_elim, ⊎_map}
@@ -9,13 +9,16 @@ use lib.Dec.{eqb}
 use lib.ListN.{length, drop}
 use borrow.Author.Tests.{eqb-true, le-leb, lt-leb}
 use Rattle.words.proofs.Choice.{choose}
-use Rattle.std.specs.Prelude.{Option, Some, None}
+use Rattle.std.specs.Prelude.{Option, Some, None, Err, is_some, ok_or}
+use Rattle.std.specs.Bool.{then_some}
+use Rattle.std.proofs.lemmas.Option.{cond_some, none-some, same_Some}
 use Rattle.records.specs.Records.{kind_of, size_of, first_record, records, all_good, size_limit}
 use Rattle.records.proofs.Steps.{good_step, bad_step, none_good, formed, not_formed, oversized}
 use Rattle.journal.specs.Journal.{good_record, well_formed}
 use Rattle.journal.specs.Terms.{node_here}
 use Rattle.journal.specs.Holding.{good_here, property_here, property_in, held_at}
 use Rattle.journal.specs.declared.property.PropertyRecord.{PropertyRecord}
+use Rattle.journal.proofs.Given.{cond_none}
 use Rattle.journal.proofs.PropertyLaws.{property_frame_lem, held_other, held_property}
 use Rattle.journal.proofs.RecordLaws.{good_kind}
 use Rattle.journal.proofs.Sizes.{sized_here, kind_read, phandle_read}
@@ -24,7 +27,8 @@ use Rattle.properties.specs.declared.walk.Walk.{Walk}
 use Rattle.properties.specs.Changes.{Change, change_of, is_of, changes, stop, due_at, is_due}
 use Rattle.properties.specs.Filling.{area_room, header}
 use Rattle.properties.specs.Session.{cuts, begins, stops, room_after, boundaries, states, member}
-use Rattle.properties.specs.Inner.Following.{walked_over, walked_past, is_carried, FirstWithin, Resumes}
+use Rattle.properties.specs.declared.following.Refusal.TheVariants.{Carried}
+use Rattle.properties.specs.Inner.Following.{walked_over, walked_past, is_carried, FirstWithin, Resumes, FollowFinds}
 use Rattle.properties.proofs.Offsets.{due_past}
 use Rattle.properties.proofs.Members.{member_append}
 use Rattle.properties.proofs.Steps.{ChangeStands, extent_in, change_good, changes_at, changes_end, changes_step, of_property}
@@ -70,19 +74,34 @@ pub record Passed (phandle s : ℕ) (j : List ℕ) (at : ℕ) (w : Walk) : Type 
   pub inside : at ≤ length j
   pub good : all_good good_record (records j) ≡ all_good good_record (records (drop at j))
   pub any : is_due (changes phandle j) ≡ (w.any || is_due (changes_at phandle j at))
-  pub found : member s (states (changes phandle j)) ≡ (w.found || member s (boundaries w.room (changes_at phandle j at)))
+  pub found : member s (states (changes phandle j)) ≡ (is_some w.place || member s (boundaries w.room (changes_at phandle j at)))
   pub due : at ≤ s → due_at s (changes phandle j) ≡ due_at s (changes_at phandle j at)
-  pub place : w.found ≡ true → GoesOn phandle s j at w.place
+  pub place : (p : ℕ) → w.place ≡ Some p → GoesOn phandle s j at p
 
-pub pass_start : (phandle s : ℕ) (j : List ℕ) → Passed phandle s j 0 (record { room = area_room; any = false; found = eqb s 0; place = 0 })
+-- a place that is told only where a test holds, or else is another
+told_some : (t : Bool) (x : ℕ) → is_some (then_some t x) ≡ t
+told_some true x = refl
+told_some false x = refl
+
+told_where : (t : Bool) (x p : ℕ) → then_some t x ≡ Some p → (t ≡ true) × (x ≡ p)
+told_where true x p e = (refl, same_Some x p e)
+told_where false x p e = absurd (none-some p e)
+
+told_else : (t : Bool) (x : ℕ) (o : Option ℕ) → is_some (cond t (Some x) o) ≡ (is_some o || t)
+told_else true x o = sym (or-true (is_some o))
+told_else false x o = sym (or-false (is_some o))
+
+pub pass_start : (phandle s : ℕ) (j : List ℕ) (p : Option ℕ) → p ≡ then_some (eqb s 0) 0 → Passed phandle s j 0 (record { room = area_room; any = false; place = p })
 unfolding states member
-pass_start phandle s j = record {
+pass_start phandle s j p e = record {
   inside = omega arith;
   good = refl;
   any = refl;
-  found = refl;
+  found = rw (e, told_some (eqb s 0) 0);
   due = λ h. refl;
-  place = λ e. record { inside = omega arith; good = refl; due = refl; within = first (eqb-true s 0 e) (changes_at phandle j 0) };
+  place = λ q h. let told = told_where (eqb s 0) 0 q (sym e ∙ h) in
+      subst (λ (n : ℕ). GoesOn phandle s j 0 n) told.1
+      (record { inside = omega arith; good = refl; due = refl; within = first (eqb-true s 0 told.0) (changes_at phandle j 0) });
 }
   where
     first : s ≡ 0 → (cs : List Change) → FirstWithin s cs
@@ -120,7 +139,7 @@ module _ {phandle s : ℕ} {j : List ℕ} {at : ℕ} {w : Walk} (g : Passed phan
       any = g.any ∙ rw same_changes;
       found = g.found ∙ rw same_changes;
       due = λ h. g.due (omega arith) ∙ rw same_changes;
-      place = λ e. place_on (g.place e);
+      place = λ p e. place_on (g.place p e);
     }
 
   -- it holds a change of the node's
@@ -137,13 +156,13 @@ module _ {phandle s : ℕ} {j : List ℕ} {at : ℕ} {w : Walk} (g : Passed phan
     first_change : changes_at phandle j at ≡ change ∷ later
     first_change = changes_step phandle j at more whole ∙ rw o
 
-    found_next : (w.found || member s (boundaries w.room (change ∷ later)))
-        ≡ ((w.found || is_stop) || member s (boundaries (room_after w.room (header change) (length change.value)) later))
+    found_next : (is_some w.place || member s (boundaries w.room (change ∷ later)))
+        ≡ (is_some (cond is_stop (Some at) w.place) || member s (boundaries (room_after w.room (header change) (length change.value)) later))
     unfolding boundaries
     found_next =
         let ends = stops w.room (header change) at change.start (length change.value) in
         let rest = boundaries (room_after w.room (header change) (length change.value)) later in
-        rw (member_append s ends rest) (sym (or_assoc w.found is_stop (member s rest)))
+        rw (member_append s ends rest, told_else is_stop at w.place) (sym (or_assoc (is_some w.place) is_stop (member s rest)))
 
     place_here : is_stop ≡ true → GoesOn phandle s j next at
     place_here e =
@@ -155,9 +174,9 @@ module _ {phandle s : ℕ} {j : List ℕ} {at : ℕ} {w : Walk} (g : Passed phan
           within = rw first_change (⊎_map (λ (q : s ≡ at). omega arith) (λ (q : (change.start ≤ s) × (s < stop change)). q) lies);
         }
 
-    place_next : (t : Bool) → is_stop ≡ t → (w.found || t) ≡ true → GoesOn phandle s j next (cond t at w.place)
-    place_next true e f = place_here e
-    place_next false e f = place_on (g.place (sym (or-false w.found) ∙ f))
+    place_next : (t : Bool) → is_stop ≡ t → (p : ℕ) → cond t (Some at) w.place ≡ Some p → GoesOn phandle s j next p
+    place_next true e p f = subst (λ (n : ℕ). GoesOn phandle s j next n) (same_Some at p f) (place_here e)
+    place_next false e p f = place_on (g.place p f)
 
     pass_change : Passed phandle s j next (walked_over w (extent_in change) s)
     unfolding walked_over
@@ -167,7 +186,7 @@ module _ {phandle s : ℕ} {j : List ℕ} {at : ℕ} {w : Walk} (g : Passed phan
       any = g.any ∙ rw first_change (or-true w.any);
       found = g.found ∙ rw first_change found_next;
       due = λ h. g.due (omega arith) ∙ rw first_change (due_past s change later (omega (arith, sized_here j at whole)) (omega (arith, stands.ends)));
-      place = λ e. place_next is_stop refl e;
+      place = λ p e. place_next is_stop refl p e;
     }
 
   -- ---- by what the code finds
@@ -215,18 +234,10 @@ told j at h p inside e q =
 -- the size that the code is told of a record of a node, where there is one
 module _ (j : List ℕ) (at : ℕ) (v : Option ℕ) (sized : v ≡ cond (node_here j at) (Some (size_of (drop at j))) None) where
   none_sized : v ≡ None → node_here j at ≡ false
-  none_sized e = go (node_here j at) (sym e ∙ sized)
-    where
-      go : (t : Bool) → None ≡ cond t (Some (size_of (drop at j))) None → t ≡ false
-      go true p = let z : ◌≡◌ {A = ℕ} 0 1 = cc in absurd (omega arith)
-      go false p = refl
+  none_sized e = cond_none (node_here j at) (size_of (drop at j)) (sym sized ∙ e)
 
-  some_sized : (n : ℕ) → v ≡ Some n → (node_here j at ≡ true) × (n ≡ size_of (drop at j))
-  some_sized n e = go (node_here j at) (sym e ∙ sized)
-    where
-      go : (t : Bool) → Some n ≡ cond t (Some (size_of (drop at j))) None → (t ≡ true) × (n ≡ size_of (drop at j))
-      go true p = (refl, cc)
-      go false p = let z : ◌≡◌ {A = ℕ} 0 1 = cc in absurd (omega arith)
+  some_sized : (n : ℕ) → v ≡ Some n → (node_here j at ≡ true) × (size_of (drop at j) ≡ n)
+  some_sized n e = cond_some (node_here j at) (size_of (drop at j)) n (sym sized ∙ e)
 
   pub node_fits : (n : ℕ) → v ≡ Some n → (0 < n) × (at + n ≤ length j)
   node_fits n e = let k = some_sized n e in let s = sized_here j at (node_good j at k.0) in (omega (arith, k.1, s), omega (arith, k.1, s))
@@ -240,7 +251,7 @@ module _ {phandle s : ℕ} {j : List ℕ} {at : ℕ} {w : Walk} (g : Passed phan
   pub pass_sized : (v : Option ℕ) → v ≡ cond (node_here j at) (Some (size_of (drop at j))) None → (n : ℕ) → v ≡ Some n → Passed phandle s j (at + n) w
   pass_sized v sized n e =
       let k = some_sized j at v sized n e in
-      rw k.1 (pass_node g more (node_good j at k.0) k.0)
+      rw (← k.1) (pass_node g more (node_good j at k.0) k.0)
 
   -- neither a good record of a property nor one of a node stands at the place
   pub pass_bad : (h : Option PropertyRecord) (v : Option ℕ) → h ≡ None → h ≡ held_at j at → v ≡ cond (node_here j at) (Some (size_of (drop at j))) None
@@ -256,18 +267,29 @@ module _ {phandle s : ℕ} {j : List ℕ} {at : ℕ} {w : Walk} (g : Passed phan
     all_good_lem : all_good good_record (records (drop at j)) ≡ true
     all_good_lem = none_good good_record j at end
 
-    pub pass_formed : length j ≤ size_limit → well_formed j ≡ true
+    pass_formed : length j ≤ size_limit → well_formed j ≡ true
     unfolding well_formed
     pass_formed h = formed size_limit good_record j h (g.good ∙ all_good_lem)
 
-    pub pass_carried : is_carried phandle s j ≡ (w.any && w.found)
+    pass_carried : is_carried phandle s j ≡ (w.any && is_some w.place)
     unfolding boundaries member
     pass_carried =
         let none = changes_end phandle j at end in
-        rw (g.any, g.found, none, or-false w.any, or-false w.found)
+        rw (g.any, g.found, none, or-false w.any, or-false (is_some w.place))
 
-    pub pass_resumes : w.found ≡ true → Resumes phandle s j w.place
-    pass_resumes e = let p = g.place e in record { inside = p.inside; good = p.good ∙ all_good_lem; due = p.due; within = p.within }
+    pass_resumes : (place : ℕ) → w.place ≡ Some place → Resumes phandle s j place
+    pass_resumes place e = let p = g.place place e in record { inside = p.inside; good = p.good ∙ all_good_lem; due = p.due; within = p.within }
+
+    -- no change was met; or where the session goes on is told, where it does
+    pub pass_none : length j ≤ size_limit → w.any ≡ false → FollowFinds phandle s j (Err Carried)
+    pass_none h e = (pass_formed h, pass_carried ∙ rw e)
+
+    pub pass_ends : length j ≤ size_limit → w.any ≡ true → FollowFinds phandle s j (ok_or w.place Carried)
+    pass_ends h e = go w.place refl
+      where
+        go : (o : Option ℕ) → w.place ≡ o → FollowFinds phandle s j (ok_or o Carried)
+        go None p = (pass_formed h, pass_carried ∙ rw (e, p))
+        go (Some place) p = (pass_formed h, pass_carried ∙ rw (e, p), pass_resumes place p)
 
 pub pass_oversized : (j : List ℕ) → size_limit < length j → well_formed j ≡ false
 unfolding well_formed

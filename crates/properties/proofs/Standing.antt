@@ -1,16 +1,16 @@
 -- What is due of a change, by where it stands in the journal.
 use mathlib.Core.Path.{◌≡◌, refl, sym, ap, ◌∙◌}
-use mathlib.Core.Bool.{Bool, cond}
+use mathlib.Core.Bool.{Bool}
 use mathlib.Core.List.{List, [], ◌∷◌}
 use mathlib.Core.Logic.{inl, inr}
-use Prim.Native.Nat.{ℕ, ◌+◌, ◌-◌, ◌≤◌}
+use Prim.Native.Nat.{ℕ, ◌+◌, ◌-◌, ◌≤◌, max}
 use native.Mathlib.Omega.{arith}
-use lib.Dec.{ltb, eqb}
+use lib.Dec.{eqb}
 use lib.ListN.{length, take, drop, length-drop}
 use lib.Seq.{length-take-le, take-add, take-take, drop_at, drop-drop}
-use borrow.Author.Tests.{le-leb, lt-leb, lt-ltb, le-ltb, ltb-false}
+use borrow.Author.Tests.{le-leb, lt-leb}
 use Rattle.words.specs.Nul.{until_nul}
-use Rattle.words.proofs.Choice.{decide, choose}
+use Rattle.words.proofs.Choice.{choose}
 use Rattle.records.specs.Records.{kind_of, size_of, first_record}
 use Rattle.journal.specs.Property.{name_of, value_of}
 use Rattle.journal.specs.Holding.{HoldsProperty, property_in}
@@ -28,10 +28,6 @@ until_front : (l : List ℕ) → until_nul l ≡ take (length (until_nul l)) l
 unfolding until_nul
 until_front [] = refl
 until_front (b ∷ bs) = choose (eqb b 0) (λ (l : List ℕ). l ≡ take (length l) (b ∷ bs)) (λ _. refl) (λ _. ap (λ (l : List ℕ). b ∷ l) (until_front bs))
-
--- the later of two places, where the second is no earlier
-later_is : (a b : ℕ) → a ≤ b → cond (ltb a b) b a ≡ b
-later_is a b h = decide (ltb a b) (λ e. rw e) (λ e. rw e (omega (arith, ltb-false a b e)))
 
 -- a portion by its parts
 abbrev portion : ℕ → ℕ → ℕ → Bool → ℕ → ℕ → ℕ → Portion
@@ -93,8 +89,8 @@ module _ (j : List ℕ) (at : ℕ) (h : HoldsProperty j at) where
 
     -- its offset and its value's by the code's choices, where its value ends, and the rest of it
     pub record DueHere : Type 0 where
-      pub place : cond (ltb at s) s at ≡ due.at
-      pub starts : cond (ltb (at + 9 + named) s) s (at + 9 + named) ≡ due.start
+      pub place : max at s ≡ due.at
+      pub starts : max (at + 9 + named) s ≡ due.start
       pub behind : at + 9 + named ≤ due.start
       pub ends : due.start + length due.value ≡ at + size
       pub name : due.name ≡ name_of here
@@ -108,8 +104,8 @@ module _ (j : List ℕ) (at : ℕ) (h : HoldsProperty j at) where
         let a = le-leb s at k in
         let c = stands in
         record {
-          place = rw (a, le-ltb at s k);
-          starts = rw (a, le-ltb (at + 9 + named) s (omega arith)) (omega arith);
+          place = rw a (omega arith);
+          starts = rw a (omega arith);
           behind = rw a (omega arith);
           ends = rw a c.ends;
           name = rw a;
@@ -124,8 +120,8 @@ module _ (j : List ℕ) (at : ℕ) (h : HoldsProperty j at) where
         let d = s - (at + (8 + named + 1)) in
         let n = length-drop d (value_of here) in
         record {
-          place = rw (a, lt-ltb at s (omega arith));
-          starts = rw a (later_is (at + 9 + named) s (omega arith));
+          place = rw a (omega arith);
+          starts = rw a (omega arith);
           behind = rw a (omega arith);
           ends = rw a (omega (arith, n, c.ends));
           name = rw a;
@@ -137,7 +133,7 @@ module _ (j : List ℕ) (at : ℕ) (h : HoldsProperty j at) where
 
     -- what the code reads is what is due
     module _ (w : Within s (change_at j at)) (p : PropertyRecord) (e : p ≡ property_in j at) (value place : ℕ)
-        (f : value ≡ cond (ltb (at + 9 + p.name_length) s) s (at + 9 + p.name_length)) (g : place ≡ cond (ltb at s) s at) where
+        (f : value ≡ max (at + 9 + p.name_length) s) (g : place ≡ max at s) where
       value_starts : value ≡ due.start
       value_starts = f ∙ rw e (due_here w).starts
 

@@ -10,6 +10,7 @@ use lib.Dec.{leb, ltb}
 use lib.ListN.{length, take, drop}
 use lib.Seq.{sets, length-sets, length-take-le, take-take}
 use borrow.Author.Tests.{leb-true, leb-false, le-leb, lt-leb, lt-ltb, le-ltb, ltb-true, ltb-false}
+use Rattle.std.specs.Prelude.{Some, None, unwrap_or}
 use Rattle.words.specs.Numbers.{be_bytes}
 use Rattle.words.proofs.Choice.{decide, choose}
 use Rattle.words.proofs.Numbers.{length_be_bytes}
@@ -21,10 +22,10 @@ use Rattle.property_area.specs.Head.{first_at}
 use Rattle.property_area.specs.Piece.{Piece, piece_bytes, pieces_bytes}
 use Rattle.properties.specs.declared.writing.Portion.{Portion}
 use Rattle.properties.specs.declared.writing.Handed.{Handed}
-use Rattle.properties.specs.Changes.{Change, property, before, from, is_of, changes_from, changes, due_at, is_due, offset_or}
+use Rattle.properties.specs.Changes.{Change, property, before, from, is_of, changes_from, changes, due_at}
 use Rattle.properties.specs.Filling.{header, whole, area_room, Filled, fill}
 use Rattle.properties.specs.Inner.Following.{Within, FirstWithin, Resumes}
-use Rattle.properties.specs.Inner.Writing.{GoodFrom, change_at, due_of, portion_at, stored_bytes, last_descriptor, last_bytes, last_handed, HandsOut}
+use Rattle.properties.specs.Inner.Writing.{GoodFrom, change_at, due_of, portion_at, stored_bytes, last_descriptor, last_bytes, last_handed, first_due, HandsOut}
 use Rattle.properties.proofs.Placing.{has_value}
 use Rattle.properties.proofs.Pieces.{piece_length}
 use Rattle.properties.proofs.Offsets.{due_here, due_in}
@@ -160,28 +161,26 @@ module _ {start : List ℕ} {all : Filled} {phandle s : ℕ} {j area : List ℕ}
   pub record Done (h : Handed) (left : List ℕ) : Type 0 where
     pub stored : left ≡ sets start first_at (pieces_bytes all.pieces)
     pub counted : h.count ≡ length all.pieces
-    pub remains : h.more ≡ is_due all.due
-    pub next : h.due ≡ offset_or 0 all.due
+    pub next : h.due ≡ first_due all.due
     pub few : h.count ≤ area_size
-    pub inside : h.due ≤ length j
+    pub inside : unwrap_or h.due 0 ≤ length j
 
   -- by what the room that is left takes of what is due
   done : (h : Handed) (left : List ℕ) (ps : List Piece) (es : List Change) → fill room (due_at s (changes_at phandle j at)) ≡ record { pieces = ps; due = es }
-      → left ≡ sets area to (pieces_bytes ps) → h.count ≡ count + length ps → h.more ≡ is_due es → h.due ≡ offset_or 0 es → h.count ≤ area_size → h.due ≤ length j → Done h left
-  done h left ps es f a b c d few inside =
+      → left ≡ sets area to (pieces_bytes ps) → h.count ≡ count + length ps → h.due ≡ first_due es → h.count ≤ area_size → unwrap_or h.due 0 ≤ length j → Done h left
+  done h left ps es f a b d few inside =
       record {
         stored = a ∙ (rw f at w.stored);
         counted = b ∙ (rw f at w.number);
-        remains = c ∙ ap is_due (rw f at w.rest);
-        next = d ∙ ap (offset_or 0) (rw f at w.rest);
+        next = d ∙ ap first_due (rw f at w.rest);
         few = few;
         inside = inside;
       }
 
-  pub writing_end : length j ≤ at → Done (record { count = count; more = false; due = 0 }) area
+  pub writing_end : length j ≤ at → Done (record { count = count; due = None }) area
   unfolding fill due_at pieces_bytes
   writing_end h =
-      done (record { count = count; more = false; due = 0 }) area [] [] (rw (changes_end phandle j at h)) refl (omega arith) refl refl (omega (arith, w.filled, w.few)) (omega arith)
+      done (record { count = count; due = None }) area [] [] (rw (changes_end phandle j at h)) refl (omega arith) refl (omega (arith, w.filled, w.few)) (omega arith)
 
   -- a change stands here
   module _ (inside : at < length j) where
@@ -217,19 +216,19 @@ module _ {start : List ℕ} {all : Filled} {phandle s : ℕ} {j area : List ℕ}
       last_part b =
           let d = facts j at s holds first_within in
           let k = ltb-true _ _ b in
-          let is : h ≡ record { count = count + 1; more = true; due = c.start + n } = told ∙ rw b in
+          let is : h ≡ record { count = count + 1; due = Some (c.start + n) } = told ∙ rw b in
           done h left (partly room c later ∷ []) (from (cut room c later) c ∷ later) (ap (fill room) due_is ∙ fill_part room c later k over)
           (stored ∙ rw (b, append-nil (piece_bytes (partly room c later))) (ap (sets area to) (piece_part j at s holds first_within n (omega arith))))
-          (ap (λ (r : Handed). r.count) is) (ap (λ (r : Handed). r.more) is) (ap (λ (r : Handed). r.due) is)
+          (ap (λ (r : Handed). r.count) is) (ap (λ (r : Handed). r.due) is)
           (rw is (omega (arith, w.filled, w.few))) (rw is (omega (arith, d.ends, record_fits j at holds)))
 
       last_none : ltb (header c) room ≡ false → Done h left
       unfolding pieces_bytes
       last_none b =
           let d = facts j at s holds first_within in
-          let is : h ≡ record { count = count; more = true; due = c.at } = told ∙ rw b in
+          let is : h ≡ record { count = count; due = Some c.at } = told ∙ rw b in
           done h left [] (c ∷ later) (ap (fill room) due_is ∙ fill_none room c later (ltb-false _ _ b) over)
-          (stored ∙ rw b) (ap (λ (r : Handed). r.count) is ∙ omega arith) (ap (λ (r : Handed). r.more) is) (ap (λ (r : Handed). r.due) is)
+          (stored ∙ rw b) (ap (λ (r : Handed). r.count) is ∙ omega arith) (ap (λ (r : Handed). r.due) is)
           (rw is (omega (arith, w.filled, w.few))) (rw is (omega (arith, d.inside, d.ends, record_fits j at holds)))
 
       last_there : Done h left
@@ -285,4 +284,4 @@ module _ {start : List ℕ} {all : Filled} {phandle s : ℕ} {j area : List ℕ}
 -- what is due at a state
 pub handed_out : {phandle s : ℕ} {j start area : List ℕ} {at to count : ℕ} (w : Writing start (fill area_room (due_at s (changes phandle j))) phandle s j area at to count)
     (h : Handed) (left : List ℕ) → Done w h left → HandsOut phandle s j start left h
-handed_out w h left d = record { stored = d.stored; counted = d.counted; remains = d.remains; next = d.next; few = d.few; inside = d.inside }
+handed_out w h left d = record { stored = d.stored; counted = d.counted; next = d.next; few = d.few; inside = d.inside }

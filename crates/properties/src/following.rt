@@ -5,12 +5,11 @@ ghost use Rattle.properties.specs.Inner.Following.{extent_of, walked_past, Follo
 use crate::walk::{AREA_ROOM, Extent, Walk, walk_over};
 use journal::PropertyRecord;
 
-// What a pass finds: the journal is malformed, the node's session does not carry the state, or it goes on from the record at this place.
-#[derive(Clone, Copy)]
-pub enum Followed {
+// Why a call is refused: the journal is malformed, or what the area carries is refused, as a state that the node's session never carries.
+#[derive(Clone, Copy, PartialEq, Eq)]
+pub enum Refusal {
     Malformed,
-    Unknown,
-    Resumed(usize),
+    Carried,
 }
 
 // Where the change of a record at a place stands.
@@ -38,19 +37,18 @@ fn walk_past(walk: Walk, at: usize, p: PropertyRecord, phandle: u32, state: usiz
     walk_over(walk, extent_of(at, p), state)
 }
 
-// Follows the session of a node, and tells where it goes on at a state.
-pub fn follow(j: &[u8], phandle: u32, state: u32) -> Followed
+// Follows the session of a node, and tells from the record at which place it goes on at a state.
+pub fn follow(j: &[u8], phandle: u32, state: u32) -> Result<usize, Refusal>
     ensures { FollowFinds phandle state j.now result }
 {
     if records::SIZE_LIMIT < j.len() {
-        return Followed::Malformed;
+        return Err(Refusal::Malformed);
     }
     let mut at: usize = 0;
     let mut walk = Walk {
         room: AREA_ROOM,
         any: false,
-        found: state == 0,
-        place: 0,
+        place: (state == 0).then_some(0),
     };
     while at < j.len() {
         if let Some(p) = journal::held_at(j, at) {
@@ -58,13 +56,13 @@ pub fn follow(j: &[u8], phandle: u32, state: u32) -> Followed
             at += p.size;
         } else {
             let Some(size) = journal::node_size(j, at) else {
-                return Followed::Malformed;
+                return Err(Refusal::Malformed);
             };
             at += size;
         }
     }
-    if walk.any && walk.found {
-        return Followed::Resumed(walk.place);
+    if !walk.any {
+        return Err(Refusal::Carried);
     }
-    Followed::Unknown
+    walk.place.ok_or(Refusal::Carried)
 }

@@ -6,4 +6,5 @@ mod following;
 mod walk;
 mod writing;
 
-pub use answering::{Outcome, answer};
+pub use answering::answer;
+pub use following::Refusal;

@@ -23,13 +23,12 @@ pub struct Gone {
     pub found: bool,
 }
 
-// How far a walk has come: the room that is left, whether a change was met, whether an area ended at the state, and in which record.
+// How far a walk has come: the room that is left, whether a change was met, and in which record an area ended at the state, where one did.
 #[derive(Clone, Copy)]
 pub struct Walk {
     pub room: usize,
     pub any: bool,
-    pub found: bool,
-    pub place: usize,
+    pub place: Option<usize>,
 }
 
 // Goes through a value from cut to cut; `room` bytes of it fit this area, and `fresh` each further one.
@@ -84,23 +83,13 @@ pub fn walk_over(walk: Walk, e: Extent, state: usize) -> Walk
         return Walk {
             room: walk.room - whole,
             any: true,
-            found: walk.found,
             place: walk.place,
         };
     }
     let gone = go_over(walk.room, e, state);
-    if gone.found {
-        return Walk {
-            room: gone.room,
-            any: true,
-            found: true,
-            place: e.at,
-        };
-    }
     Walk {
         room: gone.room,
         any: true,
-        found: walk.found,
-        place: walk.place,
+        place: if gone.found { Some(e.at) } else { walk.place },
     }
 }

@@ -1,5 +1,5 @@
 // Writing the pieces of what is due behind the head of an area.
-ghost use Rattle.std.specs.Prelude.{◌≡◌, true, cond, ◌+◌, ◌-◌, ◌<◌, ◌≤◌, ltb, length, drop};
+ghost use Rattle.std.specs.Prelude.{◌≡◌, true, ◌+◌, ◌-◌, ◌<◌, ◌≤◌, length, drop};
 ghost use Rattle.std.proofs.lemmas.List.Edits.{sets};
 ghost use Rattle.records.specs.Records.{records};
 ghost use Rattle.journal.specs.Holding.{HoldsProperty};
@@ -39,13 +39,6 @@ pub struct Portion {
     pub end: usize,
 }
 
-// The later of two places.
-fn later(a: usize, b: usize) -> usize
-    ensures { result ≡ cond (ltb a b) b a }
-{
-    if a < b { b } else { a }
-}
-
 // What is due at a state of the change whose record stands at a place.
 fn portion_at(j: &[u8], at: usize, state: usize) -> Portion
     requires { HoldsProperty j.now at × Within state (change_at j.now at) }
@@ -54,9 +47,9 @@ fn portion_at(j: &[u8], at: usize, state: usize) -> Portion
     let p = journal::read_property(j, at);
     let end = at + p.size;
     let start = at + 9 + p.name_length;
-    let value = later(start, state);
+    let value = start.max(state);
     Portion {
-        at: later(at, state),
+        at: at.max(state),
         name: at + 8,
         name_length: p.name_length,
         deleted: p.deleted,
@@ -71,11 +64,11 @@ fn store_piece(area: &mut [u8], to: usize, j: &[u8], p: Portion, descriptor: u32
     requires { (to + p.name_length + 5 + n ≤ length area.old) × (p.name + p.name_length ≤ length j.now) × (p.value + n ≤ length j.now) }
     ensures { area.new ≡ sets area.old to (stored_bytes j.now p descriptor n) }
 {
-    words::store_bytes(area, to, j, p.name, p.name_length);
+    words::store(area, to, &j[p.name..p.name + p.name_length]);
     let behind = to + p.name_length;
     words::store_zeros(area, behind, 1);
     words::store_be32(area, behind + 1, descriptor);
-    words::store_bytes(area, behind + 5, j, p.value, n);
+    words::store(area, behind + 5, &j[p.value..p.value + n]);
 }
 
 // The descriptor of a change that goes whole, or whose value ends here.
@@ -89,12 +82,11 @@ fn last_descriptor(p: Portion) -> u32
     p.length as u32
 }
 
-// What was handed out: the number of pieces, whether something is due behind them, and its offset, 0 where nothing is.
+// What was handed out: the number of pieces, and the offset of what is due behind them, where something is.
 #[derive(Clone, Copy)]
 pub struct Handed {
     pub count: usize,
-    pub more: bool,
-    pub due: usize,
+    pub due: Option<usize>,
 }
 
 // The end of an area that the next change does not fit whole: a part of its value, where a byte of it fits.
@@ -108,16 +100,14 @@ fn write_last(area: &mut [u8], to: usize, j: &[u8], p: Portion, count: usize) ->
     if room <= header {
         return Handed {
             count,
-            more: true,
-            due: p.at,
+            due: Some(p.at),
         };
     }
     let length = room - header;
     store_piece(area, to, j, p, (0x1_0000_0000 - length) as u32, length);
     Handed {
         count: count + 1,
-        more: true,
-        due: p.value + length,
+        due: Some(p.value + length),
     }
 }
 
@@ -140,9 +130,5 @@ pub fn write_due(area: &mut [u8], j: &[u8], phandle: u32, state: usize, place: u
         count += 1;
         at = next_change(j, phandle, p.end);
     }
-    Handed {
-        count,
-        more: false,
-        due: 0,
-    }
+    Handed { count, due: None }
 }

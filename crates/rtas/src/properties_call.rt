@@ -4,17 +4,17 @@ ghost use Rattle.calls.specs.UpdateProperties.{status_for, properties_status, pr
 
 use calls::Status;
 use node_calls::is_placed;
-use properties::Outcome;
+use properties::Refusal;
 
 // The status of what a call came to.
-fn status_for(outcome: Outcome) -> Status
+fn status_for(outcome: Result<bool, Refusal>) -> Status
     ensures { result ≡ status_for outcome }
 {
     match outcome {
-        Outcome::Malformed => Status::Malformed,
-        Outcome::Refused => Status::Parameter,
-        Outcome::Done => Status::Done,
-        Outcome::More => Status::Again,
+        Err(Refusal::Malformed) => Status::Malformed,
+        Err(Refusal::Carried) => Status::Parameter,
+        Ok(false) => Status::Done,
+        Ok(true) => Status::Again,
     }
 }
 

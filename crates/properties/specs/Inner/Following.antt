@@ -1,12 +1,12 @@
 -- What one pass over a journal tells of a node's session: terms of contracts below `answer`, which no promise of `answer` cites.
-use Rattle.std.specs.Prelude.{ℕ, ◌+◌, ◌-◌, ◌≤◌, ◌<◌, ◌≡◌, Bool, true, false, cond, ◌&&◌, ◌||◌, List, [], ◌∷◌, ◌⊎◌, eqb, length, drop}
+use Rattle.std.specs.Prelude.{ℕ, ◌+◌, ◌-◌, ◌≤◌, ◌<◌, ◌≡◌, Bool, true, false, Some, Result, Ok, Err, cond, ◌&&◌, List, [], ◌∷◌, ◌⊎◌, eqb, length, drop}
 use Rattle.records.specs.Records.{records, all_good}
 use Rattle.journal.specs.Journal.{good_record, well_formed}
 use Rattle.journal.specs.declared.property.PropertyRecord.{PropertyRecord}
 use Rattle.properties.specs.declared.walk.Extent.{Extent}
 use Rattle.properties.specs.declared.walk.Walk.{Walk}
-use Rattle.properties.specs.declared.following.Followed.{Followed}
-use Rattle.properties.specs.declared.following.Followed.TheVariants.{Malformed, Unknown, Resumed}
+use Rattle.properties.specs.declared.following.Refusal.{Refusal}
+use Rattle.properties.specs.declared.following.Refusal.TheVariants.{Malformed, Carried}
 use Rattle.properties.specs.Changes.{Change, changes_from, changes, stop, due_at, is_due}
 use Rattle.properties.specs.Session.{stops, room_after, states, member}
 
@@ -14,7 +14,7 @@ use Rattle.properties.specs.Session.{stops, room_after, states, member}
 unfoldable pub walked_over : Walk → Extent → ℕ → Walk
 walked_over w e s =
     let here = member s (stops w.room e.header e.at e.start e.length) in
-    record { room = room_after w.room e.header e.length; any = true; found = w.found || here; place = cond here e.at w.place }
+    record { room = room_after w.room e.header e.length; any = true; place = cond here (Some e.at) w.place }
 
 -- where the change of a record at a place stands
 abbrev pub extent_of : ℕ → PropertyRecord → Extent
@@ -44,7 +44,7 @@ pub record Resumes (phandle s : ℕ) (j : List ℕ) (place : ℕ) : Type 0 where
   pub within : FirstWithin s (changes_from phandle place (records (drop place j)))
 
 -- the journal is malformed; or the session does not carry the state; or it does, and from this place on it goes on
-abbrev pub FollowFinds : ℕ → ℕ → List ℕ → Followed → Type 0
-FollowFinds phandle s j Malformed = well_formed j ≡ false
-FollowFinds phandle s j Unknown = (well_formed j ≡ true) × (is_carried phandle s j ≡ false)
-FollowFinds phandle s j (Resumed place) = (well_formed j ≡ true) × (is_carried phandle s j ≡ true) × Resumes phandle s j place
+abbrev pub FollowFinds : ℕ → ℕ → List ℕ → Result ℕ Refusal → Type 0
+FollowFinds phandle s j (Err Malformed) = well_formed j ≡ false
+FollowFinds phandle s j (Err Carried) = (well_formed j ≡ true) × (is_carried phandle s j ≡ false)
+FollowFinds phandle s j (Ok place) = (well_formed j ≡ true) × (is_carried phandle s j ≡ true) × Resumes phandle s j place

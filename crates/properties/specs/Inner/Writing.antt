@@ -1,5 +1,5 @@
 -- Terms of the contracts of the writer, which no promise of `answer` cites.
-use Rattle.std.specs.Prelude.{ℕ, ◌+◌, ◌-◌, ◌≤◌, ◌<◌, ◌≡◌, true, cond, List, [], ◌∷◌, ◌++◌, leb, ltb, length, take, drop}
+use Rattle.std.specs.Prelude.{ℕ, ◌+◌, ◌-◌, ◌≤◌, ◌<◌, ◌≡◌, true, Option, Some, None, unwrap_or, cond, List, [], ◌∷◌, ◌++◌, leb, ltb, length, take, drop}
 use Rattle.std.proofs.lemmas.List.Edits.{sets}
 use Rattle.words.specs.Numbers.{be_bytes}
 use Rattle.records.specs.Records.{size_of, first_record, records, all_good}
@@ -10,9 +10,7 @@ use Rattle.property_area.specs.Piece.{deletion, pieces_bytes}
 use Rattle.property_area.specs.Area.{written}
 use Rattle.properties.specs.declared.writing.Portion.{Portion}
 use Rattle.properties.specs.declared.writing.Handed.{Handed}
-use Rattle.properties.specs.declared.answering.Outcome.{Outcome}
-use Rattle.properties.specs.declared.answering.Outcome.TheVariants.{Done, More}
-use Rattle.properties.specs.Changes.{Change, change_of, is_of, changes, from, due_at, is_due, offset_or}
+use Rattle.properties.specs.Changes.{Change, change_of, is_of, changes, from, due_at, offset_or}
 use Rattle.properties.specs.Filling.{area_room, Filled, fill}
 
 -- good records stand from a place on, which may be the end
@@ -74,20 +72,21 @@ last_bytes j p room =
 abbrev pub last_handed : Portion → ℕ → ℕ → Handed
 last_handed p room count =
     let n = room - (p.name_length + 5) in
-    cond (ltb (p.name_length + 5) room) (record { count = count + 1; more = true; due = p.value + n }) (record { count = count; more = true; due = p.at })
+    cond (ltb (p.name_length + 5) room) (record { count = count + 1; due = Some (p.value + n) }) (record { count = count; due = Some p.at })
+
+-- the offset of what is due, where something is
+abbrev pub first_due : List Change → Option ℕ
+first_due [] = None
+first_due (c ∷ cs) = Some c.at
 
 -- what is due at the state is handed out: the pieces stand behind the head, and the rest is told
 pub record HandsOut (phandle s : ℕ) (j area left : List ℕ) (h : Handed) : Type 0 where
   pub stored : left ≡ sets area first_at (pieces_bytes (fill area_room (due_at s (changes phandle j))).pieces)
   pub counted : h.count ≡ length (fill area_room (due_at s (changes phandle j))).pieces
-  pub remains : h.more ≡ is_due (fill area_room (due_at s (changes phandle j))).due
-  pub next : h.due ≡ offset_or 0 (fill area_room (due_at s (changes phandle j))).due
+  pub next : h.due ≡ first_due (fill area_room (due_at s (changes phandle j))).due
   pub few : h.count ≤ area_size
-  pub inside : h.due ≤ length j
+  pub inside : unwrap_or h.due 0 ≤ length j
 
--- what a call comes to and leaves in its area, by what is due after it
-abbrev pub outcome_for : Filled → Outcome
-outcome_for f = cond (is_due f.due) More Done
-
+-- what a call leaves in its area, by what is due after it
 abbrev pub answered : List ℕ → ℕ → Filled → List ℕ
 answered area phandle f = written area phandle (offset_or 0 f.due) f.pieces

@@ -1,9 +1,8 @@
-use mathlib.Core.Path.{◌∙◌}
-use mathlib.Core.Logic.{⊎_elim}
 use Prim.Native.Nat.{◌+◌, ◌<◌, ◌≤◌}
 use native.Mathlib.Omega.{arith}
 use lib.ListN.{length}
-use Rattle.properties.proofs.Passing.{pass_start, Told, told, node_fits, pass_told, pass_sized, pass_bad, pass_formed, pass_carried, pass_resumes, pass_oversized}
+use borrow.Author.Tests.{not-true, not-false}
+use Rattle.properties.proofs.Passing.{pass_start, Told, told, node_fits, pass_told, pass_sized, pass_bad, pass_none, pass_ends, pass_oversized}
 use Rattle.properties.proofs.following.follow.Goals as goal
 
 pub returns-then-j-gt-SIZE_LIMIT : goal.returns-then-j-gt-SIZE_LIMIT
@@ -12,7 +11,7 @@ returns-then-j-gt-SIZE_LIMIT c =
 
 pub loop-at-init : goal.loop-at-init
 loop-at-init c =
-    pass_start _ _ _
+    pass_start _ _ _ _ c.then_some.ensures
 
 pub walk_past-walk-requires : goal.walk_past-walk-requires
 walk_past-walk-requires c =
@@ -63,14 +62,10 @@ pub loop-at-preserved : goal.loop-at-preserved
 loop-at-preserved c =
     pass_sized c.loop-at.invariant c.loop-at-test.true _ c.node_size.ensures _ c.in-Some-node_size.is
 
-pub returns-then-walk-2 : goal.returns-then-walk-2
-returns-then-walk-2 c =
-    let g = c.loop-at.invariant in
-    let end = c.loop-at-test.false in
-    (pass_formed g end c.if-j-gt-SIZE_LIMIT.false, pass_carried g end ∙ rw (c.if-walk.true, c.if-walk-2.true), pass_resumes g end c.if-walk-2.true)
+pub returns-then-not-walk : goal.returns-then-not-walk
+returns-then-not-walk c =
+    pass_none c.loop-at.invariant c.loop-at-test.false c.if-j-gt-SIZE_LIMIT.false (not-true _ c.if-not-walk.true)
 
 pub returns : goal.returns
 returns c =
-    let g = c.loop-at.invariant in
-    let end = c.loop-at-test.false in
-    (pass_formed g end c.if-j-gt-SIZE_LIMIT.false, pass_carried g end ∙ ⊎_elim (λ b. rw (b.if-walk.true, b.if-walk-2.false)) (λ b. rw b.if-walk.false) c.else-walk.branch-raw)
+    rw c.ok_or.ensures.value (pass_ends c.loop-at.invariant c.loop-at-test.false c.if-j-gt-SIZE_LIMIT.false (not-false _ c.if-not-walk.false))

@@ -10,6 +10,6 @@ pub returns-then-gone : goal.returns-then-gone
 returns-then-gone c =
     walked_hit _ _ _ _ _ c.go_over-gone.ensures c.if-gone.true
 
-pub returns : goal.returns
-returns c =
+pub returns-else-gone : goal.returns-else-gone
+returns-else-gone c =
     walked_miss _ _ _ _ _ c.go_over-gone.ensures c.if-gone.false

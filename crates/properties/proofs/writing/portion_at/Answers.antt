@@ -28,11 +28,11 @@ pub overflow_sub-result : goal.overflow_sub-result
 overflow_sub-result c =
     omega (
       arith,
-      portion_inside c.args.j.now c.args.at c.requires.0 c.args.state c.requires.1 c.read_property-p.result c.read_property-p.ensures c.later-value.result c.later.result
-          c.later-value.ensures c.later.ensures,
+      portion_inside c.args.j.now c.args.at c.requires.0 c.args.state c.requires.1 c.read_property-p.result c.read_property-p.ensures c.max-value.result c.max.result
+          c.max-value.ensures c.max.ensures,
     )
 
 pub returns : goal.returns
 returns c =
-    portion_is c.args.j.now c.args.at c.requires.0 c.args.state c.requires.1 c.read_property-p.result c.read_property-p.ensures c.later-value.result c.later.result
-    c.later-value.ensures c.later.ensures
+    portion_is c.args.j.now c.args.at c.requires.0 c.args.state c.requires.1 c.read_property-p.result c.read_property-p.ensures c.max-value.result c.max.result
+    c.max-value.ensures c.max.ensures
