@@ -10,8 +10,7 @@ use Rattle.std.specs.Prelude.{Option, Some, None}
 use Rattle.journal.specs.declared.counts.Counts.{Counts}
 use Rattle.journal.specs.Journal.{entries, well_formed}
 use Rattle.journal.specs.Reportable.{chosen, reportable, judgement_of}
-use Rattle.inventory.specs.declared.scanning.Judgement as inventory-judgement
-use Rattle.inventory.specs.declared.scanning.Judgement.TheVariants as inventory-variants
+use Rattle.inventory.specs.declared.scanning.Counted as scanned
 use Rattle.inventory.specs.Inventory as inventory
 use Rattle.inventory.specs.Inner.Scanning.{ScanFinds}
 use Rattle.bench.specs.Inner.Bench.{listed_of}
@@ -52,11 +51,11 @@ module _ (sel : Selection) (j : List ℕ) where
 
 -- ---- the judgement of an inventory as a number
 
-module _ (flag type number : ℕ) (i : List ℕ) (g : inventory-judgement.Judgement) (told : ScanFinds flag type number i g) where
-  pub none_listed : g ≡ inventory-variants.Malformed → 0xffff_ffff_ffff_ffff ≡ listed_of flag type i
+module _ (flag type number : ℕ) (i : List ℕ) (g : Option scanned.Counted) (told : ScanFinds flag type number i g) where
+  pub none_listed : g ≡ None → 0xffff_ffff_ffff_ffff ≡ listed_of flag type i
   unfolding listed_of
   none_listed e = let t : inventory.well_formed i ≡ false = rw e at told in rw t
 
-  pub some_listed : (count due : ℕ) → g ≡ inventory-variants.Counted count due → count ≡ listed_of flag type i
+  pub some_listed : (c : scanned.Counted) → g ≡ Some c → c.count ≡ listed_of flag type i
   unfolding listed_of
-  some_listed count due e = let t : ScanFinds flag type number i (inventory-variants.Counted count due) = rw e at told in rw t.0 t.1
+  some_listed c e = let t : ScanFinds flag type number i (Some c) = rw e at told in rw t.0 t.1

@@ -6,7 +6,7 @@ ghost use Rattle.inventory.specs.Listing.{listed};
 ghost use Rattle.inventory.specs.Claims.Scanning.{GoodFrom};
 ghost use Rattle.bench.specs.Inner.Bench.{reported_of, listed_of, last_index};
 
-use inventory::StartingNumber;
+use inventory::{StartingNumber, Wanted};
 
 // How many operations a scope reports of a journal, in scope 3 of a unit; the highest number for a malformed journal.
 #[unsafe(no_mangle)]
@@ -31,10 +31,10 @@ pub extern "C" fn draugsten_bench_inventory(
 ) -> u64
     ensures { result ≡ listed_of flag item_type inventory.now }
 {
-    let found = inventory::scan(inventory, flag, item_type, StartingNumber(number));
-    match found {
-        inventory::Judgement::Malformed => 18446744073709551615,
-        inventory::Judgement::Counted(count, due) => count as u64,
+    let wanted = Wanted { flag, item_type };
+    match inventory::scan(inventory, wanted, StartingNumber(number)) {
+        None => u64::MAX,
+        Some(counted) => counted.count as u64,
     }
 }
 
@@ -50,15 +50,14 @@ pub extern "C" fn draugsten_bench_search(
     requires { GoodFrom flag item_type inventory.now 0 × (count ≡ length (listed flag item_type inventory.now)) }
     ensures { result ≡ last_index 0 (listed flag item_type inventory.now) }
 {
-    let mut at: usize = 0;
-    let mut left = count;
-    let mut last: u32 = 0;
-    while 0 < left {
-        let found = inventory::next_entry(inventory, flag, item_type, at);
+    let wanted = Wanted { flag, item_type };
+    let mut at = 0;
+    let mut last = 0;
+    for passed in 0..count {
+        let found = inventory::next_entry(inventory, wanted, at);
         let entry = inventory::locate(inventory, found);
         last = entry.index;
         at = found + entry.size;
-        left -= 1;
     }
     last
 }

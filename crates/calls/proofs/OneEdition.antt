@@ -9,13 +9,12 @@ use lib.Dec.{ltb, eqb}
 use borrow.Author.Tests.{ltb-true, ltb-false, eqb-true, eqb-false, le-leb}
 use lib.ListN.{length, take, drop}
 use lib.Seq.{take_all, take-add}
+use Rattle.std.specs.Prelude.{Option, Some}
 use Rattle.words.specs.Numbers.{Bytes}
 use Rattle.words.specs.Reading.{read, readings}
 use Rattle.words.proofs.Choice.{choose, decide, and_left, and_right}
 use Rattle.words.proofs.Readings.{readings_none, readings_more, joined_read}
 use Rattle.inventory.specs.declared.edition.Edition.{Edition}
-use Rattle.inventory.specs.declared.edition.Edit.{Edit}
-use Rattle.inventory.specs.declared.edition.Edit.TheVariants.{Taken}
 use Rattle.inventory.specs.Edition.{edit_of}
 use Rattle.inventory.specs.Listing.{Entry, listed}
 use Rattle.indices.specs.Reading.{reading}
@@ -231,12 +230,12 @@ module _ (st : Standing) (known : Known st) where
   still : {b : Begun} → InProgress st.reading b → InProgress st.reading (edited b)
   still p = record { of_flag = p.of_flag; of_type = p.of_type; of_edition = p.of_edition; begun = p.begun; due = p.due; handed = p.handed }
 
-  taken_known : (i : List ℕ) → Bytes i → Known (after_edit st i (Taken (record { 0 = st.edition.0 + 1 })))
+  taken_known : (i : List ℕ) → Bytes i → Known (after_edit st i (Some (record { 0 = st.edition.0 + 1 })))
   taken_known i bytes = record { bytes = bytes; edition_is = omega (arith, known.edition_is); one_inventory = λ e. absurd (omega arith); record_is = ⊎_elim inl (λ p. inr (still p)) known.record_is }
 
   edit_known : (i : List ℕ) → Bytes i → Known (after_event st (edits i))
   unfolding edit_of
-  edit_known i bytes = choose (eqb st.edition.0 0xffff_ffff) (λ (x : Edit). Known (after_edit st i x)) (λ _. known) (λ _. taken_known i bytes)
+  edit_known i bytes = choose (eqb st.edition.0 0xffff_ffff) (λ (x : Option Edition). Known (after_edit st i x)) (λ _. known) (λ _. taken_known i bytes)
 
 -- ---- any list of events
 

@@ -5,7 +5,7 @@ ghost use Rattle.draugsten.specs.Record.{flat_edit_of};
 ghost use Rattle.draugsten.specs.Promises.{NoReadingPromise, EditPromise};
 
 use crossing::FlatReading;
-use inventory::{Edit, Edition};
+use inventory::Edition;
 
 // What comes of an edit: whether it is taken (1 or 0), and the edition afterwards.
 #[repr(C)]
@@ -30,12 +30,11 @@ pub extern "C" fn draugsten_edit(edition: u32) -> FlatEdit
     ensures value { result ≡ flat_edit_of edition }
     ensures promise { EditPromise }
 {
-    let edit = Edition(edition).edit();
-    match edit {
-        Edit::Taken(next) => FlatEdit {
+    match Edition(edition).edit() {
+        Some(next) => FlatEdit {
             taken: 1,
             edition: next.0,
         },
-        Edit::AtTop => FlatEdit { taken: 0, edition },
+        None => FlatEdit { taken: 0, edition },
     }
 }

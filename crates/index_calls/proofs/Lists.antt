@@ -10,6 +10,7 @@ use borrow.Author.Tests.{leb-true, le-leb, lt-ltb, le-ltb}
 use Rattle.words.proofs.Choice.{decide, and_left, and_right}
 use Rattle.records.specs.Records.{size_limit}
 use Rattle.records.proofs.Steps.{formed_good}
+use Rattle.inventory.specs.declared.wanted.Wanted.{Wanted}
 use Rattle.inventory.specs.Inventory.{good_record, well_formed}
 use Rattle.inventory.specs.Listing.{Entry, listed}
 use Rattle.inventory.specs.Inner.Scanning.{ResumesAt}
@@ -34,17 +35,26 @@ use Rattle.calls.proofs.Requests.{lent_size, due_run}
 
 -- ---- what the scan gives is what the writer of the run asks for
 
+-- a flag and type as a request has them
+pub record Asked (w : Wanted) (q : Request) : Type 0 where
+  pub flag : w.flag ≡ q.flag
+  pub item_type : w.item_type ≡ q.item_type
+
+pub asked_is : {w : Wanted} {q : Request} → (w.flag ≡ q.flag) × (w.item_type ≡ q.item_type) → Asked w q
+asked_is e = record { flag = e.0; item_type = e.1 }
+
 -- the test of the number
 pub among_is : (number count : ℕ) → (leb 1 number && leb number count) ≡ true → (1 ≤ number) × (number ≤ count)
 among_is number count e = (leb-true 1 number (and_left _ _ e), leb-true number count (and_right (leb 1 number) _ e))
 
-pub due_is : {flag type count from : ℕ} {i : List ℕ} (number : ℕ) → well_formed i ≡ true → count ≡ length (listed flag type i) → ResumesAt flag type i (number - 1) from → DueEntries flag type number i from (count - (number - 1))
+pub due_is : {w : Wanted} {q : Request} {count from : ℕ} {i : List ℕ} → Asked w q → well_formed i ≡ true → count ≡ length (entries_for i q)
+    → ResumesAt q.flag q.item_type i (number_in q - 1) from → DueEntries w.flag w.item_type (number_in q) i from (count - (number_in q - 1))
 unfolding well_formed
-due_is {flag} {type} {i = i} number w n f = record {
-  onward = record { inside = f.inside; good = all_good_for flag type _ (sym f.sound ∙ formed_good size_limit good_record i w) };
+due_is {q = q} {i = i} asked w n f = rw (asked.flag, asked.item_type) record {
+  onward = record { inside = f.inside; good = all_good_for q.flag q.item_type _ (sym f.sound ∙ formed_good size_limit good_record i w) };
   rest = f.rest;
   counted = omega arith;
-  few = omega (arith, listed_few flag type i w);
+  few = omega (arith, listed_few q.flag q.item_type i w);
 }
 
 -- ---- the run
@@ -93,6 +103,19 @@ pub record Ran (i : List ℕ) (q : Request) (area : List ℕ) (handed : ℕ) (af
   pub high : number_in q ≤ length (entries_for i q)
   pub counted : handed ≡ length (run_for i q)
   pub stored : after ≡ area_after area (run_for i q)
+
+pub ran_is : {i : List ℕ} {q : Request} {area after : List ℕ} {count handed : ℕ} {w : Wanted} → Asked w q → well_formed i ≡ true → count ≡ length (entries_for i q)
+    → (leb 1 (number_in q) && leb (number_in q) count) ≡ true → q.size ≡ length area
+    → handed ≡ length (run (length area) (number_in q) (listed w.flag w.item_type i)) → after ≡ area_after area (run (length area) (number_in q) (listed w.flag w.item_type i)) → Ran i q area handed after
+ran_is {q = q} {count = count} asked formed counted among size handed stored =
+    let range = among_is (number_in q) count among in
+    record {
+      formed = formed;
+      low = range.0;
+      high = omega (arith, range.1, counted);
+      counted = rw (size, ← asked.flag, ← asked.item_type) handed;
+      stored = rw (size, ← asked.flag, ← asked.item_type) stored;
+    }
 
 module _ {i : List ℕ} {q : Request} {area : List ℕ} {handed : ℕ} {after : List ℕ} (t : Ran i q area handed after) where
   -- small enough for the code's sums

@@ -7,7 +7,7 @@ ghost use Rattle.calls.specs.Inner.Terms.{list_area};
 
 use crate::reading_record::{is_current, is_named};
 use calls::{ReadingRecord, Request, Status};
-use inventory::{Edition, Judgement, StartingNumber};
+use inventory::{Counted, Edition, StartingNumber, Wanted};
 
 // What a call answers: its status, and the Next Starting Number; for a refused call the number that was asked for.
 #[derive(Clone, Copy)]
@@ -17,65 +17,50 @@ pub struct Listed {
 }
 
 // Whether a type may be asked for with a flag.
+#[tactic(auto, using(std::proofs::lemmas::Bool::Decides::nat_tests), unfolding(calls::specs::GetIndices::askable))]
 pub fn is_askable(flag: u32, item_type: u32) -> bool
     ensures { result ≡ askable flag item_type }
 {
-    if 1 < flag {
-        return false;
-    }
-    if item_type == 9003 {
-        return false;
-    }
-    if flag != 0 {
-        return true;
-    }
-    item_type != 9001 && item_type != 9002
+    flag <= 1 && item_type != 9003 && (flag != 0 || !matches!(item_type, 9001 | 9002))
 }
 
 // Whether a size of at least 4 from an address on ends inside memory and below 4 GiB.
+#[tactic(auto, using(std::proofs::lemmas::Bool::Decides::nat_tests), unfolding(calls::specs::GetIndices::lendable))]
 fn is_lendable(memory: &[u8], address: usize, size: usize) -> bool
     requires { (address < 0x1_0000_0000) × (size < 0x1_0000_0000) }
     ensures { result ≡ lendable memory.now address size }
 {
-    if size < 4 {
-        return false;
-    }
     let end = address + size;
-    if 0x1_0000_0000 < end {
-        return false;
-    }
-    end <= memory.len()
+    4 <= size && end <= 0x1_0000_0000 && end <= memory.len()
 }
 
-// The answer over a well-formed inventory with so many entries, of which the one due is searched from a place on.
-fn answer_counted(
-    area: &mut [u8],
-    inventory: &[u8],
-    request: Request,
-    count: usize,
-    from: usize,
-) -> Listed
+// The flag and type that a request asks for.
+fn wanted_by(request: Request) -> Wanted
+    ensures { (result.flag ≡ request.flag) × (result.item_type ≡ request.item_type) }
+{
+    Wanted {
+        flag: request.flag,
+        item_type: request.item_type,
+    }
+}
+
+// The answer over a well-formed inventory with so many entries, of which the one due is searched from the place noted.
+fn answer_counted(area: &mut [u8], inventory: &[u8], request: Request, counted: Counted) -> Listed
     requires { (4 ≤ length area.old) × (request.size ≡ length area.old) × (well_formed inventory.now ≡ true) ×
-        (count ≡ length (entries_for inventory.now request)) ×
-        (1 ≤ number_in request → number_in request ≤ count → ResumesAt request.flag request.item_type inventory.now (number_in request - 1) from) }
+        (counted.count ≡ length (entries_for inventory.now request)) ×
+        (1 ≤ number_in request → number_in request ≤ counted.count
+        → ResumesAt request.flag request.item_type inventory.now (number_in request - 1) counted.due) }
     ensures status_value { (result.status ≡ list_status inventory.now request) ×
         (result.next.0 ≡ number_given (list_status inventory.now request) inventory.now request) }
     ensures area_after { area.new ≡ list_area inventory.now request area.old }
 {
     let due = request.number;
-    if !due.is_among(count) {
+    if !due.is_among(counted.count) {
         return refused(request, Status::Parameter);
     }
-    let left = due.entries_from(count);
-    let handed = indices::write_run(
-        area,
-        inventory,
-        request.flag,
-        request.item_type,
-        due,
-        from,
-        left,
-    );
+    let left = due.entries_from(counted.count);
+    let wanted = wanted_by(request);
+    let handed = indices::write_run(area, inventory, wanted, due, counted.due, left);
     if handed == 0 {
         return refused(request, Status::Parameter);
     }
@@ -95,8 +80,10 @@ fn answer_counted(
 fn refused(request: Request, status: Status) -> Listed
     ensures { (result.status ≡ status) × (result.next ≡ request.number) }
 {
-    let next = request.number;
-    Listed { status, next }
+    Listed {
+        status,
+        next: request.number,
+    }
 }
 
 // The answer in its area: the inventory is judged first.
@@ -106,10 +93,9 @@ fn answer_list(area: &mut [u8], inventory: &[u8], request: Request) -> Listed
         (result.next.0 ≡ number_given (list_status inventory.now request) inventory.now request) }
     ensures area_after { area.new ≡ list_area inventory.now request area.old }
 {
-    let judgement = inventory::scan(inventory, request.flag, request.item_type, request.number);
-    match judgement {
-        Judgement::Malformed => refused(request, Status::Malformed),
-        Judgement::Counted(count, from) => answer_counted(area, inventory, request, count, from),
+    match inventory::scan(inventory, wanted_by(request), request.number) {
+        None => refused(request, Status::Malformed),
+        Some(counted) => answer_counted(area, inventory, request, counted),
     }
 }
 

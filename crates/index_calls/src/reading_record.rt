@@ -19,31 +19,26 @@ pub fn no_reading() -> ReadingRecord
 }
 
 // Whether a request begins afresh, or has the flag, type and number that the record names.
+#[tactic(auto, using(std::proofs::lemmas::Bool::Decides::nat_tests), unfolding(calls::specs::ReadingRecord::is_named, calls::specs::ReadingRecord::begins))]
 pub fn is_named(reading: ReadingRecord, request: Request) -> bool
     ensures { result ≡ is_named reading request }
 {
-    let number = request.number;
-    if number.is_first() {
-        return true;
-    }
-    if request.flag != reading.flag {
-        return false;
-    }
-    request.item_type == reading.item_type && number.is_same(reading.number)
+    request.number.is_first()
+        || (request.flag == reading.flag
+            && request.item_type == reading.item_type
+            && request.number == reading.number)
 }
 
 // Whether a request begins afresh, or the edition is the one that the record names.
+#[tactic(auto, using(std::proofs::lemmas::Bool::Decides::nat_tests), unfolding(calls::specs::ReadingRecord::is_current, calls::specs::ReadingRecord::begins))]
 pub fn is_current(reading: ReadingRecord, edition: Edition, request: Request) -> bool
     ensures { result ≡ is_current reading edition request }
 {
-    let number = request.number;
-    if number.is_first() {
-        return true;
-    }
-    edition.is_same(reading.edition)
+    request.number.is_first() || edition == reading.edition
 }
 
 // The record after a get-indices call with this status, request, next number and edition.
+#[tactic(auto, unfolding(calls::specs::ReadingRecord::record_after))]
 pub fn record_after(
     status: Status,
     request: Request,
@@ -53,19 +48,15 @@ pub fn record_after(
 ) -> ReadingRecord
     ensures { result ≡ record_after status request next.0 edition reading }
 {
-    let none = no_reading();
     match status {
-        Status::Done => none,
+        Status::Done | Status::Changed => no_reading(),
         Status::Again => ReadingRecord {
             flag: request.flag,
             item_type: request.item_type,
             number: next,
             edition,
         },
-        Status::Malformed => reading,
-        Status::Parameter => reading,
-        Status::Changed => none,
-        Status::AlreadyRegistered => reading,
-        Status::DumpActive => reading,
+        Status::Malformed | Status::Parameter => reading,
+        Status::AlreadyRegistered | Status::DumpActive => reading,
     }
 }

@@ -6,13 +6,16 @@ use Prim.Native.Nat.{ℕ, zero, suc, ◌+◌, ◌-◌, ◌<◌, ◌≤◌, min}
 use native.Mathlib.Nat.{zero-add, add_assoc}
 use native.Mathlib.Numerals.{sub-one}
 use native.Mathlib.Omega.{arith}
-use lib.Dec.{leb, ltb, eqb, eqb-suc-zero}
+use lib.Dec.{ltb, eqb, eqb-suc-zero}
 use lib.ListN.{length, take, drop, length-take, length-drop}
-use lib.Seq.{take-length, take-nil, drop-nil, take-take, drop-drop, slice, length-slice}
-use borrow.Author.Tests.{ne_eqb, ltb-false, lt-ltb, le-ltb, le-leb, lt-leb}
-use Rattle.words.specs.Numbers.{be32, zeros}
+use lib.Seq.{take-length, take-take}
+use borrow.Author.Tests.{ne_eqb, ltb-false, lt-ltb, le-ltb}
+use Rattle.words.specs.Numbers.{be32}
 use Rattle.words.specs.Nul.{until_nul}
 use Rattle.words.proofs.Choice.{choose, decide}
+use Rattle.words.proofs.Ranges.{range_from}
+use Rattle.std.proofs.lemmas.List.{take_all}
+use Rattle.std.proofs.lemmas.Grind.{common_steps}
 use Rattle.inventory.specs.Listing.{Entry}
 use Rattle.indices.specs.declared.reading.Refusal.{Refusal}
 use Rattle.indices.specs.declared.reading.Refusal.TheVariants.{Past, Length, Code}
@@ -30,7 +33,7 @@ use Rattle.indices.specs.Claims.Cursor.{Gives, StepsGive, EntriesInOrder}
 -- ---- the code of a field
 
 -- a code is the front of its field
-code_short : (f : List ℕ) → length (until_nul f) ≤ length f
+pub code_short : (f : List ℕ) → length (until_nul f) ≤ length f
 unfolding until_nul
 code_short [] = omega arith
 code_short (b ∷ bs) = choose (eqb b 0) (λ (l : List ℕ). length l ≤ suc (length bs)) (λ _. omega arith) (λ _. omega (arith, code_short bs))
@@ -40,56 +43,28 @@ unfolding until_nul
 code_front [] = refl
 code_front (b ∷ bs) = choose (eqb b 0) (λ (l : List ℕ). l ≡ take (length l) (b ∷ bs)) (λ _. refl) (λ _. ap (λ (l : List ℕ). b ∷ l) (code_front bs))
 
--- the judgement on a field whose code ends at a place
-module _ (s : List ℕ) (from to end : ℕ) (fits : (from ≤ to) × (to ≤ length s)) (found : end ≡ from + length (until_nul (slice from to s))) where
-  size : length (slice from to s) ≡ to - from
-  size = length-slice from to s fits.1
+-- all from a place on, as the code takes it
+pub to_the_end : (s : List ℕ) (n : ℕ) → take (length s - n) (drop n s) ≡ drop n s
+to_the_end s n = take_all (length s - n) (drop n s) (rw length-drop (omega arith))
 
-  pub field_empty : end ≤ from → false ≡ good_field (slice from to s)
-  unfolding good_field
-  field_empty h = rw (lt-leb 1 (length (until_nul (slice from to s))) (omega arith))
-
-  module _ (some : from < end) where
-    non_empty : leb 1 (length (until_nul (slice from to s))) ≡ true
-    non_empty = le-leb 1 (length (until_nul (slice from to s))) (omega arith)
-
-    pub field_open : to ≤ end → false ≡ good_field (slice from to s)
-    unfolding good_field
-    field_open h = rw (non_empty, size, lt-leb (length (until_nul (slice from to s)) + 1) (to - from) (omega arith))
-
-    module _ (ended : end < to) where
-      one_nul : leb (length (until_nul (slice from to s)) + 1) (to - from) ≡ true
-      one_nul = le-leb (length (until_nul (slice from to s)) + 1) (to - from) (omega arith)
-
-      pub field_long : end + 4 < to → false ≡ good_field (slice from to s)
-      unfolding good_field
-      field_long h = rw (non_empty, size, one_nul, lt-leb (to - from) (length (until_nul (slice from to s)) + 4) (omega arith))
-
-      pub field_zeros : to ≤ end + 4 → zeros (slice end to s) ≡ good_field (slice from to s)
-      unfolding good_field
-      field_zeros h = rw (non_empty, size, one_nul, le-leb (to - from) (length (until_nul (slice from to s)) + 4) (omega arith), drop-drop (length (until_nul (slice from to s))) from (take to s), ← found)
+-- what the code's test of a field is proved by
+pub ruleset field_laws = (code_short, to_the_end, common_steps)
 
 -- ---- the field of a set
-
--- a part by its start and its length
-part : (f n : ℕ) (l : List ℕ) → slice f (f + n) l ≡ take n (drop f l)
-part zero n l = rw (zero-add n)
-part (suc f) n [] = rw (take-nil (suc f + n), drop-nil (suc f), take-nil n)
-part (suc f) n (x ∷ l) = let e : suc f + n ≡ suc (f + n) = omega arith in rw e (part f n l)
 
 take_min : (n : ℕ) (l : List ℕ) → take n l ≡ take (min n (length l)) l
 take_min n l = sym (take-length (take n l)) ∙ ap (λ (k : ℕ). take k (take n l)) (length-take n l) ∙ take-take (min n (length l)) n l (omega arith)
 
-pub field_part : (area : List ℕ) (at n : ℕ) → n ≡ length_at area at → slice (at + 8) (at + 8 + n) area ≡ field_at area at
+pub field_part : (area : List ℕ) (at n : ℕ) → n ≡ length_at area at → take (at + 8 + n - (at + 8)) (drop (at + 8) area) ≡ field_at area at
 unfolding field_at
-field_part area at n e = rw (part (at + 8) n area, e)
+field_part area at n e = range_from area (at + 8) n ∙ rw e
 
 -- as much of a field as there is
-field-there : (area : List ℕ) (at n k : ℕ) → n ≡ length_at area at → k ≡ min n (length area - at - 8) → slice (at + 8) (at + 8 + k) area ≡ field_at area at
+field-there : (area : List ℕ) (at n k : ℕ) → n ≡ length_at area at → k ≡ min n (length area - at - 8) → take (at + 8 + k - (at + 8)) (drop (at + 8) area) ≡ field_at area at
 unfolding field_at
 field-there area at n k e m =
     let there : k ≡ min n (length (drop (at + 8) area)) = omega (arith, length-drop (at + 8) area) in
-    rw (part (at + 8) k area, ← e, there) (sym (take_min n (drop (at + 8) area)))
+    range_from area (at + 8) k ∙ rw (← e, there) (sym (take_min n (drop (at + 8) area)))
 
 -- the code of a set as a part of the area
 pub code_part : (area : List ℕ) (at : ℕ) → until_nul (field_at area at) ≡ take (length (until_nul (field_at area at))) (drop (at + 8) area)
@@ -181,13 +156,12 @@ module _ (area : List ℕ) (c : Cursor) where
   next_short h = rw (lt-ltb (length area - c.at) 8 h, or-true (eqb c.left 0))
 
   -- the code's way: the code ends at the first NUL of as much of the field as there is
-  pub next_found : (n k end : ℕ) → (c.left ≡ 0 → ⊥) → 8 ≤ length area - c.at → n ≡ be32 area (c.at + 4) → k ≡ min n (length area - c.at - 8)
-      → end ≡ c.at + 8 + length (until_nul (slice (c.at + 8) (c.at + 8 + k) area))
-      → Found (record { index = be32 area c.at; start = c.at + 8; length = end - (c.at + 8) }) (record { at = c.at + (8 + n); left = c.left - 1 }) ≡ next_of area c
+  pub next_found : (n k long : ℕ) → (c.left ≡ 0 → ⊥) → 8 ≤ length area - c.at → n ≡ be32 area (c.at + 4) → k ≡ min n (length area - c.at - 8)
+      → long ≡ length (until_nul (take (c.at + 8 + k - (c.at + 8)) (drop (c.at + 8) area)))
+      → Found (record { index = be32 area c.at; start = c.at + 8; length = long }) (record { at = c.at + (8 + n); left = c.left - 1 }) ≡ next_of area c
   unfolding next_of length_at
-  next_found n k end some room size there e =
-      let long : end - (c.at + 8) ≡ length (until_nul (slice (c.at + 8) (c.at + 8 + k) area)) = omega arith in
-      rw (ne_eqb c.left 0 some, le-ltb (length area - c.at) 8 room, long, field-there area c.at n k size there, size)
+  next_found n k long some room size there e =
+      rw (ne_eqb c.left 0 some, le-ltb (length area - c.at) 8 room, e, field-there area c.at n k size there, size)
 
 -- a step gives the first of the entries before a cursor
 step_gives : (area : List ℕ) (at left : ℕ) → Gives area (entries_from left area at) (next_of area (record { at = at; left = left }))

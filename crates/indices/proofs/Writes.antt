@@ -4,19 +4,21 @@ use mathlib.Core.List.{List, [], ◌∷◌, ◌++◌}
 use Prim.Native.Nat.{ℕ, suc, ◌+◌, ◌-◌, ◌≤◌, ◌<◌}
 use native.Mathlib.Nat.{zero-add}
 use native.Mathlib.Omega.{arith}
-use lib.ListN.{length, replicate, length-append, drop_of_length-le}
+use lib.ListN.{length, drop, replicate, length-append, drop_of_length-le}
 use lib.Seq.{sets, sets-eq, length-sets}
 use borrow.Author.Tests.{le-leb, lt-leb}
 use Rattle.words.specs.Numbers.{be_bytes}
 use Rattle.words.proofs.Numbers.{length_be_bytes}
 use Rattle.words.proofs.Stores.{sets_behind, sets_swap}
-use Rattle.records.specs.Records.{size_limit}
+use Rattle.records.specs.Records.{records, size_limit}
+use Rattle.inventory.specs.Inventory.{code_limit}
 use Rattle.inventory.specs.Listing.{Entry, listed}
 use Rattle.inventory.specs.Claims.Scanning.{ahead, GoodFrom}
+use Rattle.inventory.specs.Claims.Search.{next_place}
 use Rattle.inventory.specs.declared.locating.Located.{Located}
 use Rattle.inventory.specs.Inner.Located.{located_at, entry_in}
-use Rattle.inventory.proofs.LocatedLaws.{code_sized, located_entry, located_inside}
-use Rattle.inventory.proofs.Search.{NextMatch}
+use Rattle.inventory.proofs.LocatedLaws.{code_sized, located_entry, located_inside, located_few}
+use Rattle.inventory.proofs.Search.{NextMatch, next_match}
 use Rattle.indices.specs.Area.{filled, entry_size, code_field, entry_bytes, entries_bytes, fitting, run, answer, written, area_after}
 use Rattle.indices.specs.Claims.Writing.{DueEntries}
 use Rattle.indices.proofs.Written.{fitting_few}
@@ -78,6 +80,15 @@ module _ {start : List ℕ} {whole : List Entry} {flag type count : ℕ} {invent
   pub writing_end : count ≤ handed → Done
   unfolding fitting
   writing_end h = done (ap (fitting (length area - to)) (drop_of_length-le (ahead flag type inventory at) {i = 0} (omega arith)))
+
+  -- while entries remain, the search finds the next one
+  pub next_found : handed < count → (found : ℕ) → found ≡ next_place flag type at (records (drop at inventory)) → NextMatch flag type inventory at found
+  next_found h found p = rw p (next_match w.onward (omega (arith, w.due)))
+
+  -- its record stands in the inventory
+  pub entry_within : (found : ℕ) (l : Located) → NextMatch flag type inventory at found → l ≡ located_at inventory found
+      → (l.length ≤ code_limit) × ((l.start + l.length ≤ length inventory) × (found + l.size ≤ length inventory))
+  entry_within found l next p = let r = next.readable in rw p (located_few r, (located_inside r, r.inside))
 
   -- the next entry, by what the code read: its record's place and parts, and the bytes that it takes in the area
   module _ (found : ℕ) (l : Located) (taken : ℕ) (next : NextMatch flag type inventory at found) (p : l ≡ located_at inventory found) (q : taken ≡ entry_size l.length) where

@@ -50,51 +50,14 @@ fn is_length(n: u32) -> bool
     true
 }
 
-// Whether one to four bytes, from one place up to another, are all zero: without a loop, which takes longer for so few.
-fn are_nuls(s: &[u8], from: usize, to: usize) -> bool
-    requires { (from < to) × (to ≤ from + 4) × (to ≤ length s.now) }
-    ensures { result ≡ zeros (slice from to s.now) }
+// Whether a field is a non-empty code, one to four NULs and nothing else.
+#[tactic(auto, using(crate::proofs::IndexLaws::field_laws), unfolding(crate::specs::Reading::good_field))]
+fn is_field(field: &[u8]) -> bool
+    ensures { result ≡ good_field field.now }
 {
-    if s[from] != 0 {
-        return false;
-    }
-    if to <= from + 1 {
-        return true;
-    }
-    if s[from + 1] != 0 {
-        return false;
-    }
-    if to <= from + 2 {
-        return true;
-    }
-    if s[from + 2] != 0 {
-        return false;
-    }
-    if to <= from + 3 {
-        return true;
-    }
-    if s[from + 3] != 0 {
-        return false;
-    }
-    true
-}
-
-// Whether a non-empty code, one to four NULs and nothing else stand from one place up to another.
-fn is_field(s: &[u8], from: usize, to: usize) -> bool
-    requires { (from ≤ to) × (to ≤ length s.now) }
-    ensures { result ≡ good_field (slice from to s.now) }
-{
-    let end = words::find_nul(s, from, to);
-    if end <= from {
-        return false;
-    }
-    if to <= end {
-        return false;
-    }
-    if end + 4 < to {
-        return false;
-    }
-    are_nuls(s, end, to)
+    let before = words::until_nul(field);
+    let nuls = &field[before..];
+    before != 0 && matches!(nuls.len(), 1..=4) && words::are_zeros(nuls)
 }
 
 // The first fault of a set whose index and length `n` are inside the area.
@@ -108,7 +71,7 @@ pub fn fault_of(area: &[u8], at: usize, n: u32) -> Fault
     if area.len() - at < 8 + n as usize {
         return Fault::Bad(Refusal::Past);
     }
-    if !is_field(area, at + 8, at + 8 + n as usize) {
+    if !is_field(&area[at + 8..at + 8 + n as usize]) {
         return Fault::Bad(Refusal::Code);
     }
     Fault::Fine
@@ -199,12 +162,12 @@ impl Cursor {
         }
         let n = words::read_be32(area, at + 4) as usize;
         let start = at + 8;
-        let end = words::find_nul(area, start, start + words::least(n, rest - 8));
+        let length = words::until_nul(&area[start..start + n.min(rest - 8)]);
         Next::Found(
             Set {
                 index: words::read_be32(area, at),
                 start,
-                length: end - start,
+                length,
             },
             Cursor {
                 at: at + (8 + n),

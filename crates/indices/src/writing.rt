@@ -11,7 +11,7 @@ ghost use Rattle.indices.specs.Claims.Longest.{LongestRun};
 ghost use Rattle.indices.specs.Claims.OtherCodes.{WriterAgrees};
 ghost use Rattle.indices.specs.Claims.Writing.{DueEntries};
 
-use inventory::{Located, StartingNumber};
+use inventory::{Located, StartingNumber, Wanted};
 
 // The bytes of a code of c bytes with its NULs.
 fn filled_size(c: usize) -> usize
@@ -27,33 +27,31 @@ fn store_entry(area: &mut [u8], to: usize, inventory: &[u8], entry: Located)
         (entry.start + entry.length ≤ length inventory.now) }
     ensures { area.new ≡ sets area.old to (entry_bytes (entry_in inventory.now entry)) }
 {
-    let c = entry.length;
-    let field = filled_size(c);
+    let code = &inventory[entry.start..entry.start + entry.length];
+    let field = filled_size(entry.length);
     words::store_be32(area, to, entry.index);
     words::store_be32(area, to + 4, field as u32);
-    words::store_bytes(area, to + 8, inventory, entry.start, c);
-    words::store_zeros(area, to + 8 + c, field - c);
+    words::store(area, to + 8, code);
+    words::store_zeros(area, to + 8 + code.len(), field - code.len());
 }
 
 // The longest fitting run of the entries from a place on, from byte 4 on. Gives how many they are.
 fn write_entries(
     area: &mut [u8],
     inventory: &[u8],
-    flag: u32,
-    item_type: u32,
+    wanted: Wanted,
     from: usize,
     count: usize,
 ) -> usize
-    requires { (4 ≤ length area.old) × GoodFrom flag item_type inventory.now from × (count ≡ length (ahead flag item_type inventory.now from)) }
-    ensures value { result ≡ length (fitting (length area.old - 4) (ahead flag item_type inventory.now from)) }
+    requires { (4 ≤ length area.old) × GoodFrom wanted.flag wanted.item_type inventory.now from × (count ≡ length (ahead wanted.flag wanted.item_type inventory.now from)) }
+    ensures value { result ≡ length (fitting (length area.old - 4) (ahead wanted.flag wanted.item_type inventory.now from)) }
     ensures area_after { area.new ≡ sets area.old 4
-        (entries_bytes (fitting (length area.old - 4) (ahead flag item_type inventory.now from))) }
+        (entries_bytes (fitting (length area.old - 4) (ahead wanted.flag wanted.item_type inventory.now from))) }
 {
     let mut at = from;
-    let mut to: usize = 4;
-    let mut handed: usize = 0;
-    while handed < count {
-        let found = inventory::next_entry(inventory, flag, item_type, at);
+    let mut to = 4;
+    for handed in 0..count {
+        let found = inventory::next_entry(inventory, wanted, at);
         let entry = inventory::locate(inventory, found);
         let taken = 8 + filled_size(entry.length);
         if area.len() - to < taken {
@@ -62,9 +60,8 @@ fn write_entries(
         store_entry(area, to, inventory, entry);
         at = found + entry.size;
         to += taken;
-        handed += 1;
     }
-    handed
+    count
 }
 
 // The longest fitting run from a Starting Number on, with its count, or nothing where the entry due does not fit. Gives how many
@@ -72,20 +69,19 @@ fn write_entries(
 pub fn write_run(
     area: &mut [u8],
     inventory: &[u8],
-    flag: u32,
-    item_type: u32,
+    wanted: Wanted,
     number: StartingNumber,
     from: usize,
     count: usize,
 ) -> usize
-    requires { (4 ≤ length area.old) × DueEntries flag item_type number.0 inventory.now from count }
-    ensures value { result ≡ length (run (length area.old) number.0 (listed flag item_type inventory.now)) }
+    requires { (4 ≤ length area.old) × DueEntries wanted.flag wanted.item_type number.0 inventory.now from count }
+    ensures value { result ≡ length (run (length area.old) number.0 (listed wanted.flag wanted.item_type inventory.now)) }
     ensures area_after { area.new ≡ area_after area.old
-        (run (length area.old) number.0 (listed flag item_type inventory.now)) }
+        (run (length area.old) number.0 (listed wanted.flag wanted.item_type inventory.now)) }
     ensures claims { LongestRun × WriterAgrees }
     ensures bounds { EntriesBounded }
 {
-    let handed = write_entries(area, inventory, flag, item_type, from, count);
+    let handed = write_entries(area, inventory, wanted, from, count);
     if 0 < handed {
         words::store_be32(area, 0, handed as u32);
     }

@@ -1,8 +1,10 @@
 -- The entries of a flag and type, one record after the other.
 use mathlib.Core.Path.{◌≡◌, refl, sym, ap, ◌∙◌}
-use mathlib.Core.Bool.{true, false}
+use mathlib.Core.Bool.{Bool, true, false}
 use mathlib.Core.List.{List}
 use Prim.Native.Nat.{ℕ, ◌+◌, ◌-◌, ◌<◌, ◌≤◌}
+use Rattle.std.specs.Prelude.{Some}
+use Rattle.std.specs.Int.{from_bool}
 use native.Mathlib.Omega.{arith}
 use lib.ListN.{length, drop}
 use Rattle.records.specs.Records.{first_record, records, all_good, size_limit}
@@ -12,8 +14,12 @@ use Rattle.records.proofs.Steps.{good_step, bad_step, none_good, formed, not_for
 use Rattle.inventory.specs.Inventory.{good_record, well_formed}
 use Rattle.inventory.specs.Listing.{entry_of, matches, listed}
 use Rattle.inventory.specs.Inner.Scanning.{ResumesAt, ScanFinds}
-use Rattle.inventory.specs.declared.scanning.Judgement.TheVariants.{Counted}
 use Rattle.inventory.proofs.RecordLaws.{good_here, Stands}
+
+-- a test as a number, as the code has it
+pub test_number : (b : Bool) → from_bool b ≡ one_if_lem b
+test_number true = refl
+test_number false = refl
 
 pub too_large : (inventory : List ℕ) → size_limit < length inventory → well_formed inventory ≡ false
 unfolding well_formed
@@ -83,5 +89,5 @@ module _ {flag type number at count due : ℕ} {inventory : List ℕ} (t : Scann
       }
 
   -- at the end
-  pub scanned_end : length inventory ≤ size_limit → length inventory ≤ at → ScanFinds flag type number inventory (Counted count due)
+  pub scanned_end : length inventory ≤ size_limit → length inventory ≤ at → ScanFinds flag type number inventory (Some (record { count = count; due = due }))
   scanned_end l h = (end_good t.passed l h, end_count t.passed h, t.found)

@@ -5,8 +5,10 @@ use mathlib.Core.List.{List}
 use Prim.Native.Nat.{ℕ, ◌+◌, ◌-◌, ◌<◌, ◌≤◌}
 use native.Mathlib.Omega.{arith}
 use lib.Dec.{leb, eqb}
-use lib.ListN.{length, drop, length-drop}
+use lib.ListN.{length, take, drop, length-drop}
 use lib.Seq.{slice, length-take-le}
+use Rattle.std.specs.Prelude.{None, Some}
+use Rattle.std.proofs.lemmas.List.{drop-take}
 use borrow.Author.Tests.{le-leb, leb-true}
 use Rattle.words.specs.Numbers.{le}
 use Rattle.words.proofs.Choice.{decide, and_left, and_right}
@@ -38,7 +40,7 @@ module _ (s : List ℕ) (at : ℕ) where
   framed_here = framed_at (length s - at) size (kind_of (drop at s)) (le 2 s (at + 4))
 
   abbrev code_here : Bool
-  code_here = all_non_zero (slice (at + head_size) (at + size) s)
+  code_here = all_non_zero (take (at + size - (at + head_size)) (drop (at + head_size) s))
 
   -- the head
   pub head_here : (whole here && good_head here) ≡ framed_here
@@ -65,9 +67,12 @@ module _ (s : List ℕ) (at : ℕ) where
     unfolding code_of
     code_length_lem = length-drop head_size here ∙ ap (λ (n : ℕ). n - head_size) record_size_lem
 
-    code_is : code_of here ≡ slice (at + head_size) (at + size) s
+    code_is : code_of here ≡ take (at + size - (at + head_size)) (drop (at + head_size) s)
     unfolding code_of
-    code_is = drop_part s at head_size size (omega arith)
+    code_is =
+        let n = at + size - (at + head_size) in
+        let end : at + head_size + n ≡ at + size = omega arith in
+        drop_part s at head_size size (omega arith) ∙ ap (λ (k : ℕ). slice (at + head_size) k s) (sym end) ∙ drop-take (at + head_size) n s
 
     code_good : good_code (code_of here) ≡ code_here
     unfolding good_code
@@ -83,12 +88,12 @@ module _ (s : List ℕ) (at : ℕ) where
 
   -- by the numbers that the code read, its test of them, and its test of the code
   pub good_read : (n kind flag : ℕ) (t u : Bool) → n ≡ size → kind ≡ kind_of (drop at s) → flag ≡ le 2 s (at + 4)
-      → t ≡ framed_at (length s - at) n kind flag → u ≡ all_non_zero (slice (at + head_size) (at + n) s) → good_here ≡ (t && u)
+      → t ≡ framed_at (length s - at) n kind flag → u ≡ all_non_zero (take (at + n - (at + head_size)) (drop (at + head_size) s)) → good_here ≡ (t && u)
   good_read n kind flag t u p q r e z = rw (e, z, p, q, r) good_here_lem
 
-  -- where the size that the code gives is 0
-  pub none_stands : (n : ℕ) → n ≡ good_size (drop at s) → n ≡ 0 → good_here ≡ false
-  none_stands n e z = decide good_here (λ t. let p = rw t at e in absurd (omega arith)) (λ t. t)
+  -- where the code gives no size
+  pub none_stands : good_size (drop at s) ≡ None → good_here ≡ false
+  none_stands e = decide good_here (λ t. absurd (let p = rw t at e in cc)) (λ t. t)
 
   -- the flag and type of a record that holds them
   pub matches_at : (flag type : ℕ) → 10 ≤ size → matches flag type here ≡ (eqb (le 2 s (at + 4)) flag && eqb (le 4 s (at + 6)) type)
@@ -111,5 +116,5 @@ good_stands {s} {at} g p =
 pub readable : {s : List ℕ} {at n : ℕ} → Stands s at n → Readable s at
 readable g = record { large = omega arith; small = omega arith; inside = omega arith }
 
-pub stands : {s : List ℕ} {at n : ℕ} → n ≡ good_size (drop at s) → (n ≡ 0 → ⊥) → Stands s at n
-stands {s} {at} e z = decide (good_here s at) (λ g. good_stands g (e ∙ rw g)) (λ g. absurd (z (e ∙ rw g)))
+pub stands : {s : List ℕ} {at n : ℕ} → good_size (drop at s) ≡ Some n → Stands s at n
+stands {s} {at} {n} e = decide (good_here s at) (λ g. good_stands g (let p = rw g at e in cc)) (λ g. absurd (let p = rw g at e in cc))

@@ -1,10 +1,7 @@
 // Judging a record of the inventory.
-ghost use Rattle.std.specs.Prelude.{◌≡◌, cond, ◌+◌, ◌≤◌, ◌<◌, ltb, length, drop};
-ghost use Rattle.std.proofs.Math.Seq.{slice};
-ghost use Rattle.records.specs.Records.{first_record};
+ghost use Rattle.std.specs.Prelude.{◌≡◌, ◌+◌, ◌≤◌, ◌<◌, length, drop};
 ghost use Rattle.inventory.specs.Inventory.{all_non_zero};
-ghost use Rattle.inventory.specs.Inner.Judging.{framed_at, good_size, Readable};
-ghost use Rattle.inventory.specs.Listing.{matches};
+ghost use Rattle.inventory.specs.Inner.Judging.{framed_at, good_size};
 
 // The kind of every record.
 const ITEM_KIND: u16 = 16;
@@ -20,111 +17,59 @@ const LEAST_SIZE: usize = HEAD_SIZE + 1;
 
 const MOST_SIZE: usize = HEAD_SIZE + CODE_LIMIT;
 
-// A test as a number, to be added.
-pub fn one_if(b: bool) -> u8
-    ensures { result ≡ cond b 1 0 }
+// Whether no byte is zero. It goes by the least of them and does not stop at a zero, so that many are looked at at once.
+fn are_non_zero(s: &[u8]) -> bool
+    ensures { result ≡ all_non_zero s.now }
 {
-    if b { 1 } else { 0 }
+    s.iter().fold(u8::MAX, |least, byte| least.min(*byte)) != 0
 }
 
-// The lesser of two bytes.
-fn lesser(a: u8, b: u8) -> u8
-    ensures { result ≡ cond (ltb a b) a b }
+// The same by the first and the last so many bytes, which may overlap.
+fn are_both_non_zero(s: &[u8], first: usize, last: usize) -> bool
+    requires { (first ≤ length s.now) × (last ≤ length s.now) × (length s.now ≤ first + last) }
+    ensures { result ≡ all_non_zero s.now }
 {
-    if a < b { a } else { b }
+    are_non_zero(&s[..first]) && are_non_zero(&s[s.len() - last..])
 }
 
-// Whether no byte from one place up to another is zero. It goes by the least of them and does not stop at a zero, so that many are
-// looked at at once.
-fn are_non_zero(s: &[u8], from: usize, to: usize) -> bool
-    requires { (from ≤ to) × (to ≤ length s.now) }
-    ensures { result ≡ all_non_zero (slice from to s.now) }
+// Whether a code has no NUL. A code of four bytes or more is looked at in blocks of one size, of which the last may overlap the one
+// before it. The size is a constant for each range of lengths, so that a block is one step.
+fn is_code(code: &[u8]) -> bool
+    ensures { result ≡ all_non_zero code.now }
 {
-    let mut i = from;
-    let mut least: u8 = 255;
-    while i < to {
-        least = lesser(s[i], least);
-        i += 1;
+    match code.len() {
+        0..4 => are_non_zero(code),
+        4..8 => are_both_non_zero(code, 4, 4),
+        8..16 => are_both_non_zero(code, 8, 8),
+        16..32 => are_both_non_zero(code, 16, 16),
+        length => are_both_non_zero(code, length / 32 * 32, 32),
     }
-    0 < least
 }
 
-// The same by two parts that overlap or follow each other: up to `middle`, and from `back` on.
-fn are_both_non_zero(s: &[u8], from: usize, middle: usize, back: usize, to: usize) -> bool
-    requires { (from ≤ back) × (back ≤ middle) × (middle ≤ to) × (to ≤ length s.now) }
-    ensures { result ≡ all_non_zero (slice from to s.now) }
-{
-    if !are_non_zero(s, from, middle) {
-        return false;
-    }
-    are_non_zero(s, back, to)
-}
-
-// Whether a code, from one place up to another, has no NUL. A code of four bytes or more is looked at in blocks of one size, of which
-// the last may overlap the one before it. The size is a constant for each range of lengths, so that a block is one step.
-fn is_code(s: &[u8], from: usize, to: usize) -> bool
-    requires { (from ≤ to) × (to ≤ length s.now) }
-    ensures { result ≡ all_non_zero (slice from to s.now) }
-{
-    let length = to - from;
-    if length < 4 {
-        return are_non_zero(s, from, to);
-    }
-    if length < 8 {
-        return are_both_non_zero(s, from, from + 4, to - 4, to);
-    }
-    if length < 16 {
-        return are_both_non_zero(s, from, from + 8, to - 8, to);
-    }
-    if length < 32 {
-        return are_both_non_zero(s, from, from + 16, to - 16, to);
-    }
-    are_both_non_zero(s, from, from + length / 32 * 32, to - 32, to)
-}
-
-// The size of the record at a place, or 0 where no good record stands there.
-pub fn record_at(s: &[u8], at: usize) -> usize
+// The size of the record at a place, where a good one stands there.
+pub fn record_at(s: &[u8], at: usize) -> Option<usize>
     requires { at < length s.now }
     ensures { result ≡ good_size (drop at s.now) }
 {
     let left = s.len() - at;
     if left < LEAST_SIZE {
-        return 0;
+        return None;
     }
     let frame = records::read_frame(s, at);
     let size = records::record_size(frame);
     if !is_framed(left, size, frame.kind, words::read_le16(s, at + 4)) {
-        return 0;
+        return None;
     }
-    if !is_code(s, at + HEAD_SIZE, at + size) {
-        return 0;
+    if !is_code(&s[at + HEAD_SIZE..at + size]) {
+        return None;
     }
-    size
+    Some(size)
 }
 
 // Whether a record of this size, kind and flag can stand where so many bytes are left.
+#[tactic(auto, using(std::proofs::lemmas::Bool::Decides::nat_tests), unfolding(crate::specs::Inventory::code_limit))]
 fn is_framed(left: usize, size: usize, kind: u16, flag: u16) -> bool
     ensures { result ≡ framed_at left size kind flag }
 {
-    if size < LEAST_SIZE {
-        return false;
-    }
-    if MOST_SIZE < size {
-        return false;
-    }
-    if left < size {
-        return false;
-    }
-    if kind != ITEM_KIND {
-        return false;
-    }
-    flag <= 1
-}
-
-// Whether a record at a place has this flag and type.
-pub fn has_type(s: &[u8], at: usize, flag: u32, item_type: u32) -> bool
-    requires { Readable s.now at }
-    ensures { result ≡ matches flag item_type (first_record (drop at s.now)) }
-{
-    words::read_le16(s, at + 4) as u32 == flag && words::read_le32(s, at + 6) == item_type
+    size <= left && LEAST_SIZE <= size && size <= MOST_SIZE && kind == ITEM_KIND && flag <= 1
 }

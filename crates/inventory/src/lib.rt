@@ -7,10 +7,12 @@ mod locating;
 mod numbering;
 mod scanning;
 mod searching;
+mod wanted;
 
-pub use edition::{Edit, Edition};
+pub use edition::Edition;
 pub use judging::CODE_LIMIT;
 pub use locating::{Located, locate};
 pub use numbering::StartingNumber;
-pub use scanning::{Judgement, scan};
+pub use scanning::{Counted, scan};
 pub use searching::next_entry;
+pub use wanted::Wanted;

@@ -5,7 +5,7 @@ ghost use Rattle.records.specs.Records.{size_limit};
 ghost use Rattle.words.specs.Numbers.{be32, be_bytes};
 
 // The Starting Number: the number of the entry due. It counts from 1.
-#[derive(Clone, Copy)]
+#[derive(Clone, Copy, PartialEq, Eq)]
 pub struct StartingNumber(pub u32);
 
 impl StartingNumber {
@@ -37,13 +37,6 @@ impl StartingNumber {
         ensures { result ≡ eqb self.0 1 }
     {
         self.0 == 1
-    }
-
-    // Whether two numbers are the same.
-    pub fn is_same(self, other: StartingNumber) -> bool
-        ensures { result ≡ eqb self.0 other.0 }
-    {
-        self.0 == other.0
     }
 
     // Whether the entry due comes next once so many entries were passed.

@@ -4,17 +4,17 @@ ghost use Rattle.records.specs.Records.{records};
 ghost use Rattle.inventory.specs.Claims.Scanning.{ahead, GoodFrom};
 ghost use Rattle.inventory.specs.Claims.Search.{next_place, SearchAgrees, SearchWitness, OthersUnjudged};
 
-use crate::judging::has_type;
+use crate::wanted::Wanted;
 
 // The place of the next record of a flag and type, from a place on where good records stand and one of them is such. Of a record
 // of another flag or type only the head is read.
-pub fn next_entry(inventory: &[u8], flag: u32, item_type: u32, from: usize) -> usize
-    requires { GoodFrom flag item_type inventory.now from × (0 < length (ahead flag item_type inventory.now from)) }
-    ensures value { result ≡ next_place flag item_type from (records (drop from inventory.now)) }
+pub fn next_entry(inventory: &[u8], wanted: Wanted, from: usize) -> usize
+    requires { GoodFrom wanted.flag wanted.item_type inventory.now from × (0 < length (ahead wanted.flag wanted.item_type inventory.now from)) }
+    ensures value { result ≡ next_place wanted.flag wanted.item_type from (records (drop from inventory.now)) }
     ensures others { SearchAgrees × SearchWitness × OthersUnjudged }
 {
     let mut at = from;
-    while !has_type(inventory, at, flag, item_type) {
+    while !wanted.is_at(inventory, at) {
         at += records::record_size(records::read_frame(inventory, at));
     }
     at

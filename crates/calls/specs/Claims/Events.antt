@@ -1,9 +1,7 @@
 -- Events: calls of every kind and edits of the inventory, and how they leave a partition's reading (document 02, M-105).
-use Rattle.std.specs.Prelude.{ℕ, ◌+◌, cond, ◌&&◌, List, [], ◌∷◌, ◌++◌, eqb}
+use Rattle.std.specs.Prelude.{ℕ, ◌+◌, cond, ◌&&◌, List, [], ◌∷◌, ◌++◌, eqb, Option, None, Some}
 use Rattle.words.specs.Numbers.{Bytes}
 use Rattle.inventory.specs.declared.edition.Edition.{Edition}
-use Rattle.inventory.specs.declared.edition.Edit.{Edit}
-use Rattle.inventory.specs.declared.edition.Edit.TheVariants.{Taken, AtTop}
 use Rattle.inventory.specs.Edition.{edit_of}
 use Rattle.dump.specs.declared.registration.Registration.{Registration}
 use Rattle.calls.specs.Claims.Terms.{naming}
@@ -87,9 +85,9 @@ abbrev pub edited : Begun → Begun
 edited b = record { inventory = b.inventory; edition = b.edition; flag = b.flag; type = b.type; areas = b.areas; edits = b.edits + 1 }
 
 -- an edit that is taken, to any inventory, and one that is not
-abbrev pub after_edit : Standing → List ℕ → Edit → Standing
-after_edit st i (Taken e) = record { inventory = i; edition = e; reading = st.reading; begun = edited st.begun }
-after_edit st i AtTop = st
+abbrev pub after_edit : Standing → List ℕ → Option Edition → Standing
+after_edit st i (Some e) = record { inventory = i; edition = e; reading = st.reading; begun = edited st.begun }
+after_edit st i None = st
 
 abbrev pub after_event : Standing → Event → Standing
 after_event st (calls c) = after_call st c

@@ -1,8 +1,7 @@
 -- Terms of contracts inside the crate.
-use Rattle.std.specs.Prelude.{ℕ, ◌+◌, ◌-◌, ◌≤◌, ◌≡◌, true, false, List, length, drop}
+use Rattle.std.specs.Prelude.{ℕ, ◌+◌, ◌-◌, ◌≤◌, ◌≡◌, true, false, List, length, drop, Option, None, Some}
 use Rattle.records.specs.Records.{records, all_good}
-use Rattle.inventory.specs.declared.scanning.Judgement.{Judgement}
-use Rattle.inventory.specs.declared.scanning.Judgement.TheVariants.{Malformed, Counted}
+use Rattle.inventory.specs.declared.scanning.Counted.{Counted}
 use Rattle.inventory.specs.Inventory.{good_record, well_formed}
 use Rattle.inventory.specs.Listing.{listed}
 use Rattle.inventory.specs.Claims.Scanning.{ahead}
@@ -16,8 +15,8 @@ pub record ResumesAt (flag type : ℕ) (inventory : List ℕ) (passed at : ℕ) 
 
 -- The inventory is malformed; or the number of entries of the flag and type, and, if there is an entry due, a place from which on the list holds the
 -- entries from that one on.
-abbrev pub ScanFinds : ℕ → ℕ → ℕ → List ℕ → Judgement → Type 0
-ScanFinds flag type number inventory Malformed = well_formed inventory ≡ false
-ScanFinds flag type number inventory (Counted count at) =
-    (well_formed inventory ≡ true) × (count ≡ length (listed flag type inventory))
-    × (1 ≤ number → number ≤ count → ResumesAt flag type inventory (number - 1) at)
+abbrev pub ScanFinds : ℕ → ℕ → ℕ → List ℕ → Option Counted → Type 0
+ScanFinds flag type number inventory None = well_formed inventory ≡ false
+ScanFinds flag type number inventory (Some c) =
+    (well_formed inventory ≡ true) × (c.count ≡ length (listed flag type inventory))
+    × (1 ≤ number → number ≤ c.count → ResumesAt flag type inventory (number - 1) c.due)

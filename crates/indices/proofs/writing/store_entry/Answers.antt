@@ -4,6 +4,7 @@ use native.Mathlib.Omega.{arith}
 use Rattle.inventory.specs.Inner.Located.{entry_in}
 use Rattle.inventory.proofs.Codes.{code_in_word}
 use Rattle.inventory.proofs.LocatedLaws.{code_sized}
+use Rattle.words.proofs.Ranges.{range_from}
 use Rattle.indices.proofs.Writes.{entry_stored}
 use Rattle.indices.proofs.writing.store_entry.Goals as goal
 
@@ -13,6 +14,8 @@ overflow_cast-field c =
 
 pub returns : goal.returns
 returns c =
+    let entry = c.args.entry in
+    let sized = code_sized c.args.inventory.now entry c.requires.2 in
     c.store_zeros.ensures
-    ∙ rw (c.store_bytes.ensures, c.store_be32-2.ensures, c.store_be32.ensures, c.filled_size-field.ensures)
-    (entry_stored c.args.area.now c.args.to c.args.entry.length (entry_in c.args.inventory.now c.args.entry) (code_sized c.args.inventory.now c.args.entry c.requires.2))
+    ∙ rw (c.store.ensures, c.store_be32-2.ensures, c.store_be32.ensures, c.filled_size-field.ensures, range_from c.args.inventory.now entry.start entry.length, sized)
+    (entry_stored c.args.area.now c.args.to entry.length (entry_in c.args.inventory.now entry) sized)

@@ -7,7 +7,4 @@ use Rattle.indices.proofs.Writes.{Writing}
 use Rattle.indices.proofs.writing.write_entries.Given as goal
 
 abbrev pub invariant-loop-handed : goal.invariant-loop-handed
-invariant-loop-handed l = Writing l.initial.area (fitting (length l.initial.area - 4) (ahead l.flag l.item_type l.inventory l.from)) l.flag l.item_type l.count l.inventory l.area l.at l.to l.handed
-
-abbrev pub decreases-loop-handed : goal.decreases-loop-handed
-decreases-loop-handed l = l.count - l.handed
+invariant-loop-handed l = Writing l.initial.area (fitting (length l.initial.area - 4) (ahead l.wanted.flag l.wanted.item_type l.inventory l.from)) l.wanted.flag l.wanted.item_type l.count l.inventory l.area l.at l.to l.handed

@@ -1,22 +1,16 @@
 -- `judging::are_both_non_zero` meets its contract.
-use mathlib.Core.Path.{◌≡◌, sym, ◌∙◌}
-use mathlib.Core.Bool.{◌&&◌}
-use lib.Seq.{slice}
-use borrow.Author.Rules.{rules}
-use Rattle.inventory.specs.Inventory.{all_non_zero}
+use Rattle.std.proofs.Common.{◌-◌, ◌∙◌, length, sym, arith}
 use Rattle.inventory.proofs.Codes.{non_zero_parts}
 use Rattle.inventory.proofs.judging.are_both_non_zero.Goals as goal
 
-pub returns-then-not-are_non_zero : goal.returns-then-not-are_non_zero
-returns-then-not-are_non_zero c =
-    let parts : let s = c.args.s.now in all_non_zero (slice c.args.from c.args.to s) ≡ (c.are_non_zero.result && all_non_zero (slice c.args.back c.args.to s)) =
-    let a = c.args in
-    rw c.are_non_zero.ensures (non_zero_parts a.s.now a.from a.back a.middle a.to (search rules) (search rules) (search rules)) in
-    sym (parts ∙ rw (c.if-not-are_non_zero.true))
+pub returns-then-are_non_zero : goal.returns-then-are_non_zero
+returns-then-are_non_zero c =
+    let s = c.args.s.now in
+    let parts = non_zero_parts s c.args.first (length s - c.args.last) (omega arith) in
+    c.are_non_zero-then-are_non_zero.ensures ∙ sym (parts ∙ rw (← c.are_non_zero.ensures, c.if-are_non_zero.true))
 
-pub returns : goal.returns
-returns c =
-    let parts : let s = c.args.s.now in all_non_zero (slice c.args.from c.args.to s) ≡ (c.are_non_zero.result && all_non_zero (slice c.args.back c.args.to s)) =
-    let a = c.args in
-    rw c.are_non_zero.ensures (non_zero_parts a.s.now a.from a.back a.middle a.to (search rules) (search rules) (search rules)) in
-    c.are_non_zero-2.ensures ∙ sym (parts ∙ rw (c.if-not-are_non_zero.false))
+pub returns-else-are_non_zero : goal.returns-else-are_non_zero
+returns-else-are_non_zero c =
+    let s = c.args.s.now in
+    let parts = non_zero_parts s c.args.first (length s - c.args.last) (omega arith) in
+    sym (parts ∙ rw (← c.are_non_zero.ensures, c.if-are_non_zero.false))

@@ -3,8 +3,7 @@ use mathlib.Core.Path.{◌≡◌, refl, sym, ap, ◌∙◌}
 use mathlib.Core.Bool.{Bool, ◌&&◌, and-false}
 use Prim.Native.Nat.{◌+◌, ◌-◌, ◌≤◌}
 use native.Mathlib.Omega.{arith}
-use lib.ListN.{length, drop}
-use lib.Seq.{slice}
+use lib.ListN.{length, take, drop}
 use Rattle.records.specs.Records.{size_of}
 use Rattle.records.specs.declared.framing.Frame.{Frame}
 use Rattle.inventory.specs.Inventory.{code_limit, head_size, all_non_zero}
@@ -19,7 +18,7 @@ pub returns-then-not-is_framed : goal.returns-then-not-is_framed
 returns-then-not-is_framed c =
     let size_is : c.record_size-size.result ≡ size_of (drop c.args.at c.args.s.now) =
     c.record_size-size.ensures ∙ ap (λ (f : Frame). f.length + 2) c.read_frame-frame.ensures in
-    let judged : (code : Bool) → code ≡ all_non_zero (slice (c.args.at + head_size) (c.args.at + c.record_size-size.result) c.args.s.now) → good_here c.args.s.now c.args.at ≡ (c.is_framed.result && code) =
+    let judged : (code : Bool) → code ≡ all_non_zero (take (c.args.at + c.record_size-size.result - (c.args.at + head_size)) (drop (c.args.at + head_size) c.args.s.now)) → good_here c.args.s.now c.args.at ≡ (c.is_framed.result && code) =
     λ code z. good_read c.args.s.now c.args.at _ _ _ _ code (size_is) (ap (λ (f : Frame). f.kind) c.read_frame-frame.ensures) c.read_le16.ensures c.is_framed.ensures z in
     rw (judged _ refl, c.if-not-is_framed.true)
 
@@ -45,7 +44,7 @@ pub returns-then-not-is_code : goal.returns-then-not-is_code
 returns-then-not-is_code c =
     let size_is : c.record_size-size.result ≡ size_of (drop c.args.at c.args.s.now) =
     c.record_size-size.ensures ∙ ap (λ (f : Frame). f.length + 2) c.read_frame-frame.ensures in
-    let judged : (code : Bool) → code ≡ all_non_zero (slice (c.args.at + head_size) (c.args.at + c.record_size-size.result) c.args.s.now) → good_here c.args.s.now c.args.at ≡ (c.is_framed.result && code) =
+    let judged : (code : Bool) → code ≡ all_non_zero (take (c.args.at + c.record_size-size.result - (c.args.at + head_size)) (drop (c.args.at + head_size) c.args.s.now)) → good_here c.args.s.now c.args.at ≡ (c.is_framed.result && code) =
     λ code z. good_read c.args.s.now c.args.at _ _ _ _ code (size_is) (ap (λ (f : Frame). f.kind) c.read_frame-frame.ensures) c.read_le16.ensures c.is_framed.ensures z in
     rw (judged _ c.is_code.ensures, c.if-not-is_code.true, and-false)
 
@@ -53,7 +52,7 @@ pub returns : goal.returns
 returns c =
     let size_is : c.record_size-size.result ≡ size_of (drop c.args.at c.args.s.now) =
     c.record_size-size.ensures ∙ ap (λ (f : Frame). f.length + 2) c.read_frame-frame.ensures in
-    let judged : (code : Bool) → code ≡ all_non_zero (slice (c.args.at + head_size) (c.args.at + c.record_size-size.result) c.args.s.now) → good_here c.args.s.now c.args.at ≡ (c.is_framed.result && code) =
+    let judged : (code : Bool) → code ≡ all_non_zero (take (c.args.at + c.record_size-size.result - (c.args.at + head_size)) (drop (c.args.at + head_size) c.args.s.now)) → good_here c.args.s.now c.args.at ≡ (c.is_framed.result && code) =
     λ code z. good_read c.args.s.now c.args.at _ _ _ _ code (size_is) (ap (λ (f : Frame). f.kind) c.read_frame-frame.ensures) c.read_le16.ensures c.is_framed.ensures z in
     let good = judged _ c.is_code.ensures in
-    rw (good, c.if-not-is_framed.false, c.if-not-is_code.false) (size_is)
+    rw (good, c.if-not-is_framed.false, c.if-not-is_code.false, size_is)

@@ -4,8 +4,8 @@ use lib.ListN.{length}
 use Rattle.inventory.proofs.Search.{Sought}
 use Rattle.inventory.proofs.searching.next_entry.Given as goal
 
-abbrev pub invariant-loop-at : goal.invariant-loop-at
-invariant-loop-at l = Sought l.flag l.item_type l.inventory l.from l.at
+abbrev pub invariant-loop-wanted : goal.invariant-loop-wanted
+invariant-loop-wanted l = Sought l.wanted.flag l.wanted.item_type l.inventory l.from l.at
 
-abbrev pub decreases-loop-at : goal.decreases-loop-at
-decreases-loop-at l = length l.inventory - l.at
+abbrev pub decreases-loop-wanted : goal.decreases-loop-wanted
+decreases-loop-wanted l = length l.inventory - l.at

@@ -20,4 +20,4 @@ returns-then-rest-lt8 c =
 
 pub returns : goal.returns
 returns c =
-    record { value = rw c.read_be32.ensures (next_found c.args.area.now c.args.self _ _ _ c.if-left-eq0.false c.if-rest-lt8.false c.read_be32-n.ensures c.least.ensures c.find_nul-end.ensures); steps = steps_give }
+    record { value = rw c.read_be32.ensures (next_found c.args.area.now c.args.self _ _ _ c.if-left-eq0.false c.if-rest-lt8.false c.read_be32-n.ensures c.min.ensures c.until_nul-length.ensures); steps = steps_give }
