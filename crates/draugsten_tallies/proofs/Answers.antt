@@ -7,8 +7,9 @@ use native.Mathlib.Omega.{arith}
 use lib.Dec.{eqb}
 use lib.ListN.{length}
 use borrow.Author.Tests.{eq-eqb, ne_eqb}
-use Rattle.tallies.specs.declared.keeping.Outcome.{Outcome}
-use Rattle.tallies.specs.declared.keeping.Outcome.TheVariants.{Done, Malformed, NoRoom, Unfit}
+use Rattle.std.specs.Prelude.{Option, Some, None}
+use Rattle.tallies.specs.declared.keeping.Refusal.{Refusal}
+use Rattle.tallies.specs.declared.keeping.Refusal.TheVariants.{Malformed, NoRoom, Unfit}
 use Rattle.intake.specs.declared.bursts.Intake.{Intake}
 use Rattle.intake.specs.declared.bursts.Ending.{Ending}
 use Rattle.intake.specs.Bursts.{Bursts, end_of}
@@ -21,17 +22,15 @@ use Rattle.draugsten_tallies.proofs.IntakeCrossed.{returns}
 
 -- the number of the record at fault
 
-record_none : (o : Outcome) (n : ℕ) → outcome_number o ≡ 0 → record_by o n ≡ 0
-record_none Done n e = refl
-record_none Malformed n e = absurd (omega arith)
-record_none NoRoom n e = absurd (omega arith)
-record_none Unfit n e = absurd (omega arith)
+record_none : (o : Option Refusal) (n : ℕ) → outcome_number o ≡ 0 → record_by o n ≡ 0
+record_none None n e = refl
+record_none (Some Malformed) n e = absurd (omega arith)
+record_none (Some NoRoom) n e = absurd (omega arith)
+record_none (Some Unfit) n e = absurd (omega arith)
 
-record_some : (o : Outcome) (n : ℕ) → (outcome_number o ≡ 0 → ⊥) → record_by o n ≡ n
-record_some Done n f = absurd (f refl)
-record_some Malformed n f = refl
-record_some NoRoom n f = refl
-record_some Unfit n f = refl
+record_some : (o : Option Refusal) (n : ℕ) → (outcome_number o ≡ 0 → ⊥) → record_by o n ≡ n
+record_some None n f = absurd (f refl)
+record_some (Some r) n f = refl
 
 -- a state that came in by its flat form, refused or taken
 

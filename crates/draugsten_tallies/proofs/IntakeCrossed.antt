@@ -7,9 +7,10 @@ use native.Mathlib.Omega.{arith}
 use lib.Dec.{ltb, eqb}
 use lib.ListN.{length}
 use borrow.Author.Tests.{ltb-true, ltb-false, lt-ltb, le-ltb, eqb-true, ne_eqb}
+use Rattle.std.specs.Prelude.{Option, Some, None}
 use Rattle.words.proofs.Choice.{decide}
-use Rattle.tallies.specs.declared.keeping.Outcome.{Outcome}
-use Rattle.tallies.specs.declared.keeping.Outcome.TheVariants.{Done, Malformed, NoRoom, Unfit}
+use Rattle.tallies.specs.declared.keeping.Refusal.{Refusal}
+use Rattle.tallies.specs.declared.keeping.Refusal.TheVariants.{Malformed, NoRoom, Unfit}
 use Rattle.intake.specs.declared.bursts.Intake.{Intake}
 use Rattle.intake.specs.States.{ready_for}
 use Rattle.intake.proofs.Claims.{intake_claims}
@@ -21,11 +22,11 @@ use Rattle.draugsten_tallies.proofs.Crossed.{each_crosses}
 
 -- ---- the parts of an intake
 
-fault_returns : (o : Outcome) → fault_from (outcome_number o) ≡ o
-fault_returns Done = refl
-fault_returns Malformed = refl
-fault_returns NoRoom = refl
-fault_returns Unfit = refl
+fault_returns : (o : Option Refusal) → fault_from (outcome_number o) ≡ o
+fault_returns None = refl
+fault_returns (Some Malformed) = refl
+fault_returns (Some NoRoom) = refl
+fault_returns (Some Unfit) = refl
 
 pub each_intake_crosses : EachIntakeCrosses
 each_intake_crosses i =
@@ -43,11 +44,11 @@ pub returns : IntakeReturns
 returns i = rw (fault_returns i.place.fault)
 
 -- a number that comes in for a fault of a stream is that fault's own
-number_comes : (n : ℕ) → (fault_from n ≡ Unfit → ⊥) → n ≡ outcome_number (fault_from n)
+number_comes : (n : ℕ) → (fault_from n ≡ Some Unfit → ⊥) → n ≡ outcome_number (fault_from n)
 number_comes n real = decide (eqb n 0) (λ a. rw a (eqb-true n 0 a))
     (λ a. decide (eqb n 50) (λ b. rw (a, b) (eqb-true n 50 b)) (λ b. decide (eqb n 51) (λ c. rw (a, b, c) (eqb-true n 51 c)) (λ c. absurd (real (rw (a, b, c))))))
 
-number_of : (n : ℕ) (o : Outcome) → (outcome_number o ≡ 52 → ⊥) → fault_from n ≡ o → n ≡ outcome_number o
+number_of : (n : ℕ) (o : Option Refusal) → (outcome_number o ≡ 52 → ⊥) → fault_from n ≡ o → n ≡ outcome_number o
 number_of n o some e = number_comes n (λ u. some (ap outcome_number (sym e ∙ u))) ∙ ap outcome_number e
 
 pub each_intake_comes : EachIntakeComes
@@ -55,9 +56,9 @@ each_intake_comes f = record {
   journal = each_crosses (tallied_from f.journal);
   number = refl;
   held = refl;
-  none = (number_of f.fault Done (λ z. omega arith), λ e. ap fault_from e);
-  malformed = (number_of f.fault Malformed (λ z. omega arith), λ e. ap fault_from e);
-  no_room = (number_of f.fault NoRoom (λ z. omega arith), λ e. ap fault_from e);
+  none = (number_of f.fault None (λ z. omega arith), λ e. ap fault_from e);
+  malformed = (number_of f.fault (Some Malformed) (λ z. omega arith), λ e. ap fault_from e);
+  no_room = (number_of f.fault (Some NoRoom) (λ z. omega arith), λ e. ap fault_from e);
 }
 
 pub faults_taken : FaultsTaken

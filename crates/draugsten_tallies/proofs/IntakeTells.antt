@@ -8,9 +8,10 @@ use lib.Dec.{eqb}
 use lib.ListN.{length, take}
 use lib.Seq.{length-take-le}
 use borrow.Author.Tests.{le-leb, ne_eqb}
+use Rattle.std.specs.Prelude.{is_some}
 use Rattle.words.proofs.Choice.{decide}
 use Rattle.records.specs.Cutting.{due, ripe, Standing}
-use Rattle.tallies.specs.Keeping.{is_done, one_record}
+use Rattle.tallies.specs.Keeping.{one_record}
 use Rattle.tallies.proofs.Outcomes.{attach_judged}
 use Rattle.tallies.proofs.KeptLaws.{counted_fits}
 use Rattle.intake.specs.Taking.{good_front, Taking}
@@ -41,7 +42,7 @@ journal_changed buffer bufferThen store f t e fit =
     (each_state bufferThen store (intake_from (record { journal = t; number = f.number; held = f.held; fault = f.fault }))).taken.1
     (record { room = r.room; inside = r.inside; raw = r.raw; quiet = r.quiet; numbered = r.numbered; fit = fit; real = r.real })
 
-fault_not_done : (n : ℕ) → (n ≡ 0 → ⊥) → is_done (fault_from n) ≡ false
+fault_not_done : (n : ℕ) → (n ≡ 0 → ⊥) → is_some (fault_from n) ≡ true
 fault_not_done n some = rw (ne_eqb n 0 some) (decide (eqb n 50) (λ a. rw a) (λ a. decide (eqb n 51) (λ b. rw (a, b)) (λ b. rw (a, b))))
 
 -- held bytes that are due are no unfinished record

@@ -1,10 +1,10 @@
 -- Tallies and what is kept of a journal, as they cross the C boundary (document 02, M-106).
-use Rattle.std.specs.Prelude.{ℕ, Bool, cond, List}
+use Rattle.std.specs.Prelude.{ℕ, Bool, cond, List, Option, Some, None}
 use Rattle.journal.specs.declared.counts.Counts.{Counts}
 use Rattle.tallies.specs.declared.tallies.Tallies.{Tallies}
 use Rattle.tallies.specs.declared.keeping.Tallied.{Tallied}
-use Rattle.tallies.specs.declared.keeping.Outcome.{Outcome}
-use Rattle.tallies.specs.declared.keeping.Outcome.TheVariants.{Done, Malformed, NoRoom, Unfit}
+use Rattle.tallies.specs.declared.keeping.Refusal.{Refusal}
+use Rattle.tallies.specs.declared.keeping.Refusal.TheVariants.{Malformed, NoRoom, Unfit}
 use Rattle.tallies.specs.Keeping.{Left}
 use Rattle.draugsten_tallies.specs.declared.flat.FlatCounts.{FlatCounts}
 use Rattle.draugsten_tallies.specs.declared.flat.FlatTallies.{FlatTallies}
@@ -29,11 +29,11 @@ abbrev pub tallied_from : FlatTallied → Tallied
 tallied_from f = record { used = f.used; tallies = tallies_from f.tallies }
 
 -- 0 done, 50 malformed, 51 no room, 52 a use or a count that no journal in the buffer has
-abbrev pub outcome_number : Outcome → ℕ
-outcome_number Done = 0
-outcome_number Malformed = 50
-outcome_number NoRoom = 51
-outcome_number Unfit = 52
+abbrev pub outcome_number : Option Refusal → ℕ
+outcome_number None = 0
+outcome_number (Some Malformed) = 50
+outcome_number (Some NoRoom) = 51
+outcome_number (Some Unfit) = 52
 
 abbrev pub good_number : Bool → ℕ
 good_number good = cond good 0 50

@@ -1,7 +1,7 @@
 -- Intakes as they cross the C boundary (document 02, M-109).
-use Rattle.std.specs.Prelude.{ℕ, ◌≡◌, cond, List, ltb, eqb, length}
-use Rattle.tallies.specs.declared.keeping.Outcome.{Outcome}
-use Rattle.tallies.specs.declared.keeping.Outcome.TheVariants.{Done, Malformed, NoRoom, Unfit}
+use Rattle.std.specs.Prelude.{ℕ, ◌≡◌, cond, List, ltb, eqb, length, Option, Some, None}
+use Rattle.tallies.specs.declared.keeping.Refusal.{Refusal}
+use Rattle.tallies.specs.declared.keeping.Refusal.TheVariants.{Malformed, NoRoom, Unfit}
 use Rattle.intake.specs.declared.bursts.Intake.{Intake}
 use Rattle.intake.specs.declared.bursts.Ending.{Ending}
 use Rattle.intake.specs.declared.bursts.Ending.TheVariants as ending
@@ -14,8 +14,8 @@ use Rattle.draugsten_tallies.specs.Flat.{flat_tallied, tallied_from, outcome_num
 
 -- ---- the state
 
-abbrev pub fault_from : ℕ → Outcome
-fault_from n = cond (eqb n 0) Done (cond (eqb n 50) Malformed (cond (eqb n 51) NoRoom Unfit))
+abbrev pub fault_from : ℕ → Option Refusal
+fault_from n = cond (eqb n 0) None (cond (eqb n 50) (Some Malformed) (cond (eqb n 51) (Some NoRoom) (Some Unfit)))
 
 abbrev pub flat_intake : Intake → FlatIntake
 flat_intake i = record { journal = flat_tallied i.place.journal; number = i.place.number; held = i.held; fault = outcome_number i.place.fault }

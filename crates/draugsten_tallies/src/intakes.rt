@@ -9,7 +9,7 @@ ghost use Rattle.draugsten_tallies.specs.Promises.{IntakePromise};
 use crate::flat::{FlatTallied, flat_tallied, tallied_from};
 use crate::keeping::outcome_number;
 use intake::{Ending, Intake, Place};
-use tallies::Outcome;
+use tallies::Refusal;
 
 // No record is longer than the store that has to hold it.
 const STORE_SIZE: usize = 32_808;
@@ -43,19 +43,15 @@ pub struct FlatEnd {
 }
 
 // A number that is none of a fault is taken for one that no stream has.
-fn fault_from(number: u32) -> Outcome
+fn fault_from(number: u32) -> Option<Refusal>
     ensures { result ≡ fault_from number }
 {
-    if number == 0 {
-        return Outcome::Done;
+    match number {
+        0 => None,
+        50 => Some(Refusal::Malformed),
+        51 => Some(Refusal::NoRoom),
+        _ => Some(Refusal::Unfit),
     }
-    if number == 50 {
-        return Outcome::Malformed;
-    }
-    if number == 51 {
-        return Outcome::NoRoom;
-    }
-    Outcome::Unfit
 }
 
 fn intake_from(f: FlatIntake) -> Intake
@@ -75,12 +71,11 @@ fn flat_intake(i: Intake) -> FlatIntake
     ensures { result ≡ flat_intake i }
 {
     let place = i.place;
-    let fault = place.fault;
     FlatIntake {
         journal: flat_tallied(place.journal),
         number: place.number,
         held: i.held,
-        fault: outcome_number(fault),
+        fault: outcome_number(place.fault),
     }
 }
 
@@ -102,12 +97,9 @@ fn state_number(store: &[u8], size: usize, from: Intake) -> u32
 fn record_for(place: Place) -> u64
     ensures { result ≡ record_for place }
 {
-    let fault = place.fault;
-    match fault {
-        Outcome::Done => 0,
-        Outcome::Malformed => place.number,
-        Outcome::NoRoom => place.number,
-        Outcome::Unfit => place.number,
+    match place.fault {
+        None => 0,
+        Some(_) => place.number,
     }
 }
 
@@ -169,9 +161,8 @@ pub extern "C" fn draugsten_intake_burst(
     }
     let next = intake::burst(buffer, store, from, bytes);
     let place = next.place;
-    let fault = place.fault;
     FlatBurst {
-        number: outcome_number(fault),
+        number: outcome_number(place.fault),
         in_record: record_for(place),
         intake: flat_intake(next),
     }

@@ -1,12 +1,13 @@
 // A journal with its tallies over the C boundary.
-ghost use Rattle.std.specs.Prelude.{◌≡◌};
-ghost use Rattle.tallies.specs.Keeping.{nothing, append_of, join_of};
-ghost use Rattle.tallies.specs.Tallies.{recount_for};
+ghost use Rattle.std.specs.Prelude.{◌≡◌, ℕ, List, is_some};
+ghost use Rattle.std.specs.Option.{unwrap_or};
+ghost use Rattle.tallies.specs.Keeping.{nothing, leaves, append_of, join_of};
+ghost use Rattle.tallies.specs.Tallies.{no_tallies, recount_for};
 ghost use Rattle.draugsten_tallies.specs.Flat.{flat_tallied, tallied_from, flat_tallies, outcome_number, good_number, flat_leaves, flat_left};
 ghost use Rattle.draugsten_tallies.specs.Promises.{TalliesPromise, JoinPromise, RecountPromise};
 
 use crate::flat::{FlatTallied, FlatTallies, flat_tallied, flat_tallies, tallied_from};
-use tallies::{Kept, Outcome};
+use tallies::{Refusal, Tallied};
 
 // What an operation answers: 0 or the number of its refusal, and the journal's use and tallies afterwards.
 #[repr(C)]
@@ -24,25 +25,31 @@ pub struct FlatRecount {
     pub tallies: FlatTallies,
 }
 
-pub fn outcome_number(outcome: Outcome) -> u32
+// 0 where nothing was refused, else the number of the refusal.
+pub fn outcome_number(outcome: Option<Refusal>) -> u32
     ensures { result ≡ outcome_number outcome }
 {
     match outcome {
-        Outcome::Done => 0,
-        Outcome::Malformed => 50,
-        Outcome::NoRoom => 51,
-        Outcome::Unfit => 52,
+        None => 0,
+        Some(Refusal::Malformed) => 50,
+        Some(Refusal::NoRoom) => 51,
+        Some(Refusal::Unfit) => 52,
     }
 }
 
-fn flat_kept(kept: Kept) -> FlatKept
-    ensures { (result.number ≡ outcome_number kept.outcome) × (result.journal ≡ flat_tallied kept.next) }
+// The answer of an operation on a journal, which a refusal hands back as it came.
+fn flat_kept(journal: FlatTallied, kept: Result<Tallied, Refusal>) -> FlatKept
+    ensures { (buffer : List ℕ) → flat_leaves result.number buffer result.journal ≡ flat_left (leaves buffer (tallied_from journal) kept) }
 {
-    let outcome = kept.outcome;
-    let next = kept.next;
-    FlatKept {
-        number: outcome_number(outcome),
-        journal: flat_tallied(next),
+    match kept {
+        Ok(next) => FlatKept {
+            number: 0,
+            journal: flat_tallied(next),
+        },
+        Err(refusal) => FlatKept {
+            number: outcome_number(Some(refusal)),
+            journal,
+        },
     }
 }
 
@@ -62,6 +69,7 @@ pub extern "C" fn draugsten_tallies_cleared() -> FlatTallied
 }
 
 // The bytes of one record, put behind the bytes in use of the journal's buffer and counted.
+#[tactic(auto, using(crate::proofs::Promises::tallies_promise))]
 #[unsafe(no_mangle)]
 pub extern "C" fn draugsten_tallies_append(
     buffer: &mut [u8],
@@ -72,7 +80,7 @@ pub extern "C" fn draugsten_tallies_append(
         (append_of buffer.old (tallied_from journal) bytes.now) }
     ensures promise { TalliesPromise }
 {
-    flat_kept(tallies::append(buffer, tallied_from(journal), bytes))
+    flat_kept(journal, tallies::append(buffer, tallied_from(journal), bytes))
 }
 
 // A whole journal, put behind the bytes in use of the journal's buffer and counted.
@@ -86,20 +94,21 @@ pub extern "C" fn draugsten_tallies_join(
         (join_of buffer.old (tallied_from journal) part.now) }
     ensures promise { JoinPromise }
 {
-    flat_kept(tallies::join(buffer, tallied_from(journal), part))
+    flat_kept(journal, tallies::join(buffer, tallied_from(journal), part))
 }
 
 // The tallies of a journal, counted anew.
+#[tactic(auto, using(crate::proofs::Promises::recount_promise))]
 #[unsafe(no_mangle)]
 pub extern "C" fn draugsten_tallies_recount(journal: &[u8]) -> FlatRecount
-    ensures number_value { (result.number ≡ good_number (recount_for journal.now).good) ×
-        (result.tallies ≡ flat_tallies (recount_for journal.now).tallies) }
+    ensures number_value { (result.number ≡ good_number (is_some (recount_for journal.now))) ×
+        (result.tallies ≡ flat_tallies (unwrap_or (recount_for journal.now) no_tallies)) }
     ensures promise { RecountPromise }
 {
     let counted = tallies::recount(journal);
-    let tallies = counted.tallies;
+    let none = tallies::cleared().tallies;
     FlatRecount {
-        number: good_number(counted.good),
-        tallies: flat_tallies(tallies),
+        number: good_number(counted.is_some()),
+        tallies: flat_tallies(counted.unwrap_or(none)),
     }
 }

@@ -1,6 +1,6 @@
 -- What is claimed of an intake: the laws of cutting over any reader, for this one, and what bursts leave of the journal.
 use mathlib.Core.Path.{◌≡◌, refl, ap, ◌∙◌}
-use mathlib.Core.Bool.{true, false, cond, not, and-false}
+use mathlib.Core.Bool.{true, false, cond, and-false}
 use mathlib.Core.List.{List, [], ◌∷◌, ◌++◌}
 use mathlib.Core.Logic.{⊎_elim}
 use Prim.Native.Nat.{ℕ, zero, suc, ◌+◌, ◌-◌, ◌≤◌, ◌<◌}
@@ -32,7 +32,7 @@ bursts_join : BurstsJoin
 bursts_join w a b = fed_append reader sticky w a b
 
 stops_for_good : StopsForGood
-stops_for_good s b n = fed_stopped reader sticky (start s) b (ap not (not_done s.fault n))
+stops_for_good s b n = fed_stopped reader sticky (start s) b (not_done s.fault n)
 
 -- ---- the record in front: too short to judge, whole or waiting behind a good front, refused by a bad one
 

@@ -1,14 +1,14 @@
 -- Stretches of good records that held bytes begin: none, gone on with, begun by a held record, and taken.
 use mathlib.Core.Path.{◌≡◌, refl, sym, ap, ap₂, ◌∙◌}
-use mathlib.Core.Bool.{true, true≢false}
+use mathlib.Core.Bool.{true, false}
 use mathlib.Core.List.{List, [], ◌++◌, append_assoc}
 use Prim.Native.Nat.{ℕ, ◌+◌, ◌-◌, ◌<◌, ◌≤◌, min}
 use native.Mathlib.Omega.{arith}
 use lib.Dec.{leb}
 use lib.ListN.{length, take, length-append, length-take}
-use lib.Seq.{sets, length-sets, length-take-le, take-length, take_at, take-add, take-take, take-append-add}
+use lib.Seq.{sets, length-sets, length-take-le, take_at, take-add, take-take, take-append-add}
 use borrow.Author.Tests.{leb-true}
-use Rattle.std.specs.Prelude.{Option, Some}
+use Rattle.std.specs.Prelude.{Option, Some, None, is_some}
 use Rattle.words.proofs.Choice.{and_left, and_right}
 use Rattle.words.proofs.Stores.{sets_behind}
 use Rattle.records.specs.Records.{size_of, length_of, kind_of, first_record, records, whole, all_good, size_limit}
@@ -32,10 +32,9 @@ use Rattle.stretch.proofs.Adding.{node_adds, adds_few, packed_join, packed_none}
 use Rattle.stretch.proofs.Going.{shape_known}
 use Rattle.tallies.specs.declared.tallies.Tallies.{Tallies}
 use Rattle.tallies.specs.declared.keeping.Tallied.{Tallied}
-use Rattle.tallies.specs.declared.keeping.Outcome.{Outcome}
-use Rattle.tallies.specs.declared.keeping.Outcome.TheVariants as outcome
+use Rattle.tallies.specs.declared.keeping.Refusal.{Refusal}
 use Rattle.tallies.specs.Tallies.{recount_of, tally_sum}
-use Rattle.tallies.specs.Keeping.{fits, is_done}
+use Rattle.tallies.specs.Keeping.{fits}
 use Rattle.tallies.specs.Inner.Weighing.{tallies_from, extended_by, Extends}
 use Rattle.tallies.proofs.Recounts.{packed_recount}
 use Rattle.intake.specs.declared.taking.Place.{Place}
@@ -184,11 +183,9 @@ module _ {store : List ℕ} {held : ℕ} {bytes after : List ℕ} (k : Stored st
 
 -- ---- taken
 
-told_done : (o : Outcome) → is_done o ≡ true → o ≡ outcome.Done
-told_done outcome.Done e = refl
-told_done outcome.Malformed e = absurd (true≢false (sym e))
-told_done outcome.NoRoom e = absurd (true≢false (sym e))
-told_done outcome.Unfit e = absurd (true≢false (sym e))
+told_done : (o : Option Refusal) → is_some o ≡ false → o ≡ None
+told_done None e = refl
+told_done (Some r) e = cc
 
 module _ {buffer held : List ℕ} {from : Place} {bytes : List ℕ} {s : Stretch} (t : Takeable buffer held from bytes s) where
   abbrev used : ℕ
@@ -233,14 +230,14 @@ module _ {buffer held : List ℕ} {from : Place} {bytes : List ℕ} {s : Stretch
     roomy : Roomy (taking_of buffer from) part
     roomy = record { going = told_done from.fault t.going; narrow = narrow; fit = t.fit; lent = omega (arith, room_behind_lem, part_long); limited = λ h. omega (arith, t.room, part_long) }
 
-    pub stretch_taken : (one after : List ℕ) → one ≡ sets buffer used (take (length held) held) → after ≡ sets one (used + length held) (take s.end bytes)
+    pub stretch_taken : (one after : List ℕ) → one ≡ sets buffer used held → after ≡ sets one (used + length held) (take s.end bytes)
         → (j : Tallied) → j ≡ extended_by from.journal (length held + s.end) s.counts → (n : ℕ) → n ≡ capped (from.number + s.records)
         → TakesStretch buffer held from bytes after (record { place = record { journal = j; number = n; fault = from.fault }; at = s.end })
     stretch_taken one after e f j g n k = record {
       place = t.covers.inside;
       good = t.covers.good;
       same =
-          let bytes_are : after ≡ sets buffer used part = f ∙ rw (e, take-length held) (sets_behind buffer used (used + length held) held (take s.end bytes) refl) in
+          let bytes_are : after ≡ sets buffer used part = f ∙ rw e (sets_behind buffer used (used + length held) held (take s.end bytes) refl) in
           let counted = ap tallies_from t.covers.counts ∙ packed_recount part (omega (arith, t.room, part_long)) in
           let journal_is : j ≡ grown (length part) (recount_of part) = g ∙ ap₂ grown (sym part_long) counted in
           rw (bytes_are, journal_is, k, t.covers.number) (sym (run_good (taking_of buffer from) part t.covers.good roomy));

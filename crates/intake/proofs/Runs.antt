@@ -8,6 +8,7 @@ use native.Mathlib.Omega.{arith}
 use lib.ListN.{length, take, drop, length-append, length-drop, take-append-drop}
 use lib.Seq.{sets, length-sets}
 use borrow.Author.Tests.{le-leb}
+use Rattle.std.specs.Prelude.{None}
 use Rattle.words.proofs.Choice.{and_left}
 use Rattle.words.proofs.Stores.{sets_append}
 use Rattle.records.specs.Records.{size_of, first_record, records, whole, all_good}
@@ -19,7 +20,6 @@ use Rattle.records.proofs.Whole.{records_front, records_none, first_good, later_
 use Rattle.journal.specs.Journal.{good_record}
 use Rattle.journal.proofs.Joins.{one_formed}
 use Rattle.tallies.specs.declared.tallies.Tallies.{Tallies}
-use Rattle.tallies.specs.declared.keeping.Outcome.TheVariants as outcome
 use Rattle.tallies.specs.Tallies.{no_tallies, recount_of, tally_sum}
 use Rattle.tallies.specs.Keeping.{fits, has_room, one_record, outcome_of, attached}
 use Rattle.tallies.proofs.Joins.{recount_none, recount_join}
@@ -41,7 +41,7 @@ behind s p =
 
 -- a use above a journal's limit has room for no byte
 pub record Roomy (s : Taking) (p : List ℕ) : Type 0 where
-  pub going : s.fault ≡ outcome.Done
+  pub going : s.fault ≡ None
   pub narrow : s.number ≤ 0xffff_ffff_ffff_ffff
   pub fit : fits (length s.buffer) s.journal ≡ true
   pub lent : s.journal.used + length p ≤ length s.buffer

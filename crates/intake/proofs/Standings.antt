@@ -1,21 +1,21 @@
 -- Laws of the places that the code of a burst comes to, with no paths into it.
 use mathlib.Core.Path.{◌≡◌, refl, sym, ap, ◌∙◌}
-use mathlib.Core.Bool.{true, false, not, true≢false}
+use mathlib.Core.Bool.{true, false}
 use mathlib.Core.List.{List, [], ◌∷◌, ◌++◌}
 use Prim.Native.Nat.{ℕ, ◌+◌, ◌-◌, ◌<◌, ◌≤◌}
 use native.Mathlib.Omega.{arith}
 use lib.ListN.{length, take, drop, length-drop}
 use lib.Seq.{sets, length-take-le}
 use borrow.Author.Tests.{eq-eqb, ne_eqb}
+use Rattle.std.specs.Prelude.{Option, Some, None, is_some}
 use Rattle.words.proofs.Choice.{decide}
 use Rattle.records.specs.Cutting.{due, ripe, Standing, start, fed}
 use Rattle.records.specs.Inner.Filling.{Filled}
 use Rattle.records.proofs.Due.{nothing_raw}
 use Rattle.records.proofs.Behind.{left_of_lem, ripe_at}
 use Rattle.records.proofs.Holding.{part_over, part_held, Gathered, gathered_of, gathered_held, gathered_done, raw_then, none_then, small_then}
-use Rattle.tallies.specs.declared.keeping.Outcome.{Outcome}
-use Rattle.tallies.specs.declared.keeping.Outcome.TheVariants as outcome
-use Rattle.tallies.specs.Keeping.{is_done}
+use Rattle.tallies.specs.declared.keeping.Refusal.{Refusal}
+use Rattle.tallies.specs.declared.keeping.Refusal.TheVariants as refusal
 use Rattle.intake.specs.declared.taking.Place.{Place}
 use Rattle.intake.specs.declared.bursts.Intake.{Intake}
 use Rattle.intake.specs.declared.bursts.Finished.{Finished}
@@ -33,19 +33,19 @@ use Rattle.intake.proofs.Completing.{sets_back, finished_none, finished_some}
 
 pub start_ready : StartReady
 start_ready buffer store t l e =
-    (record { room = l; inside = omega arith; raw = nothing_raw good_front; quiet = λ _. refl; numbered = omega arith; fit = e; real = λ u. true≢false (ap is_done u) }, refl)
+    (record { room = l; inside = omega arith; raw = nothing_raw good_front; quiet = λ _. refl; numbered = omega arith; fit = e; real = λ u. cc }, refl)
 
 -- ---- the end
 
-module _ (fault : Outcome) (number held : ℕ) where
-  pub end_is : (o : Outcome) → fault ≡ o → end_for o number held ≡ end_for fault number held
-  end_is o e = ap (λ (x : Outcome). end_for x number held) (sym e)
+module _ (fault : Option Refusal) (number held : ℕ) where
+  pub end_is : (o : Option Refusal) → fault ≡ o → end_for o number held ≡ end_for fault number held
+  end_is o e = ap (λ (x : Option Refusal). end_for x number held) (sym e)
 
-  pub end_nothing : fault ≡ outcome.Done → held ≡ 0 → ending.Nothing ≡ end_for fault number held
-  end_nothing e z = rw (eq-eqb held 0 z) at (end_is outcome.Done e)
+  pub end_nothing : fault ≡ None → held ≡ 0 → ending.Nothing ≡ end_for fault number held
+  end_nothing e z = rw (eq-eqb held 0 z) at (end_is None e)
 
-  pub end_unfinished : fault ≡ outcome.Done → (held ≡ 0 → ⊥) → ending.Unfinished number ≡ end_for fault number held
-  end_unfinished e z = rw (ne_eqb held 0 z) at (end_is outcome.Done e)
+  pub end_unfinished : fault ≡ None → (held ≡ 0 → ⊥) → ending.Unfinished number ≡ end_for fault number held
+  end_unfinished e z = rw (ne_eqb held 0 z) at (end_is None e)
 
 -- no length, no bytes
 length-zero : (l : List ℕ) → length l ≡ 0 → l ≡ []
@@ -60,8 +60,8 @@ each_end w =
     record {
       nothing = λ e z. sym (end_nothing fault number held e (ap length z));
       unfinished = λ e z. sym (end_unfinished fault number held e (λ l. z (length-zero w.held l)));
-      malformed = λ e. sym (end_is fault number held outcome.Malformed e);
-      no_room = λ e. sym (end_is fault number held outcome.NoRoom e);
+      malformed = λ e. sym (end_is fault number held (Some refusal.Malformed) e);
+      no_room = λ e. sym (end_is fault number held (Some refusal.NoRoom) e);
     }
 
 pub end_tells : EndTells
@@ -80,16 +80,16 @@ pub pass_starts : (buffer : List ℕ) (from : Passed) (bytes : List ℕ) → fro
 pass_starts buffer from bytes l k = record { place = l; size = refl; sound = k; same = refl }
 
 module _ {buffer : List ℕ} {from : Passed} {bytes bufferNow : List ℕ} {p : Place} {i : ℕ} (now : Passing buffer from bytes bufferNow p i) where
-  pub pass_over : is_done p.fault ≡ false → Passes buffer from bytes bufferNow (record { place = p; at = length bytes })
+  pub pass_over : is_some p.fault ≡ true → Passes buffer from bytes bufferNow (record { place = p; at = length bytes })
   pass_over e = record {
     place = omega arith;
-    same = now.same ∙ part_over reader sticky bytes i (taking_of bufferNow p) (ap not e);
+    same = now.same ∙ part_over reader sticky bytes i (taking_of bufferNow p) e;
   }
 
-  pub pass_held : is_done p.fault ≡ true → (n : ℕ) → n ≡ ripe_at good_front (drop i bytes) (ripe good_front (drop i bytes)) → n ≡ 0 → Passes buffer from bytes bufferNow (record { place = p; at = i })
+  pub pass_held : is_some p.fault ≡ false → (n : ℕ) → n ≡ ripe_at good_front (drop i bytes) (ripe good_front (drop i bytes)) → n ≡ 0 → Passes buffer from bytes bufferNow (record { place = p; at = i })
   pass_held e n d z = record {
     place = now.place;
-    same = now.same ∙ part_held reader sticky bytes i n d z (taking_of bufferNow p) (ap not e);
+    same = now.same ∙ part_held reader sticky bytes i n d z (taking_of bufferNow p) e;
   }
 
   pub pass_on : {bufferThen : List ℕ} {r : Passed} → Advances bufferNow (record { place = p; at = i }) bytes bufferThen r → length bufferThen ≡ length bufferNow → Passing buffer from bytes bufferThen r.place r.at
@@ -101,8 +101,8 @@ module _ {buffer store : List ℕ} {i : Intake} (ready : Ready buffer store i) w
   pub ready_sound : Sound (taking_of buffer i.place)
   ready_sound = record { numbered = ready.numbered; fit = ready.fit; real = ready.real }
 
-  still_going : (i.held ≡ 0 → ⊥) → is_done i.place.fault ≡ true
-  still_going z = decide (is_done i.place.fault) (λ e. e) (λ e. absurd (z (ready.quiet e)))
+  still_going : (i.held ≡ 0 → ⊥) → is_some i.place.fault ≡ false
+  still_going z = decide (is_some i.place.fault) (λ e. absurd (z (ready.quiet e))) (λ e. e)
 
   pub gathers : (bytes two : List ℕ) (k : ℕ) → (i.held ≡ 0 → ⊥) → length two ≡ length store → Filled store i.held bytes 0 (due good_front (take i.held store ++ bytes)) two k
       → Gathered good_front store i.held bytes two k
@@ -133,7 +133,7 @@ module _ {buffer store : List ℕ} {i : Intake} (ready : Ready buffer store i) w
         size = g.size;
         whole = finishes g;
         sound = ready_sound;
-        still = λ _. gathered_held reader sticky ready.inside g n e (taking_of buffer i.place) z (ap not (still_going g.some));
+        still = λ _. gathered_held reader sticky ready.inside g n e (taking_of buffer i.place) z (still_going g.some);
         past = λ o. absurd (g.some (omega arith));
       }
 
@@ -170,7 +170,7 @@ module _ {buffer store : List ℕ} {i : Intake} (ready : Ready buffer store i) w
             inside = l;
             raw = raw_then reader (standing_of buffer store i) bytes (take r.held storeThen) held_is ready.raw;
             quiet = λ q.
-                let over : stopped Now.state ≡ true = ap (λ (x : Standing Taking). stopped x.state) (sym e) ∙ ap not q in
+                let over : stopped Now.state ≡ true = ap (λ (x : Standing Taking). stopped x.state) (sym e) ∙ q in
                 omega (arith, length-take-le r.held storeThen l, none_then reader (standing_of buffer store i) bytes (take r.held storeThen) held_is over);
           };
         }

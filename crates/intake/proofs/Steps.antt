@@ -1,6 +1,6 @@
 -- Laws of what a record of the stream does, and of what a run of records leaves of the journal and of an intake that fits its buffer.
 use mathlib.Core.Path.{◌≡◌, refl, sym, ap, ◌∙◌}
-use mathlib.Core.Bool.{true, false, cond, not, true≢false}
+use mathlib.Core.Bool.{true, false, cond, true≢false}
 use mathlib.Core.List.{List, [], ◌∷◌}
 use mathlib.Core.Logic.{inl, inr, ⊎_elim}
 use Prim.Native.Nat.{ℕ, ◌+◌, ◌≤◌, ◌<◌}
@@ -9,16 +9,16 @@ use lib.Dec.{leb}
 use lib.ListN.{length}
 use lib.Seq.{length-sets}
 use borrow.Author.Tests.{le-leb}
+use Rattle.std.specs.Prelude.{Option, Some, None, is_some, is_none, Result, Ok, Err}
 use Rattle.words.proofs.Choice.{decide, and_right}
 use Rattle.records.specs.Cutting.{Sticky, run, Standing, fed, standing}
 use Rattle.journal.specs.declared.counts.Counts.{Counts}
 use Rattle.tallies.specs.declared.tallies.Tallies.{Tallies}
 use Rattle.tallies.specs.declared.keeping.Tallied.{Tallied}
-use Rattle.tallies.specs.declared.keeping.Kept.{Kept}
-use Rattle.tallies.specs.declared.keeping.Outcome.{Outcome}
-use Rattle.tallies.specs.declared.keeping.Outcome.TheVariants as outcome
+use Rattle.tallies.specs.declared.keeping.Refusal.{Refusal}
+use Rattle.tallies.specs.declared.keeping.Refusal.TheVariants as refusal
 use Rattle.tallies.specs.Tallies.{recount_of, count_sum, tally_sum, counts_within, tallies_within}
-use Rattle.tallies.specs.Keeping.{Left, leaves, fits, is_done, one_record, outcome_of, attached, append_of}
+use Rattle.tallies.specs.Keeping.{Left, leaves, fits, one_record, outcome_of, attached, append_of}
 use Rattle.tallies.specs.Sessions as sessions
 use Rattle.tallies.specs.Claims.Sessions as sessions-claims
 use Rattle.tallies.proofs.Outcomes.{attach_judged, done_room, by_outcome}
@@ -35,22 +35,22 @@ sticky s r e = rw e
 
 -- what an append leaves, taken over with the number of the next record
 abbrev taken_over : ℕ → Left → Taking
-taken_over number x = record { buffer = x.buffer; journal = x.next; number = cond (is_done x.outcome) (capped (number + 1)) number; fault = x.outcome }
+taken_over number x = record { buffer = x.buffer; journal = x.next; number = cond (is_none x.outcome) (capped (number + 1)) number; fault = x.outcome }
 
 module _ (s : Taking) (r : List ℕ) where
   step_on : stopped s ≡ false → step s r ≡ taken_over s.number (append_of s.buffer s.journal r)
   unfolding step
   step_on e = rw e
 
-  module _ (going : is_done s.fault ≡ true) (after : List ℕ) (k : Kept) (e : leaves after k ≡ append_of s.buffer s.journal r) where
-    step_left : taken_over s.number (leaves after k) ≡ step s r
-    step_left = ap (taken_over s.number) e ∙ sym (step_on (ap not going))
+  module _ (going : is_some s.fault ≡ false) (after : List ℕ) (k : Result Tallied Refusal) (e : leaves after s.journal k ≡ append_of s.buffer s.journal r) where
+    step_left : taken_over s.number (leaves after s.journal k) ≡ step s r
+    step_left = ap (taken_over s.number) e ∙ sym (step_on going)
 
-    pub step_done : is_done k.outcome ≡ true → (n : ℕ) → n ≡ capped (s.number + 1) → taking_of after (record { journal = k.next; number = n; fault = k.outcome }) ≡ step s r
-    step_done d n m = rw m (rw d at step_left)
+    pub step_done : (next : Tallied) → k ≡ Ok next → (n : ℕ) → n ≡ capped (s.number + 1) → taking_of after (record { journal = next; number = n; fault = None }) ≡ step s r
+    step_done next o n m = rw m (rw o at step_left)
 
-    pub step_refused : is_done k.outcome ≡ false → taking_of after (record { journal = k.next; number = s.number; fault = k.outcome }) ≡ step s r
-    step_refused d = rw d at step_left
+    pub step_refused : (f : Refusal) → k ≡ Err f → taking_of after (record { journal = s.journal; number = s.number; fault = Some f }) ≡ step s r
+    step_refused f o = rw o at step_left
 
   -- bytes that are no record stop the intake, and where its use and tallies fit as malformed
   module _ (on : stopped s ≡ false) (bad : one_record r ≡ false) where
@@ -58,20 +58,18 @@ module _ (s : Taking) (r : List ℕ) where
     unfolding step attached outcome_of
     bad_stops = decide (fits (length s.buffer) s.journal) (λ e. rw (on, e, bad)) (λ e. rw (on, e))
 
-    pub bad_malformed : fits (length s.buffer) s.journal ≡ true → step s r ≡ record { buffer = s.buffer; journal = s.journal; number = s.number; fault = outcome.Malformed }
+    pub bad_malformed : fits (length s.buffer) s.journal ≡ true → step s r ≡ record { buffer = s.buffer; journal = s.journal; number = s.number; fault = Some refusal.Malformed }
     unfolding step attached outcome_of
     bad_malformed e = rw (on, e, bad)
 
 -- ---- each record exactly when
 
-pub going : (s : Taking) → s.fault ≡ outcome.Done → stopped s ≡ false
+pub going : (s : Taking) → s.fault ≡ None → stopped s ≡ false
 going s e = rw e
 
-pub not_done : (o : Outcome) → (o ≡ outcome.Done → ⊥) → is_done o ≡ false
-not_done outcome.Done n = absurd (n refl)
-not_done outcome.Malformed n = refl
-not_done outcome.NoRoom n = refl
-not_done outcome.Unfit n = refl
+pub not_done : (o : Option Refusal) → (o ≡ None → ⊥) → is_some o ≡ true
+not_done None n = absurd (n refl)
+not_done (Some r) n = refl
 
 pub each_step : EachStep
 each_step s r e = rw (step_on s r (going s e)) (record {
@@ -149,7 +147,7 @@ append_fits b t r e = by_outcome b t r (one_record r) (λ (x : Left). fits (leng
 -- every record and every burst leave it so
 pub step_sound : (s : Taking) (r : List ℕ) → Sound s → Sound (step s r)
 step_sound s r k = decide (stopped s) (λ e. rw (sticky s r e) k) (λ e. rw (step_on s r e) (record {
-  numbered = decide (is_done (append_of s.buffer s.journal r).outcome) (λ d. rw d (omega arith)) (λ d. rw d k.numbered);
+  numbered = decide (is_none (append_of s.buffer s.journal r).outcome) (λ d. rw d (omega arith)) (λ d. rw d k.numbered);
   fit = append_fits s.buffer s.journal r k.fit;
   real = λ u. true≢false (sym k.fit ∙ (attach_judged s.buffer s.journal r (one_record r)).unfit.0 u);
 }))

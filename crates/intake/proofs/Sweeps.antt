@@ -1,6 +1,6 @@
 -- Laws of what a burst takes at once: a stretch from a place on, a sweep, and the burst over it.
 use mathlib.Core.Path.{◌≡◌, refl, sym, ap, ap₂, ◌∙◌}
-use mathlib.Core.Bool.{true, false, not, ◌||◌, ◌&&◌}
+use mathlib.Core.Bool.{true, false, ◌||◌, ◌&&◌}
 use mathlib.Core.List.{List, []}
 use Prim.Native.Nat.{ℕ, ◌+◌, ◌-◌, ◌<◌, ◌≤◌, min}
 use native.Mathlib.Omega.{arith}
@@ -8,6 +8,7 @@ use lib.Dec.{leb, eqb, ltb}
 use lib.ListN.{length, take, drop, length-drop}
 use lib.Seq.{sets, drop-drop, take_all, length-take-le}
 use borrow.Author.Tests.{leb-true, ltb-true, eqb-true, eqb-false}
+use Rattle.std.specs.Prelude.{is_some}
 use Rattle.words.proofs.Choice.{decide, and_left, and_right}
 use Rattle.records.specs.Records.{size_limit}
 use Rattle.records.specs.Cutting.{ripe, run, Standing, start, fed}
@@ -17,7 +18,6 @@ use Rattle.records.proofs.Holding.{part_step}
 use Rattle.records.proofs.Whole.{records_none}
 use Rattle.stretch.specs.declared.steps.Stretch.{Stretch}
 use Rattle.stretch.specs.Inner.Stretches.{nothing}
-use Rattle.tallies.specs.Keeping.{is_done}
 use Rattle.intake.specs.declared.taking.Place.{Place}
 use Rattle.intake.specs.declared.bursts.Intake.{Intake}
 use Rattle.intake.specs.declared.sweeping.Passed.{Passed}
@@ -37,8 +37,8 @@ module _ {buffer h : List ℕ} {from : Place} {bytes bufferThen : List ℕ} {r :
   stretch_sound : Sound (taking_of buffer from) → Sound (taking_of bufferThen r.place)
   stretch_sound k = rw t.same (run_sound _ _ k)
 
-  stretch_same : is_done from.fault ≡ true → ripe good_front h ≡ false → fed reader (stands_at (taking_of buffer from) h) bytes ≡ fed reader (start (taking_of bufferThen r.place)) (drop r.at bytes)
-  stretch_same on raw = fed_run (taking_of buffer from) h bytes r.at (ap not on) raw t.good ∙ ap (λ (s : Taking). fed reader (start s) (drop r.at bytes)) (sym t.same)
+  stretch_same : is_some from.fault ≡ false → ripe good_front h ≡ false → fed reader (stands_at (taking_of buffer from) h) bytes ≡ fed reader (start (taking_of bufferThen r.place)) (drop r.at bytes)
+  stretch_same on raw = fed_run (taking_of buffer from) h bytes r.at on raw t.good ∙ ap (λ (s : Taking). fed reader (start s) (drop r.at bytes)) (sym t.same)
 
 -- one of no bytes leaves all as it was
 stretch_none : {buffer : List ℕ} {from : Place} {bytes bufferThen : List ℕ} {r : Passed} → TakesStretch buffer [] from bytes bufferThen r → r.at ≡ 0 → taking_of bufferThen r.place ≡ taking_of buffer from
@@ -110,7 +110,7 @@ module _ {buffer store : List ℕ} {i : Intake} (ready : Ready buffer store i) (
     abbrev Can : ℕ → Type 0
     Can room = (eqb i.held 0 || (ltb 0 first.end && leb (i.held + first.end) room)) ≡ true
 
-    module _ (going : is_done i.place.fault ≡ true) where
+    module _ (going : is_some i.place.fault ≡ false) where
       -- with nothing held the stretch is none; else the held record is its first
       pub sweep_takeable : Can (min (length buffer) size_limit - i.place.journal.used) → Takeable buffer (take i.held one) i.place bytes first
       sweep_takeable can = decide (eqb i.held 0)
@@ -169,7 +169,7 @@ burst_all {buffer} {store} {i} {bytes} {w = w} ready s b =
       journal = ap (λ (x : Standing Taking). journal_of x.state) all;
       whole = whole;
       kept = λ d.
-          let none = fed_stopped reader sticky (standing_of buffer store i) bytes (ap not d) in
+          let none = fed_stopped reader sticky (standing_of buffer store i) bytes d in
           whole ∙ ap (λ (x : Standing Taking). sets (completed store i.held bytes) 0 x.held) none ∙ completed_none store i.held bytes (ready.quiet d);
       size = b.size ∙ s.size;
       ready = b.ready;

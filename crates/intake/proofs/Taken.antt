@@ -7,13 +7,14 @@ use native.Mathlib.Omega.{arith}
 use lib.Dec.{leb, eqb}
 use lib.ListN.{length, take}
 use borrow.Author.Tests.{leb-true, le-leb, eqb-true, eq-eqb, ne_eqb}
+use Rattle.std.specs.Prelude.{Option, Some, None, is_some}
 use Rattle.words.specs.Claims.Exactly.{Exactly}
 use Rattle.words.proofs.Choice.{and_left, and_right}
 use Rattle.records.specs.Cutting.{due, ripe}
 use Rattle.records.proofs.Due.{due_least, nothing_raw}
-use Rattle.tallies.specs.declared.keeping.Outcome.{Outcome}
-use Rattle.tallies.specs.declared.keeping.Outcome.TheVariants.{Done, Malformed, NoRoom, Unfit}
-use Rattle.tallies.specs.Keeping.{fits, is_done}
+use Rattle.tallies.specs.declared.keeping.Refusal.{Refusal}
+use Rattle.tallies.specs.declared.keeping.Refusal.TheVariants.{Malformed, NoRoom, Unfit}
+use Rattle.tallies.specs.Keeping.{fits}
 use Rattle.intake.specs.Taking.{good_front}
 use Rattle.intake.specs.States.{rests_at, ready_for}
 use Rattle.intake.specs.Claims.States.{ReadyExactly}
@@ -29,11 +30,11 @@ none_due r n e = go (ripe good_front r) n e
 -- ---- held bytes, by the fault
 
 -- what is asked of them: inside the store, no record yet, and none with a fault
-record Rests (fault : Outcome) (held : ℕ) (store : List ℕ) : Type 0 where
+record Rests (fault : Option Refusal) (held : ℕ) (store : List ℕ) : Type 0 where
   inside : held ≤ length store
   raw : ripe good_front (take held store) ≡ false
-  quiet : is_done fault ≡ false → held ≡ 0
-  real : fault ≡ Unfit → ⊥
+  quiet : is_some fault ≡ true → held ≡ 0
+  real : fault ≡ Some Unfit → ⊥
 
 not-true : (t : Bool) → not t ≡ true → t ≡ false
 not-true true e = absurd (false≢true e)
@@ -44,18 +45,18 @@ none_held : (store : List ℕ) (held : ℕ) → held ≡ 0 → ripe good_front (
 none_held store held z = rw z (nothing_raw good_front)
 
 -- behind a fault of a stream nothing is held
-faulted : (fault : Outcome) (held : ℕ) (store : List ℕ) → is_done fault ≡ false → (fault ≡ Unfit → ⊥) → Exactly (eqb held 0 ≡ true) (Rests fault held store)
+faulted : (fault : Option Refusal) (held : ℕ) (store : List ℕ) → is_some fault ≡ true → (fault ≡ Some Unfit → ⊥) → Exactly (eqb held 0 ≡ true) (Rests fault held store)
 faulted fault held store d real =
     (λ e. let z = eqb-true held 0 e in record { inside = omega arith; raw = none_held store held z; quiet = λ _. z; real = real }, λ r. eq-eqb held 0 (r.quiet d))
 
-rests : (fault : Outcome) (held : ℕ) (store : List ℕ) → Exactly (rests_at fault held store ≡ true) (Rests fault held store)
-rests Done held store = (
-  λ e. record { inside = leb-true held (length store) (and_left _ _ e); raw = not-true _ (and_right (leb held (length store)) _ e); quiet = λ d. cc; real = λ d. absurd (let z : ◌≡◌ {A = ℕ} 0 1 = cc in omega arith) },
+rests : (fault : Option Refusal) (held : ℕ) (store : List ℕ) → Exactly (rests_at fault held store ≡ true) (Rests fault held store)
+rests None held store = (
+  λ e. record { inside = leb-true held (length store) (and_left _ _ e); raw = not-true _ (and_right (leb held (length store)) _ e); quiet = λ d. cc; real = λ d. cc },
   λ r. rw (le-leb held (length store) r.inside, r.raw),
 )
-rests Malformed held store = faulted Malformed held store refl (λ d. absurd (let z : ◌≡◌ {A = ℕ} 0 1 = cc in omega arith))
-rests NoRoom held store = faulted NoRoom held store refl (λ d. absurd (let z : ◌≡◌ {A = ℕ} 0 1 = cc in omega arith))
-rests Unfit held store = (λ e. absurd (false≢true e), λ r. absurd (r.real refl))
+rests (Some Malformed) held store = faulted (Some Malformed) held store refl (λ d. cc)
+rests (Some NoRoom) held store = faulted (Some NoRoom) held store refl (λ d. cc)
+rests (Some Unfit) held store = (λ e. absurd (false≢true e), λ r. absurd (r.real refl))
 
 pub ready_exactly : ReadyExactly
 unfolding ready_for

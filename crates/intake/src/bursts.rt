@@ -8,10 +8,10 @@ ghost use Rattle.intake.specs.Claims.Intake.{IntakeClaims};
 
 use crate::filling::{gather, ripe_at};
 use crate::sweeping::{Passed, sweep, take_stretch};
-use crate::taking::{Place, is_going, take};
+use crate::taking::{Place, take};
 use records::fill;
 use stretch::Stretch;
-use tallies::{Outcome, Tallied};
+use tallies::{Refusal, Tallied};
 
 // Where an intake stands between bursts: between records as its place says, and how many bytes of an unfinished record are held.
 #[derive(Clone, Copy)]
@@ -37,7 +37,7 @@ pub fn start(journal: Tallied) -> Intake
         place: Place {
             journal,
             number: 1,
-            fault: Outcome::Done,
+            fault: None,
         },
         held: 0,
     }
@@ -110,8 +110,7 @@ fn pass(buffer: &mut [u8], from: Passed, bytes: &[u8]) -> Passed
     let mut place = from.place;
     let mut at = from.at;
     loop {
-        let fault = place.fault;
-        if !is_going(fault) {
+        if place.fault.is_some() {
             return Passed {
                 place,
                 at: bytes.len(),
@@ -169,22 +168,17 @@ pub enum Ending {
 }
 
 // What an end says. It changes nothing: a later burst goes on where the record stopped.
+#[tactic(auto, using(tallies::proofs::Claims::tally_claims, crate::proofs::Claims::intake_claims))]
 pub fn end(from: Intake) -> Ending
     ensures value { result ≡ end_of from }
     ensures claims { TallyClaims × IntakeClaims }
 {
-    let place = from.place;
-    let fault = place.fault;
-    let number = place.number;
-    match fault {
-        Outcome::Malformed => Ending::Malformed(number),
-        Outcome::NoRoom => Ending::NoRoom(number),
-        Outcome::Unfit => Ending::Unfit(number),
-        Outcome::Done => {
-            if from.held == 0 {
-                return Ending::Nothing;
-            }
-            Ending::Unfinished(number)
-        }
+    let number = from.place.number;
+    match from.place.fault {
+        Some(Refusal::Malformed) => Ending::Malformed(number),
+        Some(Refusal::NoRoom) => Ending::NoRoom(number),
+        Some(Refusal::Unfit) => Ending::Unfit(number),
+        None if from.held == 0 => Ending::Nothing,
+        None => Ending::Unfinished(number),
     }
 }

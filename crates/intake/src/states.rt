@@ -7,7 +7,7 @@ ghost use Rattle.intake.specs.Claims.States.{ReadyExactly};
 
 use crate::bursts::Intake;
 use crate::filling::ripe_at;
-use tallies::Outcome;
+use tallies::Refusal;
 
 // Whether so many bytes at the front of a store are an unfinished record, or none.
 fn is_unfinished(store: &[u8], held: usize) -> bool
@@ -20,23 +20,18 @@ fn is_unfinished(store: &[u8], held: usize) -> bool
 }
 
 // Whether an intake is one that a start or a burst can leave, with this store and a journal's buffer of this size.
+#[tactic(auto, using(crate::proofs::Taken::ready_exactly), unfolding(crate::specs::States::ready_for))]
 pub fn is_ready(store: &[u8], size: usize, from: Intake) -> bool
     ensures value { result ≡ ready_for store.now size from }
     ensures exactly { ReadyExactly }
 {
     let place = from.place;
-    let held = from.held;
-    if place.number < 1 {
+    if place.number < 1 || !tallies::is_fit(size, place.journal) {
         return false;
     }
-    if !tallies::is_fit(size, place.journal) {
-        return false;
-    }
-    let fault = place.fault;
-    match fault {
-        Outcome::Done => is_unfinished(store, held),
-        Outcome::Malformed => held == 0,
-        Outcome::NoRoom => held == 0,
-        Outcome::Unfit => false,
+    match place.fault {
+        None => is_unfinished(store, from.held),
+        Some(Refusal::Unfit) => false,
+        Some(_) => from.held == 0,
     }
 }

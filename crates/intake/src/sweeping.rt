@@ -5,7 +5,7 @@ ghost use Rattle.intake.specs.Bursts.{Ready};
 ghost use Rattle.intake.specs.Inner.Terms.{Holds, Begins, Takeable, TakesStretch, Sweeps};
 
 use crate::bursts::Intake;
-use crate::taking::{Place, is_going, number_after};
+use crate::taking::Place;
 use stretch::Stretch;
 
 // No record of a node is longer.
@@ -29,7 +29,7 @@ pub struct Swept {
 fn room_for(size: usize, used: usize) -> usize
     ensures { result ≡ min size size_limit - used }
 {
-    words::saturating_sub(words::least(size, records::SIZE_LIMIT), used)
+    size.min(records::SIZE_LIMIT).saturating_sub(used)
 }
 
 // The held record, where it is one of a node and the burst is long enough to end any: the place of the burst behind it, and what it counts. Bytes
@@ -47,7 +47,7 @@ fn begin_stretch(store: &mut [u8], held: usize, bytes: &[u8]) -> Stretch
     if bytes.len() < NODE_LIMIT {
         return Stretch::nothing();
     }
-    words::store_bytes(store, held, bytes, 0, NODE_LIMIT);
+    words::store(store, held, &bytes[..NODE_LIMIT]);
     let Some(shape) = journal::judge(&store[..held + NODE_LIMIT], 0, 4) else {
         return Stretch::nothing();
     };
@@ -70,19 +70,18 @@ pub fn take_stretch(
     ensures { TakesStretch buffer.old held.now from bytes.now buffer.new result }
 {
     let journal = from.journal;
-    let fault = from.fault;
     let used = journal.used;
     let room = room_for(buffer.len(), used);
-    let cut = words::least(bytes.len(), room - held.len());
+    let cut = bytes.len().min(room - held.len());
     let all = stretch::stretch_on(&bytes[..cut], first);
     let end = all.end;
-    words::store_bytes(buffer, used, held, 0, held.len());
-    words::store_bytes(buffer, used + held.len(), bytes, 0, end);
+    words::store(buffer, used, held);
+    words::store(buffer, used + held.len(), &bytes[..end]);
     Passed {
         place: Place {
             journal: tallies::extended(journal, held.len() + end, all.counts),
-            number: number_after(from.number, all.records as u64),
-            fault,
+            number: from.number.saturating_add(all.records as u64),
+            ..from
         },
         at: end,
     }
@@ -93,13 +92,7 @@ fn can_sweep(held: usize, end: usize, room: usize) -> bool
     requires { (held ≤ 0x7fff_ffff_ffff_ffff) × (end ≤ 0x7fff_ffff_ffff_ffff) }
     ensures { result ≡ (eqb held 0 || (ltb 0 end && leb (held + end) room)) }
 {
-    if held == 0 {
-        return true;
-    }
-    if end == 0 {
-        return false;
-    }
-    held + end <= room
+    held == 0 || (0 < end && held + end <= room)
 }
 
 // The held record of a node, where the burst ends it, and the whole good records behind it that find room. An intake that has stopped, or whose held
@@ -110,9 +103,8 @@ pub fn sweep(buffer: &mut [u8], store: &mut [u8], from: Intake, bytes: &[u8]) ->
 {
     let place = from.place;
     let held = from.held;
-    let fault = place.fault;
     let journal = place.journal;
-    if !is_going(fault) {
+    if place.fault.is_some() {
         return Swept {
             intake: from,
             at: 0,

@@ -1,63 +1,34 @@
 // One complete record of the stream: it is appended to the journal, or the intake stops at its number.
-ghost use Rattle.std.specs.Prelude.{◌≡◌, ◌+◌};
-ghost use Rattle.tallies.specs.Keeping.{is_done};
-ghost use Rattle.intake.specs.Taking.{capped, taking_of, step};
+ghost use Rattle.std.specs.Prelude.{◌≡◌};
+ghost use Rattle.intake.specs.Taking.{taking_of, step};
 
-use tallies::{Outcome, Tallied};
+use tallies::{Refusal, Tallied};
 
 // Where an intake stands between records: the use and the tallies of its journal, the number of the record that it is inside or comes to, and the
-// fault that it met; Done is none.
+// fault that it met, if it met one.
 #[derive(Clone, Copy)]
 pub struct Place {
     pub journal: Tallied,
     pub number: u64,
-    pub fault: Outcome,
+    pub fault: Option<Refusal>,
 }
 
-// Whether no fault was met.
-pub fn is_going(fault: Outcome) -> bool
-    ensures { result ≡ is_done fault }
-{
-    match fault {
-        Outcome::Done => true,
-        Outcome::Malformed => false,
-        Outcome::NoRoom => false,
-        Outcome::Unfit => false,
-    }
-}
-
-// The number so many records behind another; it stays at 2^64 - 1.
-pub fn number_after(number: u64, more: u64) -> u64
-    ensures { result ≡ capped (number + more) }
-{
-    if 0xffff_ffff_ffff_ffff - number < more {
-        return 0xffff_ffff_ffff_ffff;
-    }
-    number + more
-}
-
-// A record, or the four bytes that are none.
+// A record, or the four bytes that are none. Its number goes on by one, up to 2^64 - 1, unless it is refused.
 pub fn take(buffer: &mut [u8], from: Place, bytes: &[u8]) -> Place
     ensures { taking_of buffer.new result ≡ step (taking_of buffer.old from) bytes.now }
 {
-    let fault = from.fault;
-    if !is_going(fault) {
+    if from.fault.is_some() {
         return from;
     }
-    let number = from.number;
-    let kept = tallies::append(buffer, from.journal, bytes);
-    let outcome = kept.outcome;
-    let journal = kept.next;
-    if is_going(outcome) {
-        return Place {
+    match tallies::append(buffer, from.journal, bytes) {
+        Ok(journal) => Place {
             journal,
-            number: number_after(number, 1),
-            fault: outcome,
-        };
-    }
-    Place {
-        journal,
-        number,
-        fault: outcome,
+            number: from.number.saturating_add(1),
+            fault: None,
+        },
+        Err(refusal) => Place {
+            fault: Some(refusal),
+            ..from
+        },
     }
 }

@@ -8,9 +8,10 @@ use native.Mathlib.Omega.{arith}
 use lib.ListN.{length, length-append}
 use lib.Seq.{sets, length-sets, length-take-le}
 use borrow.Author.Tests.{le-leb}
+use Rattle.std.specs.Prelude.{None, IfSome, is_some}
 use Rattle.words.specs.Numbers.{le}
 use Rattle.words.specs.Nul.{until_nul, is_ended}
-use Rattle.words.proofs.Choice.{choose}
+use Rattle.words.proofs.Choice.{decide}
 use Rattle.words.proofs.Stores.{sets_append}
 use Rattle.records.specs.Records.{length_of, kind_of, records_from, records, whole, all_good, well_formed_by}
 use Rattle.records.specs.Choosing.{chosen_by}
@@ -22,8 +23,6 @@ use Rattle.journal.specs.Scope.{rows, negative, row_of, units_of, selection_of}
 use Rattle.journal.specs.Reportable.{reports, reportable}
 use Rattle.journal.proofs.Walks.{all_good_lem, within_limit}
 use Rattle.journal.proofs.Joins.{well_formed_join, list_join, none_formed}
-use Rattle.tallies.specs.declared.tallies.Recount.{Recount}
-use Rattle.tallies.specs.declared.keeping.Outcome.TheVariants.{Done}
 use Rattle.tallies.specs.Tallies.{recount_of, recount_for, tally_sum, tallies_within}
 use Rattle.tallies.specs.Keeping.{fits, has_room, outcome_of, attached}
 use Rattle.tallies.specs.Sessions.{Standing, standing_as, in_use, fresh, joining}
@@ -32,7 +31,7 @@ use Rattle.tallies.specs.Claims.Joining.{EachJoined, EndToEnd, ListsDiffer, Each
 use Rattle.tallies.proofs.Joins.{recount_none, recount_join}
 use Rattle.tallies.proofs.Outcomes.{came, attach_judged, attach_done}
 use Rattle.tallies.proofs.KeptLaws.{use_grown, join_keeps, fresh_counted, attach_is_fit}
-use Rattle.tallies.proofs.Claims.{attached_exactly, recount_claims}
+use Rattle.tallies.proofs.Claims.{attached_exactly}
 
 -- ---- buffers end to end
 
@@ -68,7 +67,7 @@ module _ (s : Standing) (k : Counted s) (part : List ℕ) (formed : well_formed 
   unfolding has_room
   roomy = rw (le-leb (s.journal.used + length part) (length s.buffer) room.lent) (le-leb (s.journal.used + length part) 1_048_576 room.limit)
 
-  taken : came s.buffer s.journal part (well_formed part) ≡ Done
+  taken : came s.buffer s.journal part (well_formed part) ≡ None
   taken =
       let j = attach_judged s.buffer s.journal part (well_formed part) in
       let fit = attach_is_fit s k part (well_formed part) in
@@ -119,13 +118,13 @@ joined_to_nothing buffer b formed h =
 
 -- ---- a part that was counted
 
-module _ (j : List ℕ) (counted : Recount) (e : counted ≡ recount_for j) where
-  pub counted_good : counted.good ≡ well_formed j
-  unfolding recount_for
-  counted_good = ap (λ (r : Recount). r.good) e ∙ choose (well_formed j) (λ (r : Recount). r.good ≡ well_formed j) (λ _. refl) (λ _. refl)
+pub counted_good : (j : List ℕ) → is_some (recount_for j) ≡ well_formed j
+unfolding recount_for
+counted_good j = decide (well_formed j) (λ e. rw e refl) (λ e. rw e refl)
 
-  pub counted_tallies : counted.good ≡ true → counted.tallies ≡ recount_of j
-  counted_tallies g = ap (λ (r : Recount). r.tallies) e ∙ (recount_claims.each_recount j).counted (sym counted_good ∙ g)
+pub counted_tallies : (j : List ℕ) → IfSome (recount_for j) (λ t. t ≡ recount_of j)
+unfolding recount_for
+counted_tallies j = decide (well_formed j) (λ e. rw e refl) (λ e. rw e tt)
 
 -- ---- all of it
 

@@ -8,11 +8,12 @@ use native.Mathlib.Omega.{arith}
 use lib.ListN.{length, take, drop, length-append}
 use lib.Seq.{sets, length-sets, sets-eq, take_at, length-take-le}
 use borrow.Author.Tests.{le-leb}
+use Rattle.std.specs.Prelude.{Some, None}
 use Rattle.words.proofs.Stores.{sets_before, sets_after}
 use Rattle.journal.specs.Journal.{well_formed}
 use Rattle.journal.proofs.Joins.{well_formed_join, none_formed, one_formed}
 use Rattle.tallies.specs.declared.keeping.Tallied.{Tallied}
-use Rattle.tallies.specs.declared.keeping.Outcome.TheVariants.{Done, Unfit}
+use Rattle.tallies.specs.declared.keeping.Refusal.TheVariants.{Unfit}
 use Rattle.tallies.specs.declared.tallies.Tallies.{Tallies}
 use Rattle.tallies.specs.Tallies.{recount_of, tally_sum}
 use Rattle.tallies.specs.Keeping.{Left, fits, one_record, attached}
@@ -47,7 +48,7 @@ module _ (part : List ℕ) (good : Bool) where
 
   -- whatever judges the part: where it says good, the part is a well-formed journal
   module _ (sound : good ≡ true → well_formed part ≡ true) where
-    grown_counted : (s : Standing) → Counted s → came s.buffer s.journal part good ≡ Done → Counted (left_as (grown s.buffer s.journal part good))
+    grown_counted : (s : Standing) → Counted s → came s.buffer s.journal part good ≡ None → Counted (left_as (grown s.buffer s.journal part good))
     grown_counted s k e =
         let used = s.journal.used in
         let room = done_room s.buffer s.journal part good e in
@@ -105,7 +106,7 @@ counted_fits s k =
     rw (k.tallies, le-leb used (length s.buffer) k.inside) (recount_within used (in_use s) (omega (arith, length-take-le used s.buffer k.inside)))
 
 -- whatever the part, and however it is judged
-pub attach_is_fit : (s : Standing) → Counted s → (part : List ℕ) (good : Bool) → came s.buffer s.journal part good ≡ Unfit → ⊥
+pub attach_is_fit : (s : Standing) → Counted s → (part : List ℕ) (good : Bool) → came s.buffer s.journal part good ≡ Some Unfit → ⊥
 attach_is_fit s k part good e = true≢false (sym (counted_fits s k) ∙ (attach_judged s.buffer s.journal part good).unfit.0 e)
 
 pub kept_is_fit : KeptIsFit

@@ -1,14 +1,15 @@
 -- Counting a journal anew by the stretch of its good records, sums that fit, and bytes that are one record.
 use mathlib.Core.Path.{◌≡◌, sym, ap, ◌∙◌}
-use mathlib.Core.Bool.{true, false, ◌&&◌, true≢false}
+use mathlib.Core.Bool.{true, false, cond, true≢false}
 use mathlib.Core.List.{List}
 use Prim.Native.Nat.{ℕ, ◌+◌, ◌-◌, ◌<◌, ◌≤◌}
 use native.Mathlib.Nat.{zero-add}
 use native.Mathlib.Omega.{arith}
-use lib.Dec.{leb, eqb}
+use lib.Dec.{leb}
 use lib.ListN.{length, take, drop, take-append-drop}
 use lib.Seq.{take_all}
-use borrow.Author.Tests.{leb-true, leb-false, eqb-true}
+use borrow.Author.Tests.{leb-true, leb-false}
+use Rattle.std.specs.Prelude.{Some, None}
 use Rattle.words.proofs.Choice.{decide, and_left, and_right}
 use Rattle.records.specs.Records.{size_of, records, all_good, whole, size_limit}
 use Rattle.records.proofs.Steps.{bad_step, formed, not_formed, records-step, records_few}
@@ -30,8 +31,8 @@ use Rattle.stretch.proofs.Adding.{unpacked_packed}
 use Rattle.tallies.specs.declared.tallies.Tallies.{Tallies}
 use Rattle.tallies.specs.declared.counting.Weighed.{Weighed}
 use Rattle.tallies.specs.declared.keeping.Tallied.{Tallied}
-use Rattle.tallies.specs.Tallies.{recount_of, recount_for, counts_within, tallies_within}
-use Rattle.tallies.specs.Inner.Weighing.{tallies_from, nothing_weighed, weighed_of, CountsFit, TalliesFit, Extends}
+use Rattle.tallies.specs.Tallies.{recount_of, counts_within, tallies_within}
+use Rattle.tallies.specs.Inner.Weighing.{tallies_from, weighed_of, CountsFit, TalliesFit, Extends}
 use Rattle.tallies.specs.Keeping.{one_record}
 use Rattle.tallies.proofs.Joins.{recount_within}
 
@@ -104,7 +105,7 @@ packed_recount p h =
 
 -- ---- a buffer by the stretch of its good records
 
-pub weighed_bad : (j : List ℕ) → well_formed j ≡ false → nothing_weighed ≡ weighed_of j
+pub weighed_bad : (j : List ℕ) → well_formed j ≡ false → None ≡ weighed_of j
 unfolding weighed_of
 weighed_bad j e = rw e
 
@@ -116,7 +117,7 @@ module _ (j : List ℕ) (small : length j ≤ size_limit) (s : Stretch) (g : Goe
   front_good = ap (λ (b : List ℕ). all_good good_record (records b)) (sym front) ∙ g.good
 
   -- up to the end: a journal
-  pub weighed_all : length j ≤ s.end → record { good = true; records = s.records; tallies = tallies_from s.counts } ≡ weighed_of j
+  pub weighed_all : length j ≤ s.end → Some (record { records = s.records; tallies = tallies_from s.counts }) ≡ weighed_of j
   unfolding weighed_of well_formed
   weighed_all h =
       let all : between j 0 s.end ≡ j = front ∙ take_all s.end j h in
@@ -148,24 +149,35 @@ sole j e n =
     (λ z. absurd (omega (arith, n, ap length (records_front j some), ap length (records-step j (size_of j) (leb-false (length j) (size_of j) z))))) in
     rw (take_all (size_of j) j short) at (walked j 0 some (all_good_lem j e))
 
-module _ (j : List ℕ) (w : Weighed) (given : w ≡ weighed_of j) where
-  weighed_formed : well_formed j ≡ true → w ≡ record { good = true; records = length (records j); tallies = recount_of j }
-  unfolding weighed_of
-  weighed_formed e = given ∙ rw e
+module _ (j : List ℕ) (w : Weighed) (given : Some w ≡ weighed_of j) where
+  -- it is a journal, and w is what it tells
+  pub record Told : Type 0 where
+    pub formed_claim : well_formed j ≡ true
+    pub records_claim : w.records ≡ length (records j)
+    pub tallies_claim : w.tallies ≡ recount_of j
 
-  pub recount_weighed : record { good = w.good; tallies = w.tallies } ≡ recount_for j
-  unfolding recount_for
-  recount_weighed = decide (well_formed j) (λ e. rw (e, weighed_formed e)) (λ e. rw (e, given ∙ sym (weighed_bad j e)))
+  told : Told
+  unfolding weighed_of
+  told = decide (well_formed j)
+      (λ e. let same : Some w ≡ Some (record { records = length (records j); tallies = recount_of j }) = given ∙ rw e in
+      record { formed_claim = e; records_claim = cc; tallies_claim = cc })
+      (λ e. let none : Some w ≡ None = given ∙ sym (weighed_bad j e) in cc)
 
   -- bytes that have to be one record
-  pub one_weighed : (w.good && eqb w.records 1) ≡ one_record j
-  unfolding one_record
-  one_weighed = decide (well_formed j)
-      (λ e. rw (weighed_formed e) (decide (one_record j)
-      (λ o. rw (o, one_record_lem j (and_left (whole j) _ o)))
-      (λ o. decide (eqb (length (records j)) 1) (λ n. absurd (true≢false (sym (sole j e (eqb-true _ _ n)) ∙ o))) (λ n. n ∙ sym o))))
-      (λ e. rw (given ∙ sym (weighed_bad j e)) (decide (one_record j) (λ o. absurd (true≢false (sym (one_formed j o) ∙ e))) sym))
+  pub one_weighed : w.records ≡ 1 → Some w.tallies ≡ cond (one_record j) (Some (recount_of j)) None
+  one_weighed n = rw (sole j told.formed_claim (sym told.records_claim ∙ n), told.tallies_claim)
 
-  pub one_counted : one_record j ≡ true → w.tallies ≡ recount_of j
+  pub more_weighed : (w.records ≡ 1 → ⊥) → None ≡ cond (one_record j) (Some (recount_of j)) None
   unfolding one_record
-  one_counted o = ap (λ (x : Weighed). x.tallies) (weighed_formed (one_formed j o))
+  more_weighed n = decide (one_record j)
+      (λ o. absurd (n (told.records_claim ∙ ap length (one_record_lem j (and_left (whole j) _ o)))))
+      (λ o. rw o)
+
+module _ (j : List ℕ) (given : None ≡ weighed_of j) where
+  bad : well_formed j ≡ false
+  unfolding weighed_of
+  bad = decide (well_formed j) (λ e. let some : None ≡ Some (record { records = length (records j); tallies = recount_of j }) = given ∙ rw e in cc) (λ e. e)
+
+  pub one_unweighed : None ≡ cond (one_record j) (Some (recount_of j)) None
+  unfolding one_record
+  one_unweighed = decide (one_record j) (λ o. absurd (true≢false (sym (one_formed j o) ∙ bad))) (λ o. rw o)

@@ -1,12 +1,11 @@
 -- A journal in a lent buffer, of which a number of bytes are in use, with its tallies (document 02, M-106).
-use Rattle.std.specs.Prelude.{ℕ, ◌+◌, Bool, true, false, cond, ◌&&◌, List, leb, length}
+use Rattle.std.specs.Prelude.{ℕ, ◌+◌, Bool, cond, ◌&&◌, List, leb, length, Option, Some, None, is_none, Result, Ok, Err}
 use Rattle.std.proofs.lemmas.List.Edits.{sets}
 use Rattle.records.specs.Records.{whole, size_limit}
 use Rattle.journal.specs.Journal.{good_record, well_formed}
 use Rattle.tallies.specs.declared.keeping.Tallied.{Tallied}
-use Rattle.tallies.specs.declared.keeping.Kept.{Kept}
-use Rattle.tallies.specs.declared.keeping.Outcome.{Outcome}
-use Rattle.tallies.specs.declared.keeping.Outcome.TheVariants.{Done, Malformed, NoRoom, Unfit}
+use Rattle.tallies.specs.declared.keeping.Refusal.{Refusal}
+use Rattle.tallies.specs.declared.keeping.Refusal.TheVariants.{Malformed, NoRoom, Unfit}
 use Rattle.tallies.specs.Tallies.{no_tallies, recount_of, tally_sum, tallies_within}
 
 -- "an empty journal with zero tallies"
@@ -26,30 +25,26 @@ unfoldable pub one_record : List ℕ → Bool
 one_record r = whole r && good_record r
 
 -- "Refusals: malformed, then no room"; before both what is no use or no tallies of a journal in this buffer
-unfoldable pub outcome_of : ℕ → Tallied → ℕ → Bool → Outcome
-outcome_of size t more good = cond (fits size t) (cond good (cond (has_room size t.used more) Done NoRoom) Malformed) Unfit
+unfoldable pub outcome_of : ℕ → Tallied → ℕ → Bool → Option Refusal
+outcome_of size t more good = cond (fits size t) (cond good (cond (has_room size t.used more) None (Some NoRoom)) (Some Malformed)) (Some Unfit)
 
--- All that an operation leaves: the buffer, the use with its tallies, and what came of it.
+-- All that an operation leaves: the buffer, the use with its tallies, and what came of it, None where nothing was refused.
 pub record Left : Type 0 where
   pub buffer : List ℕ
   pub next : Tallied
-  pub outcome : Outcome
+  pub outcome : Option Refusal
 
-abbrev pub leaves : List ℕ → Kept → Left
-leaves buffer k = record { buffer = buffer; next = k.next; outcome = k.outcome }
-
-abbrev pub is_done : Outcome → Bool
-is_done Done = true
-is_done Malformed = false
-is_done NoRoom = false
-is_done Unfit = false
+-- what the code gives, from a use with its tallies: a refusal leaves these
+abbrev pub leaves : List ℕ → Tallied → Result Tallied Refusal → Left
+leaves buffer t (Ok next) = record { buffer = buffer; next = next; outcome = None }
+leaves buffer t (Err refusal) = record { buffer = buffer; next = t; outcome = Some refusal }
 
 -- A part, good or not, behind the bytes in use; a refusal changes "neither journal nor tallies".
 unfoldable pub attached : List ℕ → Tallied → List ℕ → Bool → Left
 attached buffer t part good =
     let o = outcome_of (length buffer) t (length part) good in
     let next : Tallied = record { used = t.used + length part; tallies = tally_sum t.tallies (recount_of part) } in
-    cond (is_done o)
+    cond (is_none o)
     (record { buffer = sets buffer t.used part; next = next; outcome = o })
     (record { buffer = buffer; next = t; outcome = o })
 

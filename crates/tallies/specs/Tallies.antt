@@ -1,11 +1,10 @@
 -- The tallies of a journal (document 02, M-106).
-use Rattle.std.specs.Prelude.{ℕ, ◌+◌, Bool, cond, ◌&&◌, List, leb}
+use Rattle.std.specs.Prelude.{ℕ, ◌+◌, Bool, cond, ◌&&◌, List, leb, Option, Some, None}
 use Rattle.journal.specs.declared.counts.Counts.{Counts}
 use Rattle.journal.specs.Journal.{well_formed}
 use Rattle.journal.specs.Reportable.{counts_of}
 use Rattle.stretch.specs.Packed.{row}
 use Rattle.tallies.specs.declared.tallies.Tallies.{Tallies}
-use Rattle.tallies.specs.declared.tallies.Recount.{Recount}
 
 -- the four rows, each by a definition over its number
 abbrev pub by_row : (ℕ → Counts) → Tallies
@@ -23,8 +22,8 @@ abbrev pub no_tallies : Tallies
 no_tallies = by_row (λ _. no_counts)
 
 -- a malformed or oversized journal has no tallies
-unfoldable pub recount_for : List ℕ → Recount
-recount_for j = cond (well_formed j) (record { good = well_formed j; tallies = recount_of j }) (record { good = well_formed j; tallies = no_tallies })
+unfoldable pub recount_for : List ℕ → Option Tallies
+recount_for j = cond (well_formed j) (Some (recount_of j)) None
 
 -- ---- sums, and limits
 

@@ -1,18 +1,17 @@
 // Counting a journal anew, in one pass.
-ghost use Rattle.std.specs.Prelude.{◌≡◌, true};
+ghost use Rattle.std.specs.Prelude.{◌≡◌, cond, Some, None};
 ghost use Rattle.tallies.specs.Tallies.{recount_of, recount_for};
-ghost use Rattle.tallies.specs.Inner.Weighing.{tallies_from, nothing_weighed, weighed_of};
+ghost use Rattle.tallies.specs.Inner.Weighing.{tallies_from, weighed_of};
 ghost use Rattle.tallies.specs.Keeping.{one_record};
 ghost use Rattle.tallies.specs.Claims.Tallies.{RecountClaims};
 
-use crate::tallies::{Recount, Tallies, no_tallies};
+use crate::tallies::Tallies;
 use scanning::counts_of;
 use stretch::{Packed, stretch_of};
 
-// What a buffer tells: whether it is a journal, how many records it has, and its tallies.
+// What a journal tells: how many records it has, and its tallies.
 #[derive(Clone, Copy)]
 struct Weighed {
-    good: bool,
     records: usize,
     tallies: Tallies,
 }
@@ -29,55 +28,40 @@ pub fn tallies_of(counts: Packed) -> Tallies
     }
 }
 
-// What is no journal.
-fn nothing_weighed() -> Weighed
-    ensures { result ≡ nothing_weighed }
-{
-    Weighed {
-        good: false,
-        records: 0,
-        tallies: no_tallies(),
-    }
-}
-
 // A buffer judged and counted.
-fn weigh(j: &[u8]) -> Weighed
+fn weigh(j: &[u8]) -> Option<Weighed>
     ensures { result ≡ weighed_of j.now }
 {
     if records::SIZE_LIMIT < j.len() {
-        return nothing_weighed();
+        return None;
     }
     let all = stretch_of(j);
     if all.end < j.len() {
-        return nothing_weighed();
+        return None;
     }
-    Weighed {
-        good: true,
+    Some(Weighed {
         records: all.records,
         tallies: tallies_of(all.counts),
-    }
+    })
 }
 
 // Bytes that have to be exactly one good record, judged and counted.
-pub fn weigh_one(r: &[u8]) -> Recount
-    ensures { (result.good ≡ one_record r.now) × (result.good ≡ true → result.tallies ≡ recount_of r.now) }
+#[tactic(auto, using(crate::proofs::Recounts::one_weighed, crate::proofs::Recounts::more_weighed, crate::proofs::Recounts::one_unweighed))]
+pub fn weigh_one(r: &[u8]) -> Option<Tallies>
+    ensures { result ≡ cond (one_record r.now) (Some (recount_of r.now)) None }
 {
-    let weighed = weigh(r);
-    Recount {
-        good: weighed.good && weighed.records == 1,
-        tallies: weighed.tallies,
+    let weighed = weigh(r)?;
+    if weighed.records != 1 {
+        return None;
     }
+    Some(weighed.tallies)
 }
 
 // The tallies of a journal, counted anew; a malformed or oversized one has none.
-pub fn recount(j: &[u8]) -> Recount
+#[tactic(auto, using(crate::proofs::Claims::recount_claims), unfolding(crate::specs::Tallies::recount_for, crate::specs::Inner::Weighing::weighed_of))]
+pub fn recount(j: &[u8]) -> Option<Tallies>
     ensures value { result ≡ recount_for j.now }
     ensures claims { RecountClaims }
 {
-    let weighed = weigh(j);
-    let tallies = weighed.tallies;
-    Recount {
-        good: weighed.good,
-        tallies,
-    }
+    weigh(j).map(|weighed| weighed.tallies)
 }

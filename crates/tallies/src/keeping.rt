@@ -1,5 +1,5 @@
 // A journal in a lent buffer, of which a number of bytes are in use, with its tallies beside it.
-ghost use Rattle.std.specs.Prelude.{◌≡◌, true, ◌+◌, ◌≤◌};
+ghost use Rattle.std.specs.Prelude.{◌≡◌, ◌+◌, ◌≤◌, IfSome, is_some};
 ghost use Rattle.tallies.specs.Keeping.{nothing, fits, has_room, leaves, attached, append_of, join_of};
 ghost use Rattle.tallies.specs.Tallies.{recount_of};
 ghost use Rattle.tallies.specs.Inner.Weighing.{Extends, extended_by};
@@ -7,7 +7,7 @@ ghost use Rattle.tallies.specs.Claims.Tallies.{TallyClaims};
 ghost use Rattle.tallies.specs.Claims.Joining.{JoinClaims};
 
 use crate::counting::{recount, tallies_of, weigh_one};
-use crate::tallies::{Recount, Tallies, add, is_within, no_tallies};
+use crate::tallies::{Tallies, add, is_within, no_tallies};
 use stretch::Packed;
 
 // How many bytes of the buffer are in use, and the tallies of the journal that they are.
@@ -17,20 +17,12 @@ pub struct Tallied {
     pub tallies: Tallies,
 }
 
-// What comes of an operation. Unfit: more bytes in use than the buffer has, or a count above the bytes in use, which no journal has.
-#[derive(Clone, Copy)]
-pub enum Outcome {
-    Done,
+// Why an operation changed nothing. Unfit: more bytes in use than the buffer has, or a count above the bytes in use, which no journal has.
+#[derive(Clone, Copy, PartialEq, Eq)]
+pub enum Refusal {
     Malformed,
     NoRoom,
     Unfit,
-}
-
-// What an operation hands back: what came of it, and the journal's use and tallies afterwards.
-#[derive(Clone, Copy)]
-pub struct Kept {
-    pub outcome: Outcome,
-    pub next: Tallied,
 }
 
 // The use and the tallies of an empty journal: a journal starts with them, and is cleared by them. No byte of its buffer changes.
@@ -45,13 +37,11 @@ pub fn cleared() -> Tallied
 }
 
 // Whether the use and the tallies can be those of a journal in a buffer of this size.
+#[tactic(auto, unfolding(crate::specs::Keeping::fits))]
 pub fn is_fit(size: usize, journal: Tallied) -> bool
     ensures { result ≡ fits size journal }
 {
-    if size < journal.used {
-        return false;
-    }
-    is_within(journal.tallies, journal.used)
+    journal.used <= size && is_within(journal.tallies, journal.used)
 }
 
 // The use and the tallies with so many bytes more, which were put behind those in use and counted.
@@ -66,61 +56,52 @@ pub fn extended(journal: Tallied, more: usize, counts: Packed) -> Tallied
 }
 
 // Whether so many bytes more find room, in a buffer of this size and in a journal.
+#[tactic(auto, unfolding(crate::specs::Keeping::has_room))]
 fn has_room(size: usize, used: usize, more: usize) -> bool
     requires { used ≤ size }
     ensures { result ≡ has_room size used more }
 {
-    if size - used < more {
-        return false;
-    }
-    used + more <= records::SIZE_LIMIT
+    more <= size - used && used + more <= records::SIZE_LIMIT
 }
 
-fn refused(outcome: Outcome, journal: Tallied) -> Kept
-    ensures { (result.outcome ≡ outcome) × (result.next ≡ journal) }
-{
-    Kept {
-        outcome,
-        next: journal,
-    }
-}
-
-// A part put behind the bytes in use, which was counted before.
-fn attach(buffer: &mut [u8], journal: Tallied, part: &[u8], counted: Recount) -> Kept
-    requires { counted.good ≡ true → counted.tallies ≡ recount_of part.now }
-    ensures { leaves buffer.new result ≡ attached buffer.old journal part.now counted.good }
+// A part put behind the bytes in use, with its tallies where it was counted before and found good. A refusal changes no byte.
+fn attach(
+    buffer: &mut [u8],
+    journal: Tallied,
+    part: &[u8],
+    counted: Option<Tallies>,
+) -> Result<Tallied, Refusal>
+    requires { IfSome counted (λ t. t ≡ recount_of part.now) }
+    ensures { leaves buffer.new journal result ≡ attached buffer.old journal part.now (is_some counted) }
 {
     if !is_fit(buffer.len(), journal) {
-        return refused(Outcome::Unfit, journal);
+        return Err(Refusal::Unfit);
     }
-    if !counted.good {
-        return refused(Outcome::Malformed, journal);
-    }
+    let tallies = counted.ok_or(Refusal::Malformed)?;
     let used = journal.used;
     if !has_room(buffer.len(), used, part.len()) {
-        return refused(Outcome::NoRoom, journal);
+        return Err(Refusal::NoRoom);
     }
-    words::store_bytes(buffer, used, part, 0, part.len());
-    Kept {
-        outcome: Outcome::Done,
-        next: Tallied {
-            used: used + part.len(),
-            tallies: add(journal.tallies, counted.tallies),
-        },
-    }
+    words::store(buffer, used, part);
+    Ok(Tallied {
+        used: used + part.len(),
+        tallies: add(journal.tallies, tallies),
+    })
 }
 
-// The bytes of one record, put behind the bytes in use and counted.
-pub fn append(buffer: &mut [u8], journal: Tallied, bytes: &[u8]) -> Kept
-    ensures result_after { leaves buffer.new result ≡ append_of buffer.old journal bytes.now }
+// The bytes of one record, put behind the bytes in use and counted. A refusal changes no byte.
+#[tactic(auto, using(crate::proofs::Claims::tally_claims))]
+pub fn append(buffer: &mut [u8], journal: Tallied, bytes: &[u8]) -> Result<Tallied, Refusal>
+    ensures result_after { leaves buffer.new journal result ≡ append_of buffer.old journal bytes.now }
     ensures claims { TallyClaims }
 {
     attach(buffer, journal, bytes, weigh_one(bytes))
 }
 
-// A whole journal, put behind the bytes in use; nothing of what is in use is counted anew.
-pub fn join(buffer: &mut [u8], journal: Tallied, part: &[u8]) -> Kept
-    ensures result_after { leaves buffer.new result ≡ join_of buffer.old journal part.now }
+// A whole journal, put behind the bytes in use; nothing of what is in use is counted anew. A refusal changes no byte.
+#[tactic(auto, using(crate::proofs::Claims::tally_claims, crate::proofs::Joining::join_claims))]
+pub fn join(buffer: &mut [u8], journal: Tallied, part: &[u8]) -> Result<Tallied, Refusal>
+    ensures result_after { leaves buffer.new journal result ≡ join_of buffer.old journal part.now }
     ensures claims { TallyClaims × JoinClaims }
 {
     attach(buffer, journal, part, recount(part))

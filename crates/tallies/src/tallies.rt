@@ -14,13 +14,6 @@ pub struct Tallies {
     pub third: Counts,
 }
 
-// What a count of a whole buffer gives: whether it is good, and where it is, its tallies.
-#[derive(Clone, Copy)]
-pub struct Recount {
-    pub good: bool,
-    pub tallies: Tallies,
-}
-
 fn no_counts() -> Counts
     ensures { result ≡ no_counts }
 {
@@ -70,27 +63,16 @@ pub fn add(a: Tallies, b: Tallies) -> Tallies
 fn are_within(counts: Counts, limit: usize) -> bool
     ensures { result ≡ counts_within limit counts }
 {
-    if limit < counts.deletes {
-        return false;
-    }
-    if limit < counts.updates {
-        return false;
-    }
-    counts.additions <= limit
+    counts.deletes <= limit && counts.updates <= limit && counts.additions <= limit
 }
 
 // Whether no count is above a limit.
+#[tactic(auto, unfolding(crate::specs::Tallies::tallies_within))]
 pub fn is_within(tallies: Tallies, limit: usize) -> bool
     ensures { result ≡ tallies_within limit tallies }
 {
-    if !are_within(tallies.negative, limit) {
-        return false;
-    }
-    if !are_within(tallies.first, limit) {
-        return false;
-    }
-    if !are_within(tallies.second, limit) {
-        return false;
-    }
-    are_within(tallies.third, limit)
+    are_within(tallies.negative, limit)
+        && are_within(tallies.first, limit)
+        && are_within(tallies.second, limit)
+        && are_within(tallies.third, limit)
 }

@@ -1,8 +1,8 @@
 -- What is claimed of the definitions of `Flat`.
-use Rattle.std.specs.Prelude.{ℕ, ◌≡◌, true, false, List}
+use Rattle.std.specs.Prelude.{ℕ, ◌≡◌, true, false, List, Some, None}
 use Rattle.journal.specs.declared.counts.Counts.{Counts}
 use Rattle.tallies.specs.declared.keeping.Tallied.{Tallied}
-use Rattle.tallies.specs.declared.keeping.Outcome.TheVariants.{Done, Malformed, NoRoom, Unfit}
+use Rattle.tallies.specs.declared.keeping.Refusal.TheVariants.{Malformed, NoRoom, Unfit}
 use Rattle.tallies.specs.Keeping.{Left}
 use Rattle.draugsten_tallies.specs.declared.flat.FlatCounts.{FlatCounts}
 use Rattle.draugsten_tallies.specs.declared.flat.FlatTallied.{FlatTallied}
@@ -26,10 +26,10 @@ EachCrosses = (t : Tallied) → TalliedCross t (flat_tallied t)
 
 -- what an operation leaves, in the header's numbers
 pub record LeftCrosses (x : Left) (f : FlatLeft) : Type 0 where
-  pub done : x.outcome ≡ Done → f.number ≡ 0
-  pub malformed : x.outcome ≡ Malformed → f.number ≡ 50
-  pub no_room : x.outcome ≡ NoRoom → f.number ≡ 51
-  pub unfit : x.outcome ≡ Unfit → f.number ≡ 52
+  pub done : x.outcome ≡ None → f.number ≡ 0
+  pub malformed : x.outcome ≡ Some Malformed → f.number ≡ 50
+  pub no_room : x.outcome ≡ Some NoRoom → f.number ≡ 51
+  pub unfit : x.outcome ≡ Some Unfit → f.number ≡ 52
   pub buffer : f.buffer ≡ x.buffer
   pub journal : TalliedCross x.next f.journal
 

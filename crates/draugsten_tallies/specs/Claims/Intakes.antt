@@ -1,11 +1,11 @@
 -- What is claimed of the definitions of `Intakes`.
-use Rattle.std.specs.Prelude.{ℕ, ◌+◌, ◌≤◌, ◌<◌, ◌≡◌, true, false, List, [], length, take}
+use Rattle.std.specs.Prelude.{ℕ, ◌+◌, ◌≤◌, ◌<◌, ◌≡◌, true, false, List, [], length, take, Some, None}
 use Rattle.std.proofs.lemmas.List.Edits.{sets}
 use Rattle.words.specs.Claims.Exactly.{Exactly}
 use Rattle.records.specs.Records.{length_of, kind_of, size_of}
 use Rattle.records.specs.Cutting.{Standing, start, fed}
 use Rattle.tallies.specs.declared.keeping.Tallied.{Tallied}
-use Rattle.tallies.specs.declared.keeping.Outcome.TheVariants.{Done, Malformed, NoRoom, Unfit}
+use Rattle.tallies.specs.declared.keeping.Refusal.TheVariants.{Malformed, NoRoom, Unfit}
 use Rattle.tallies.specs.Keeping.{fits, append_of}
 use Rattle.tallies.specs.Sessions as sessions
 use Rattle.tallies.specs.Claims.Sessions as sessions-claims
@@ -27,9 +27,9 @@ pub record IntakeCrosses (i : Intake) (f : FlatIntake) : Type 0 where
   pub journal : TalliedCross i.place.journal f.journal
   pub number : f.number ≡ i.place.number
   pub held : f.held ≡ i.held
-  pub none : Exactly (i.place.fault ≡ Done) (f.fault ≡ 0)
-  pub malformed : Exactly (i.place.fault ≡ Malformed) (f.fault ≡ 50)
-  pub no_room : Exactly (i.place.fault ≡ NoRoom) (f.fault ≡ 51)
+  pub none : Exactly (i.place.fault ≡ None) (f.fault ≡ 0)
+  pub malformed : Exactly (i.place.fault ≡ Some Malformed) (f.fault ≡ 50)
+  pub no_room : Exactly (i.place.fault ≡ Some NoRoom) (f.fault ≡ 51)
 
 abbrev pub EachIntakeCrosses : Type 0
 EachIntakeCrosses = (i : Intake) → IntakeCrosses i (flat_intake i)
@@ -44,7 +44,7 @@ EachIntakeComes = (f : FlatIntake) → IntakeCrosses (intake_from f) f
 
 -- any other number becomes Unfit, which no stream reports
 abbrev pub FaultsTaken : Type 0
-FaultsTaken = (f : FlatIntake) → (f.fault ≡ 0 → ⊥) → (f.fault ≡ 50 → ⊥) → (f.fault ≡ 51 → ⊥) → (intake_from f).place.fault ≡ Unfit
+FaultsTaken = (f : FlatIntake) → (f.fault ≡ 0 → ⊥) → (f.fault ≡ 50 → ⊥) → (f.fault ≡ 51 → ⊥) → (intake_from f).place.fault ≡ Some Unfit
 
 -- nothing held, number 1, no fault. DECISIONS: "A start is not refused: over a use and tallies that do not fit, its first burst is (54)."
 pub record Starts (t : FlatTallied) (f : FlatIntake) : Type 0 where
@@ -75,7 +75,7 @@ LeftTaken = (buffer store bufferThen storeThen bytes : List ℕ) (i : FlatIntake
 
 -- DECISIONS: "a use beyond the buffer, or a count above the use, is refused before both": exactly what an append calls unfit
 abbrev pub FitsAsAppend : Type 0
-FitsAsAppend = (buffer r : List ℕ) (t : Tallied) → Exactly (fits (length buffer) t ≡ false) ((append_of buffer t r).outcome ≡ Unfit)
+FitsAsAppend = (buffer r : List ℕ) (t : Tallied) → Exactly (fits (length buffer) t ≡ false) ((append_of buffer t r).outcome ≡ Some Unfit)
 
 -- A start over tallies that are kept is taken.
 abbrev pub KeptTaken : Type 0
@@ -96,16 +96,16 @@ pub record Misfits (buffer store : List ℕ) (f : FlatIntake) (number : ℕ) : T
   pub too_many : length store < f.held → number ≡ 54
   pub whole : good_front (length_of (take f.held store)) (kind_of (take f.held store)) ≡ true → size_of (take f.held store) ≤ f.held → number ≡ 54
   pub front : 4 ≤ f.held → good_front (length_of (take f.held store)) (kind_of (take f.held store)) ≡ false → number ≡ 54
-  pub unfit : (append_of buffer (tallied_from f.journal) []).outcome ≡ Unfit → number ≡ 54
+  pub unfit : (append_of buffer (tallied_from f.journal) []).outcome ≡ Some Unfit → number ≡ 54
 
 abbrev pub EachMisfit : Type 0
 EachMisfit = (buffer store : List ℕ) (f : FlatIntake) → 32_808 ≤ length store → Misfits buffer store f (state_number store (length buffer) (intake_from f))
 
 -- what a burst tells, of the standing that the reader of records says, with every byte of both buffers
 pub record BurstTells (store : List ℕ) (i : FlatIntake) (bytes bufferThen storeThen : List ℕ) (r : FlatBurst) (w : Standing Taking) : Type 0 where
-  pub none : Exactly (w.state.fault ≡ Done) (r.number ≡ 0)
-  pub malformed : Exactly (w.state.fault ≡ Malformed) (r.number ≡ 50)
-  pub no_room : Exactly (w.state.fault ≡ NoRoom) (r.number ≡ 51)
+  pub none : Exactly (w.state.fault ≡ None) (r.number ≡ 0)
+  pub malformed : Exactly (w.state.fault ≡ Some Malformed) (r.number ≡ 50)
+  pub no_room : Exactly (w.state.fault ≡ Some NoRoom) (r.number ≡ 51)
   pub in_none : r.number ≡ 0 → r.in_record ≡ 0
   pub in_fault : (r.number ≡ 0 → ⊥) → r.in_record ≡ w.state.number
   pub again : r.intake.fault ≡ r.number

@@ -1,5 +1,5 @@
 -- What is claimed of an intake, cited by the contracts of `start`, `burst` and `end` (document 02, M-109).
-use Rattle.std.specs.Prelude.{ℕ, zero, suc, ◌+◌, ◌-◌, ◌≤◌, ◌<◌, ◌≡◌, true, false, cond, List, [], ◌++◌, ◌⊎◌, leb, length, take, drop}
+use Rattle.std.specs.Prelude.{ℕ, zero, suc, ◌+◌, ◌-◌, ◌≤◌, ◌<◌, ◌≡◌, true, false, cond, List, [], ◌++◌, ◌⊎◌, leb, length, take, drop, Option, Some, None}
 use Rattle.std.proofs.lemmas.List.Edits.{sets}
 use Rattle.words.specs.Numbers.{le}
 use Rattle.words.specs.Claims.Exactly.{Exactly}
@@ -8,8 +8,8 @@ use Rattle.records.specs.Claims.Records.{FedExactly}
 use Rattle.records.specs.Cutting.{due, Standing, run, start, fed, fed_all, joined}
 use Rattle.journal.specs.Journal.{good_record}
 use Rattle.tallies.specs.declared.keeping.Tallied.{Tallied}
-use Rattle.tallies.specs.declared.keeping.Outcome.{Outcome}
-use Rattle.tallies.specs.declared.keeping.Outcome.TheVariants as outcome
+use Rattle.tallies.specs.declared.keeping.Refusal.{Refusal}
+use Rattle.tallies.specs.declared.keeping.Refusal.TheVariants as refusal
 use Rattle.tallies.specs.Keeping.{Left, fits}
 use Rattle.tallies.specs.Claims.Tallies.{OneGood, AttachedExactly}
 use Rattle.tallies.specs.Claims.Sessions as sessions
@@ -68,36 +68,36 @@ left_of x = record { buffer = x.buffer; next = x.journal; outcome = x.fault }
 -- a complete record: as an append, and the number goes on by one, up to 2^64 - 1
 pub record StepExactly (s : Taking) (r : List ℕ) (x : Taking) : Type 0 where
   pub attached : AttachedExactly (OneGood r) s.buffer s.journal r (left_of x)
-  pub next : x.fault ≡ outcome.Done → s.number < 0xffff_ffff_ffff_ffff → x.number ≡ s.number + 1
-  pub last : x.fault ≡ outcome.Done → s.number ≡ 0xffff_ffff_ffff_ffff → x.number ≡ s.number
-  pub at_fault : (x.fault ≡ outcome.Done → ⊥) → x.number ≡ s.number
+  pub next : x.fault ≡ None → s.number < 0xffff_ffff_ffff_ffff → x.number ≡ s.number + 1
+  pub last : x.fault ≡ None → s.number ≡ 0xffff_ffff_ffff_ffff → x.number ≡ s.number
+  pub at_fault : (x.fault ≡ None → ⊥) → x.number ≡ s.number
 
 abbrev pub EachStep : Type 0
-EachStep = (s : Taking) (r : List ℕ) → s.fault ≡ outcome.Done → StepExactly s r (step s r)
+EachStep = (s : Taking) (r : List ℕ) → s.fault ≡ None → StepExactly s r (step s r)
 
 -- bytes under four, with a front that is refused, with one that waits for the rest, and with a complete record
 pub record Judged (s : Taking) (b : List ℕ) : Type 0 where
   pub short : length b < 4 → fed reader (start s) b ≡ stands_at s b
   pub front : 4 ≤ length b → good_front (length_of b) (kind_of b) ≡ false
-      → fed reader (start s) b ≡ start (record { buffer = s.buffer; journal = s.journal; number = s.number; fault = outcome.Malformed })
+      → fed reader (start s) b ≡ start (record { buffer = s.buffer; journal = s.journal; number = s.number; fault = Some refusal.Malformed })
   pub waits : 4 ≤ length b → good_front (length_of b) (kind_of b) ≡ true → length b < size_of b → fed reader (start s) b ≡ stands_at s b
   pub complete : 4 ≤ length b → good_front (length_of b) (kind_of b) ≡ true → size_of b ≤ length b
       → fed reader (start s) b ≡ fed reader (start (step s (first_record b))) (drop (size_of b) b)
 
 abbrev pub EachJudged : Type 0
-EachJudged = (s : Taking) (b : List ℕ) → s.fault ≡ outcome.Done → fits (length s.buffer) s.journal ≡ true → Judged s b
+EachJudged = (s : Taking) (b : List ℕ) → s.fault ≡ None → fits (length s.buffer) s.journal ≡ true → Judged s b
 
 -- "after either, every burst and the end get the same refusal and change nothing"
 abbrev pub StopsForGood : Type 0
-StopsForGood = (s : Taking) (b : List ℕ) → (s.fault ≡ outcome.Done → ⊥) → fed reader (start s) b ≡ start s
+StopsForGood = (s : Taking) (b : List ℕ) → (s.fault ≡ None → ⊥) → fed reader (start s) b ≡ start s
 
 -- ---- an end
 
 pub record EndExactly (w : Standing Taking) : Type 0 where
-  pub nothing : w.state.fault ≡ outcome.Done → w.held ≡ [] → end_at w ≡ ending.Nothing
-  pub unfinished : w.state.fault ≡ outcome.Done → (w.held ≡ [] → ⊥) → end_at w ≡ ending.Unfinished w.state.number
-  pub malformed : w.state.fault ≡ outcome.Malformed → end_at w ≡ ending.Malformed w.state.number
-  pub no_room : w.state.fault ≡ outcome.NoRoom → end_at w ≡ ending.NoRoom w.state.number
+  pub nothing : w.state.fault ≡ None → w.held ≡ [] → end_at w ≡ ending.Nothing
+  pub unfinished : w.state.fault ≡ None → (w.held ≡ [] → ⊥) → end_at w ≡ ending.Unfinished w.state.number
+  pub malformed : w.state.fault ≡ Some refusal.Malformed → end_at w ≡ ending.Malformed w.state.number
+  pub no_room : w.state.fault ≡ Some refusal.NoRoom → end_at w ≡ ending.NoRoom w.state.number
 
 abbrev pub EachEnd : Type 0
 EachEnd = (w : Standing Taking) → EndExactly w
@@ -124,12 +124,12 @@ abbrev pub StartReady : Type 0
 StartReady =
     (buffer store : List ℕ) (t : Tallied) → 32_808 ≤ length store → fits (length buffer) t ≡ true
     → Ready buffer store (start_of t)
-    × (standing_of buffer store (start_of t) ≡ start (record { buffer = buffer; journal = t; number = 1; fault = outcome.Done }))
+    × (standing_of buffer store (start_of t) ≡ start (record { buffer = buffer; journal = t; number = 1; fault = None }))
 
 -- ---- M-106's claim through any mixture of bursts, appends, joins and clears
 
 abbrev pub BurstKeeps : Type 0
-BurstKeeps = (held : List ℕ) (number : ℕ) (fault : Outcome) (bytes : List ℕ) → sessions.Keeps (bursting held number fault bytes)
+BurstKeeps = (held : List ℕ) (number : ℕ) (fault : Option Refusal) (bytes : List ℕ) → sessions.Keeps (bursting held number fault bytes)
 
 -- The store after a burst, before what is held now: with nothing held it stays. Else the burst's bytes go after the held ones: those that are due to
 -- the record or, if fewer than 18 are held, 18 or more came and no more than 18 are due, 18 of them. No other byte changes.

@@ -1,5 +1,5 @@
 -- Terms of the contracts of private functions; no public promise cites them.
-use Rattle.std.specs.Prelude.{ℕ, ◌+◌, ◌-◌, ◌≤◌, ◌<◌, min, ◌≡◌, true, false, cond, List, ◌++◌, eqb, length, take, drop}
+use Rattle.std.specs.Prelude.{ℕ, ◌+◌, ◌-◌, ◌≤◌, ◌<◌, min, ◌≡◌, true, false, cond, List, ◌++◌, eqb, length, take, drop, Some, is_some}
 use Rattle.std.proofs.lemmas.List.Edits.{sets}
 use Rattle.records.specs.Records.{records, all_good, size_limit}
 use Rattle.records.specs.Cutting.{due, ripe, run, start, fed}
@@ -7,8 +7,8 @@ use Rattle.journal.specs.Journal.{good_record}
 use Rattle.stretch.specs.declared.steps.Stretch.{Stretch}
 use Rattle.stretch.specs.Packed.{packed_of}
 use Rattle.stretch.specs.Inner.Stretches.{nothing, Few}
-use Rattle.tallies.specs.declared.keeping.Outcome.TheVariants as outcome
-use Rattle.tallies.specs.Keeping.{fits, is_done}
+use Rattle.tallies.specs.declared.keeping.Refusal.TheVariants as refusal
+use Rattle.tallies.specs.Keeping.{fits}
 use Rattle.intake.specs.declared.bursts.Intake.{Intake}
 use Rattle.intake.specs.declared.bursts.Finished.{Finished}
 use Rattle.intake.specs.declared.sweeping.Passed.{Passed}
@@ -25,7 +25,7 @@ due_by len kind = 4 + cond (good_front len kind) (len - 2) 0
 pub record Sound (s : Taking) : Type 0 where
   pub numbered : 1 ≤ s.number
   pub fit : fits (length s.buffer) s.journal ≡ true
-  pub real : s.fault ≡ outcome.Unfit → ⊥
+  pub real : s.fault ≡ Some refusal.Unfit → ⊥
 
 -- The store once a record that is held, if one is, has what is due to it, or all of the burst, and nothing more.
 unfoldable pub finished : List ℕ → ℕ → List ℕ → List ℕ
@@ -58,7 +58,7 @@ pub record Settles (buffer store : List ℕ) (i : Intake) (bytes bufferThen stor
 -- so many bytes are due at a place, and all of them are there
 pub record Advanceable (buffer : List ℕ) (from : Passed) (bytes : List ℕ) (n : ℕ) : Type 0 where
   pub sound : Sound (taking_of buffer from.place)
-  pub going : is_done from.place.fault ≡ true
+  pub going : is_some from.place.fault ≡ false
   pub is : due good_front (drop from.at bytes) ≡ n
   pub fits : from.at + n ≤ length bytes
 
@@ -104,7 +104,7 @@ pub record Begins (store : List ℕ) (held : ℕ) (bytes storeThen : List ℕ) (
 
 -- a stretch that finds room behind the bytes in use
 pub record Takeable (buffer held : List ℕ) (from : Place) (bytes : List ℕ) (s : Stretch) : Type 0 where
-  pub going : is_done from.fault ≡ true
+  pub going : is_some from.fault ≡ false
   pub fit : fits (length buffer) from.journal ≡ true
   pub covers : Covers held bytes s
   pub onward : Onward s

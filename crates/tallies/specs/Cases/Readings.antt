@@ -1,12 +1,12 @@
 -- Records and appends in bytes, to look at, cited by the contracts of `append` and `recount`; `Claims` tells of all of them.
-use Rattle.std.specs.Prelude.{ℕ, Bool, not, ◌&&◌, List, [], ◌∷◌, ◌++◌, T, eqb, replicate}
+use Rattle.std.specs.Prelude.{ℕ, Bool, ◌&&◌, List, [], ◌∷◌, ◌++◌, T, eqb, replicate, Option, Some, None, is_some, is_none, unwrap_or}
 use Rattle.words.specs.Claims.Cases.{all, same}
 use Rattle.journal.specs.declared.counts.Counts.{Counts}
 use Rattle.tallies.specs.declared.tallies.Tallies.{Tallies}
 use Rattle.tallies.specs.declared.keeping.Tallied.{Tallied}
-use Rattle.tallies.specs.declared.keeping.Outcome.{Outcome}
-use Rattle.tallies.specs.declared.keeping.Outcome.TheVariants.{Done, Malformed, NoRoom, Unfit}
-use Rattle.tallies.specs.Tallies.{no_counts, recount_of, recount_for}
+use Rattle.tallies.specs.declared.keeping.Refusal.{Refusal}
+use Rattle.tallies.specs.declared.keeping.Refusal.TheVariants.{Malformed, NoRoom, Unfit}
+use Rattle.tallies.specs.Tallies.{no_counts, no_tallies, recount_of, recount_for}
 use Rattle.tallies.specs.Keeping.{Left, nothing, append_of}
 
 -- ---- records
@@ -57,18 +57,18 @@ in_each_row =
 -- a malformed journal, here with a byte more, has no tallies
 abbrev pub uncounted : List Bool
 uncounted =
-    ((recount_for (delete 10)).good && tells (recount_for (delete 10)).tallies (1 ∷ 0 ∷ 0 ∷ 1 ∷ 0 ∷ 0 ∷ 0 ∷ 0 ∷ 0 ∷ 0 ∷ 0 ∷ 0 ∷ []))
-    ∷ (not (recount_for (delete 10 ++ (0 ∷ []))).good && tells (recount_for (delete 10 ++ (0 ∷ []))).tallies (0 ∷ 0 ∷ 0 ∷ 0 ∷ 0 ∷ 0 ∷ 0 ∷ 0 ∷ 0 ∷ 0 ∷ 0 ∷ 0
+    (is_some (recount_for (delete 10)) && tells (unwrap_or (recount_for (delete 10)) no_tallies) (1 ∷ 0 ∷ 0 ∷ 1 ∷ 0 ∷ 0 ∷ 0 ∷ 0 ∷ 0 ∷ 0 ∷ 0 ∷ 0 ∷ []))
+    ∷ (is_none (recount_for (delete 10 ++ (0 ∷ []))) && tells (unwrap_or (recount_for (delete 10 ++ (0 ∷ []))) no_tallies) (0 ∷ 0 ∷ 0 ∷ 0 ∷ 0 ∷ 0 ∷ 0 ∷ 0 ∷ 0 ∷ 0 ∷ 0 ∷ 0
     ∷ []))
     ∷ []
 
 -- ---- appends
 
-abbrev pub number : Outcome → ℕ
-number Done = 0
-number Malformed = 1
-number NoRoom = 2
-number Unfit = 3
+abbrev pub number : Option Refusal → ℕ
+number None = 0
+number (Some Malformed) = 1
+number (Some NoRoom) = 2
+number (Some Unfit) = 3
 
 -- a use with so many deletes of scope 1 beside it
 abbrev pub holding : ℕ → ℕ → Tallied

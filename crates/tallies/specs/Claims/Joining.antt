@@ -1,5 +1,5 @@
 -- What is claimed of journals that are joined end to end, cited by the contract of `join` (document 02, M-108).
-use Rattle.std.specs.Prelude.{ℕ, ◌+◌, ◌≤◌, ◌≡◌, Bool, true, ◌&&◌, List, [], ◌∷◌, ◌++◌, T, eqb, length, replicate}
+use Rattle.std.specs.Prelude.{ℕ, ◌+◌, ◌≤◌, ◌≡◌, Bool, true, ◌&&◌, List, [], ◌∷◌, ◌++◌, T, eqb, length, replicate, Some, None}
 use Rattle.words.specs.Claims.Cases.{all, same}
 use Rattle.records.specs.Records.{records}
 use Rattle.journal.specs.declared.operation.Operation.{Operation}
@@ -7,7 +7,7 @@ use Rattle.journal.specs.Journal.{well_formed, operands, entries}
 use Rattle.journal.specs.Scope.{selection_of}
 use Rattle.journal.specs.Reportable.{chosen, reportable}
 use Rattle.tallies.specs.declared.keeping.Tallied.{Tallied}
-use Rattle.tallies.specs.declared.keeping.Outcome.TheVariants.{Done, Unfit}
+use Rattle.tallies.specs.declared.keeping.Refusal.TheVariants.{Unfit}
 use Rattle.tallies.specs.Tallies.{recount_of, tally_sum}
 use Rattle.tallies.specs.Keeping.{nothing, join_of}
 use Rattle.tallies.specs.Sessions.{Standing, in_use, fresh, joining}
@@ -62,19 +62,19 @@ JoinedInTurn =
 abbrev pub JoinTaken : Type 0
 JoinTaken =
     (s : Standing) → Counted s → (b : List ℕ) → well_formed b ≡ true → Room s (length b)
-    → ((join_of s.buffer s.journal b).outcome ≡ Done) × (in_use (joining b s) ≡ in_use s ++ b)
+    → ((join_of s.buffer s.journal b).outcome ≡ None) × (in_use (joining b s) ≡ in_use s ++ b)
 
 -- An empty part joins and changes nothing; a journal joined to an empty one is itself.
 abbrev pub NothingJoined : Type 0
-NothingJoined = (s : Standing) → Counted s → ((join_of s.buffer s.journal []).outcome ≡ Done) × (joining [] s ≡ s)
+NothingJoined = (s : Standing) → Counted s → ((join_of s.buffer s.journal []).outcome ≡ None) × (joining [] s ≡ s)
 
 abbrev pub JoinedToNothing : Type 0
 JoinedToNothing =
     (buffer b : List ℕ) → well_formed b ≡ true → length b ≤ length buffer
-    → ((join_of buffer nothing b).outcome ≡ Done) × ((in_use (joining b (fresh buffer)) ≡ b) × ((joining b (fresh buffer)).journal.tallies ≡ recount_of b))
+    → ((join_of buffer nothing b).outcome ≡ None) × ((in_use (joining b (fresh buffer)) ≡ b) × ((joining b (fresh buffer)).journal.tallies ≡ recount_of b))
 
 abbrev pub KeptIsFitToJoin : Type 0
-KeptIsFitToJoin = (s : Standing) → Counted s → (part : List ℕ) → (join_of s.buffer s.journal part).outcome ≡ Unfit → ⊥
+KeptIsFitToJoin = (s : Standing) → Counted s → (part : List ℕ) → (join_of s.buffer s.journal part).outcome ≡ Some Unfit → ⊥
 
 -- ---- in bytes: three journals joined both ways
 

@@ -1,5 +1,5 @@
 -- What is claimed of tallies, cited by the contracts of `append`, `join` and `cleared`, and of the recount by that of `recount` (document 02, M-106).
-use Rattle.std.specs.Prelude.{ℕ, ◌+◌, ◌≤◌, ◌<◌, ◌≡◌, true, false, cond, List, [], ◌∷◌, ◌⊎◌, eqb, length}
+use Rattle.std.specs.Prelude.{ℕ, ◌+◌, ◌≤◌, ◌<◌, ◌≡◌, true, false, cond, List, [], ◌∷◌, ◌⊎◌, eqb, length, Some, None, is_some}
 use Rattle.std.proofs.lemmas.List.Edits.{sets}
 use Rattle.words.specs.Numbers.{le}
 use Rattle.words.specs.Claims.Exactly.{Exactly}
@@ -11,8 +11,8 @@ use Rattle.journal.specs.Scope.{row_of, asking, selection_of}
 use Rattle.journal.specs.Reportable.{counts_of}
 use Rattle.tallies.specs.declared.tallies.Tallies.{Tallies}
 use Rattle.tallies.specs.declared.keeping.Tallied.{Tallied}
-use Rattle.tallies.specs.declared.keeping.Outcome.TheVariants.{Done, Malformed, NoRoom, Unfit}
-use Rattle.tallies.specs.Tallies.{no_tallies, recount_of, recount_for, tally_sum, tallies_within}
+use Rattle.tallies.specs.declared.keeping.Refusal.TheVariants.{Malformed, NoRoom, Unfit}
+use Rattle.tallies.specs.Tallies.{recount_of, recount_for, tally_sum, tallies_within}
 use Rattle.tallies.specs.Keeping.{Left, append_of}
 use Rattle.tallies.specs.Sessions.{Standing, fresh, appending, joining, clearing}
 use Rattle.tallies.specs.Claims.Sessions.{Counted, Keeps, Turn, standing, Session}
@@ -41,14 +41,14 @@ OneGood r = (records r ≡ r ∷ []) × (well_formed r ≡ true)
 
 -- a part put after the bytes in use, if it is good
 pub record AttachedExactly (Good : Type 0) (b : List ℕ) (t : Tallied) (part : List ℕ) (x : Left) : Type 0 where
-  pub unfit : Exactly (x.outcome ≡ Unfit) ((length b < t.used) ⊎ (tallies_within t.used t.tallies ≡ false))
-  pub malformed : (x.outcome ≡ Unfit → ⊥) → Exactly (x.outcome ≡ Malformed) (Good → ⊥)
-  pub no_room : (x.outcome ≡ Unfit → ⊥) → Good → Exactly (x.outcome ≡ NoRoom) ((length b < t.used + length part) ⊎ (1_048_576 < t.used + length part))
-  pub otherwise : (x.outcome ≡ Unfit → ⊥) → (x.outcome ≡ Malformed → ⊥) → (x.outcome ≡ NoRoom → ⊥) → x.outcome ≡ Done
-  pub done : x.outcome ≡ Done → (x.buffer ≡ sets b t.used part)
+  pub unfit : Exactly (x.outcome ≡ Some Unfit) ((length b < t.used) ⊎ (tallies_within t.used t.tallies ≡ false))
+  pub malformed : (x.outcome ≡ Some Unfit → ⊥) → Exactly (x.outcome ≡ Some Malformed) (Good → ⊥)
+  pub no_room : (x.outcome ≡ Some Unfit → ⊥) → Good → Exactly (x.outcome ≡ Some NoRoom) ((length b < t.used + length part) ⊎ (1_048_576 < t.used + length part))
+  pub otherwise : (x.outcome ≡ Some Unfit → ⊥) → (x.outcome ≡ Some Malformed → ⊥) → (x.outcome ≡ Some NoRoom → ⊥) → x.outcome ≡ None
+  pub done : x.outcome ≡ None → (x.buffer ≡ sets b t.used part)
       × ((x.next.used ≡ t.used + length part) × (x.next.tallies ≡ tally_sum t.tallies (recount_of part)))
   -- "change neither journal nor tallies"
-  pub refused : (x.outcome ≡ Done → ⊥) → (x.buffer ≡ b) × (x.next ≡ t)
+  pub refused : (x.outcome ≡ None → ⊥) → (x.buffer ≡ b) × (x.next ≡ t)
 
 abbrev pub EachAppend : Type 0
 EachAppend = (b : List ℕ) (t : Tallied) (r : List ℕ) → AttachedExactly (OneGood r) b t r (append_of b t r)
@@ -81,14 +81,14 @@ EachSum = (a b : Tallies) → TalliesAdd a b (tally_sum a b)
 
 -- Over tallies that are kept nothing is unfit.
 abbrev pub KeptIsFit : Type 0
-KeptIsFit = (s : Standing) → Counted s → (r : List ℕ) → (append_of s.buffer s.journal r).outcome ≡ Unfit → ⊥
+KeptIsFit = (s : Standing) → Counted s → (r : List ℕ) → (append_of s.buffer s.journal r).outcome ≡ Some Unfit → ⊥
 
 -- A malformed or oversized journal has no tallies.
 pub record RecountExactly (j : List ℕ) : Type 0 where
-  pub good : Exactly ((recount_for j).good ≡ true) (well_formed j ≡ true)
-  pub counted : well_formed j ≡ true → (recount_for j).tallies ≡ recount_of j
-  pub malformed : well_formed j ≡ false → (recount_for j).tallies ≡ no_tallies
-  pub oversized : 1_048_576 < length j → (recount_for j).good ≡ false
+  pub good : Exactly (is_some (recount_for j) ≡ true) (well_formed j ≡ true)
+  pub counted : well_formed j ≡ true → recount_for j ≡ Some (recount_of j)
+  pub malformed : well_formed j ≡ false → recount_for j ≡ None
+  pub oversized : 1_048_576 < length j → recount_for j ≡ None
 
 abbrev pub EachRecount : Type 0
 EachRecount = (j : List ℕ) → RecountExactly j

@@ -1,5 +1,5 @@
 -- What a buffer counts, and sums that can be made: terms of contracts inside; no public promise cites them.
-use Rattle.std.specs.Prelude.{ℕ, ◌+◌, ◌<◌, ◌≡◌, true, false, cond, List, length}
+use Rattle.std.specs.Prelude.{ℕ, ◌+◌, ◌<◌, ◌≡◌, true, cond, List, length, Option, Some, None}
 use Rattle.records.specs.Records.{records}
 use Rattle.journal.specs.declared.counts.Counts.{Counts}
 use Rattle.journal.specs.Journal.{well_formed}
@@ -8,18 +8,15 @@ use Rattle.stretch.specs.declared.packed.Packed.{Packed}
 use Rattle.tallies.specs.declared.tallies.Tallies.{Tallies}
 use Rattle.tallies.specs.declared.counting.Weighed.{Weighed}
 use Rattle.tallies.specs.declared.keeping.Tallied.{Tallied}
-use Rattle.tallies.specs.Tallies.{no_tallies, recount_of, tally_sum, tallies_within}
+use Rattle.tallies.specs.Tallies.{recount_of, tally_sum, tallies_within}
 
 -- the tallies that packed counts are
 abbrev pub tallies_from : Packed → Tallies
 tallies_from p = record { negative = unpacked p.negative; first = unpacked p.first; second = unpacked p.second; third = unpacked p.third }
 
-abbrev pub nothing_weighed : Weighed
-nothing_weighed = record { good = false; records = 0; tallies = no_tallies }
-
--- a journal, how many records it has, and its tallies
-unfoldable pub weighed_of : List ℕ → Weighed
-weighed_of j = cond (well_formed j) (record { good = true; records = length (records j); tallies = recount_of j }) nothing_weighed
+-- a journal: how many records it has, and its tallies
+unfoldable pub weighed_of : List ℕ → Option Weighed
+weighed_of j = cond (well_formed j) (Some (record { records = length (records j); tallies = recount_of j })) None
 
 -- no sum of two counts passes 64 bits
 pub record CountsFit (a b : Counts) : Type 0 where

@@ -1,8 +1,9 @@
 -- `keeping::draugsten_tallies_join` meets its contract.
-use mathlib.Core.Path.{refl}
+use mathlib.Core.Path.{ap, ◌∙◌}
+use Rattle.draugsten_tallies.specs.Flat.{flat_left}
 use Rattle.draugsten_tallies.proofs.Promises.{join_promise}
 use Rattle.draugsten_tallies.proofs.keeping.draugsten_tallies_join.Goals as goal
 
 pub returns : goal.returns
 returns c =
-    record { journal_after = rw (c.flat_kept.ensures.0, c.flat_kept.ensures.1, ← c.tallied_from.ensures, ← c.join.ensures.result_after) refl; promise = join_promise }
+    record { journal_after = c.flat_kept.ensures _ ∙ ap flat_left (rw c.tallied_from.ensures at c.join.ensures.result_after); promise = join_promise }

@@ -9,13 +9,13 @@ pub loop-place-init : goal.loop-place-init
 loop-place-init c =
     pass_starts _ _ _ c.requires.0 c.requires.1
 
-pub shape_of-buffer-then-not-is_going : goal.shape_of-buffer-then-not-is_going
-shape_of-buffer-then-not-is_going c =
+pub shape_of-buffer-then-is_some : goal.shape_of-buffer-then-is_some
+shape_of-buffer-then-is_some c =
     c.loop-place.invariant.size
 
-pub returns-then-not-is_going : goal.returns-then-not-is_going
-returns-then-not-is_going c =
-    pass_over c.loop-place.invariant (sym c.is_going.ensures ∙ c.if-not-is_going.true)
+pub returns-then-is_some : goal.returns-then-is_some
+returns-then-is_some c =
+    pass_over c.loop-place.invariant (sym c.is_some.ensures ∙ c.if-is_some.true)
 
 pub ripe_at-n-requires : goal.ripe_at-n-requires
 ripe_at-n-requires c =
@@ -27,13 +27,13 @@ shape_of-buffer-then-n-eq0 c =
 
 pub returns-then-n-eq0 : goal.returns-then-n-eq0
 returns-then-n-eq0 c =
-    pass_held c.loop-place.invariant (sym c.is_going.ensures ∙ c.if-not-is_going.false) _ c.ripe_at-n.ensures c.if-n-eq0.true
+    pass_held c.loop-place.invariant (sym c.is_some.ensures ∙ c.if-is_some.false) _ c.ripe_at-n.ensures c.if-n-eq0.true
 
 pub advance-next-requires : goal.advance-next-requires
 advance-next-requires c =
     let now = c.loop-place.invariant in
     let ripe = ripe_is good_front _ _ _ now.place c.ripe_at-n.ensures c.if-n-eq0.false in
-    record { sound = now.sound; going = sym c.is_going.ensures ∙ c.if-not-is_going.false; is = ripe.is; fits = ripe.fits }
+    record { sound = now.sound; going = sym c.is_some.ensures ∙ c.if-is_some.false; is = ripe.is; fits = ripe.fits }
 
 pub loop-place-smaller : goal.loop-place-smaller
 loop-place-smaller c =

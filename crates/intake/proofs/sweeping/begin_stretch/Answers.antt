@@ -21,60 +21,60 @@ returns-then-bytes-lt-NODE_LIMIT c =
 
 pub slice_bounds-judge-end-2 : goal.slice_bounds-judge-end-2
 slice_bounds-judge-end-2 c =
-    let stored : Stored c.args.store.now c.args.held c.args.bytes.now c.store_bytes.new.s =
+    let stored : Stored c.args.store.now c.args.held c.args.bytes.now c.store.new.s =
     record {
       holds = c.requires;
       some = c.if-held-eq0.false;
       low = c.if-held-ge-NODE_LIMIT.false;
       long = c.if-bytes-lt-NODE_LIMIT.false;
-      is = c.store_bytes.ensures;
+      is = c.store.ensures;
     } in
     sym (length-take-le _ _ (judged_inside (stored)))
 
 pub overflow_sub-result : goal.overflow_sub-result
 overflow_sub-result c =
-    let stored : Stored c.args.store.now c.args.held c.args.bytes.now c.store_bytes.new.s =
+    let stored : Stored c.args.store.now c.args.held c.args.bytes.now c.store.new.s =
     record {
       holds = c.requires;
       some = c.if-held-eq0.false;
       low = c.if-held-ge-NODE_LIMIT.false;
       long = c.if-bytes-lt-NODE_LIMIT.false;
-      is = c.store_bytes.ensures;
+      is = c.store.ensures;
     } in
     omega (arith, begun_size (stored) _ _ c.in-Some.is c.judge.ensures)
 
 pub weights_for-requires : goal.weights_for-requires
 weights_for-requires c =
-    let stored : Stored c.args.store.now c.args.held c.args.bytes.now c.store_bytes.new.s =
+    let stored : Stored c.args.store.now c.args.held c.args.bytes.now c.store.new.s =
     record {
       holds = c.requires;
       some = c.if-held-eq0.false;
       low = c.if-held-ge-NODE_LIMIT.false;
       long = c.if-bytes-lt-NODE_LIMIT.false;
-      is = c.store_bytes.ensures;
+      is = c.store.ensures;
     } in
     begun_known (stored) _ _ c.in-Some.is c.judge.ensures
 
 pub returns-in_default : goal.returns-in_default
 returns-in_default c =
-    let stored : Stored c.args.store.now c.args.held c.args.bytes.now c.store_bytes.new.s =
+    let stored : Stored c.args.store.now c.args.held c.args.bytes.now c.store.new.s =
     record {
       holds = c.requires;
       some = c.if-held-eq0.false;
       low = c.if-held-ge-NODE_LIMIT.false;
       long = c.if-bytes-lt-NODE_LIMIT.false;
-      is = c.store_bytes.ensures;
+      is = c.store.ensures;
     } in
     begins_not (stored) _ c.nothing-in_default.ensures
 
 pub returns : goal.returns
 returns c =
-    let stored : Stored c.args.store.now c.args.held c.args.bytes.now c.store_bytes.new.s =
+    let stored : Stored c.args.store.now c.args.held c.args.bytes.now c.store.new.s =
     record {
       holds = c.requires;
       some = c.if-held-eq0.false;
       low = c.if-held-ge-NODE_LIMIT.false;
       long = c.if-bytes-lt-NODE_LIMIT.false;
-      is = c.store_bytes.ensures;
+      is = c.store.ensures;
     } in
     begins (stored) _ _ c.in-Some.is c.judge.ensures _ c.weights_for.ensures

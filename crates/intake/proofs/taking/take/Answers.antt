@@ -1,19 +1,16 @@
 -- `taking::take` meets its contract.
-use mathlib.Core.Path.{sym, ap, ◌∙◌}
-use mathlib.Core.Bool.{not}
+use mathlib.Core.Path.{sym, ◌∙◌}
 use Rattle.intake.proofs.Steps.{sticky, step_done, step_refused}
 use Rattle.intake.proofs.taking.take.Goals as goal
 
-pub returns-then-not-is_going : goal.returns-then-not-is_going
-returns-then-not-is_going c =
-    sym (sticky _ _ (ap not (sym c.is_going.ensures) ∙ c.if-not-is_going.true-raw))
+pub returns-then-is_some : goal.returns-then-is_some
+returns-then-is_some c =
+    sym (sticky _ _ (sym c.is_some.ensures ∙ c.if-is_some.true))
 
-pub returns-then-is_going : goal.returns-then-is_going
-returns-then-is_going c =
-    let going = sym c.is_going.ensures ∙ c.if-not-is_going.false in
-    step_done _ _ going _ c.append-kept.result c.append-kept.ensures.result_after (sym c.is_going-2.ensures ∙ c.if-is_going.true) _ c.number_after.ensures
+pub returns-in-Ok : goal.returns-in-Ok
+returns-in-Ok c =
+    step_done _ _ (sym c.is_some.ensures ∙ c.if-is_some.false) _ c.append.result c.append.ensures.result_after _ c.in-Ok.is _ c.saturating_add.ensures
 
-pub returns : goal.returns
-returns c =
-    let going = sym c.is_going.ensures ∙ c.if-not-is_going.false in
-    step_refused _ _ going _ c.append-kept.result c.append-kept.ensures.result_after (sym c.is_going-2.ensures ∙ c.if-is_going.false)
+pub returns-in-Err : goal.returns-in-Err
+returns-in-Err c =
+    step_refused _ _ (sym c.is_some.ensures ∙ c.if-is_some.false) _ c.append.result c.append.ensures.result_after _ c.in-Err.is
