@@ -9,28 +9,36 @@ use lib.ListN.{length}
 use borrow.Author.Tests.{eq-eqb, ne_eqb}
 use Rattle.std.specs.Prelude.{Option, Some, None}
 use Rattle.tallies.specs.declared.keeping.Refusal.{Refusal}
-use Rattle.tallies.specs.declared.keeping.Refusal.TheVariants.{Malformed, NoRoom, Unfit}
+use Rattle.tallies.specs.declared.keeping.Refusal.TheVariants as refusal
 use Rattle.intake.specs.declared.bursts.Intake.{Intake}
 use Rattle.intake.specs.declared.bursts.Ending.{Ending}
 use Rattle.intake.specs.Bursts.{Bursts, end_of}
+use Rattle.draugsten_tallies.specs.declared.intakes.Unready.{Unready}
+use Rattle.draugsten_tallies.specs.declared.intakes.Unready.TheVariants.{Small, Unfit}
 use Rattle.draugsten_tallies.specs.declared.intakes.FlatIntake.{FlatIntake}
 use Rattle.draugsten_tallies.specs.declared.intakes.FlatBurst.{FlatBurst}
 use Rattle.draugsten_tallies.specs.Flat.{outcome_number}
 use Rattle.draugsten_tallies.specs.Intakes.{flat_intake, intake_from, state_number, FlatBursts, answering, flat_end, end_answer}
-use Rattle.draugsten_tallies.specs.Inner.Terms.{record_by, record_for}
+use Rattle.draugsten_tallies.specs.Inner.Terms.{record_by, record_for, unready_number}
 use Rattle.draugsten_tallies.proofs.IntakeCrossed.{returns}
 
 -- the number of the record at fault
 
 record_none : (o : Option Refusal) (n : ℕ) → outcome_number o ≡ 0 → record_by o n ≡ 0
 record_none None n e = refl
-record_none (Some Malformed) n e = absurd (omega arith)
-record_none (Some NoRoom) n e = absurd (omega arith)
-record_none (Some Unfit) n e = absurd (omega arith)
+record_none (Some refusal.Malformed) n e = absurd (omega arith)
+record_none (Some refusal.NoRoom) n e = absurd (omega arith)
+record_none (Some refusal.Unfit) n e = absurd (omega arith)
 
 record_some : (o : Option Refusal) (n : ℕ) → (outcome_number o ≡ 0 → ⊥) → record_by o n ≡ n
 record_some None n f = absurd (f refl)
 record_some (Some r) n f = refl
+
+-- a state that is refused has a number
+
+pub unready_some : (u : Unready) → unready_number u ≡ 0 → ⊥
+unready_some Small e = absurd (omega arith)
+unready_some Unfit e = absurd (omega arith)
 
 -- a state that came in by its flat form, refused or taken
 

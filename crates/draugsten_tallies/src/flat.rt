@@ -32,62 +32,74 @@ pub struct FlatTallied {
     pub tallies: FlatTallies,
 }
 
-fn flat_counts(c: Counts) -> FlatCounts
-    ensures { result ≡ flat_counts c }
-{
-    FlatCounts {
-        deletes: c.deletes as u64,
-        updates: c.updates as u64,
-        additions: c.additions as u64,
+impl From<Counts> for FlatCounts {
+    ghost from_gives = { λ c f. f ≡ flat_counts c };
+
+    fn from(c: Counts) -> FlatCounts {
+        FlatCounts {
+            deletes: c.deletes as u64,
+            updates: c.updates as u64,
+            additions: c.additions as u64,
+        }
     }
 }
 
-fn counts_from(f: FlatCounts) -> Counts
-    ensures { result ≡ counts_from f }
-{
-    Counts {
-        deletes: f.deletes as usize,
-        updates: f.updates as usize,
-        additions: f.additions as usize,
+impl From<FlatCounts> for Counts {
+    ghost from_gives = { λ f c. c ≡ counts_from f };
+
+    fn from(f: FlatCounts) -> Counts {
+        Counts {
+            deletes: f.deletes as usize,
+            updates: f.updates as usize,
+            additions: f.additions as usize,
+        }
     }
 }
 
-pub fn flat_tallies(t: Tallies) -> FlatTallies
-    ensures { result ≡ flat_tallies t }
-{
-    FlatTallies {
-        negative: flat_counts(t.negative),
-        first: flat_counts(t.first),
-        second: flat_counts(t.second),
-        third: flat_counts(t.third),
+impl From<Tallies> for FlatTallies {
+    ghost from_gives = { λ t f. f ≡ flat_tallies t };
+
+    fn from(t: Tallies) -> FlatTallies {
+        FlatTallies {
+            negative: t.negative.into(),
+            first: t.first.into(),
+            second: t.second.into(),
+            third: t.third.into(),
+        }
     }
 }
 
-pub fn tallies_from(f: FlatTallies) -> Tallies
-    ensures { result ≡ tallies_from f }
-{
-    Tallies {
-        negative: counts_from(f.negative),
-        first: counts_from(f.first),
-        second: counts_from(f.second),
-        third: counts_from(f.third),
+impl From<FlatTallies> for Tallies {
+    ghost from_gives = { λ f t. t ≡ tallies_from f };
+
+    fn from(f: FlatTallies) -> Tallies {
+        Tallies {
+            negative: f.negative.into(),
+            first: f.first.into(),
+            second: f.second.into(),
+            third: f.third.into(),
+        }
     }
 }
 
-pub fn flat_tallied(t: Tallied) -> FlatTallied
-    ensures { result ≡ flat_tallied t }
-{
-    FlatTallied {
-        used: t.used,
-        tallies: flat_tallies(t.tallies),
+impl From<Tallied> for FlatTallied {
+    ghost from_gives = { λ t f. f ≡ flat_tallied t };
+
+    fn from(t: Tallied) -> FlatTallied {
+        FlatTallied {
+            used: t.used,
+            tallies: t.tallies.into(),
+        }
     }
 }
 
-pub fn tallied_from(f: FlatTallied) -> Tallied
-    ensures { result ≡ tallied_from f }
-{
-    Tallied {
-        used: f.used,
-        tallies: tallies_from(f.tallies),
+impl From<FlatTallied> for Tallied {
+    ghost from_gives = { λ f t. t ≡ tallied_from f };
+
+    fn from(f: FlatTallied) -> Tallied {
+        Tallied {
+            used: f.used,
+            tallies: f.tallies.into(),
+        }
     }
 }

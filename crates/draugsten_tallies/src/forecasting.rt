@@ -5,7 +5,7 @@ ghost use Rattle.forecast.specs.Forecast.{forecast_of};
 ghost use Rattle.draugsten_tallies.specs.Flat.{tallies_from};
 ghost use Rattle.draugsten_tallies.specs.Promises.{ForecastPromise};
 
-use crate::flat::{FlatTallies, tallies_from};
+use crate::flat::FlatTallies;
 use node_area::StateVariable;
 
 // What update-nodes would answer: its status as a word, and the state that it would leave.
@@ -23,10 +23,9 @@ pub extern "C" fn draugsten_forecast(tallies: FlatTallies, scope: u32, state: u3
         (result.next ≡ (forecast_of (tallies_from tallies) scope state).next) }
     ensures promise { ForecastPromise }
 {
-    let told = forecast::forecast_from(tallies_from(tallies), scope, StateVariable(state));
-    let status = told.status;
+    let told = forecast::forecast_from(tallies.into(), scope, StateVariable(state));
     FlatForecast {
-        status: calls::status_word(status),
+        status: calls::status_word(told.status),
         next: told.next,
     }
 }

@@ -3,10 +3,10 @@ ghost use Rattle.std.specs.Prelude.{◌≡◌, length};
 ghost use Rattle.intake.specs.Bursts.{start_of};
 ghost use Rattle.draugsten_tallies.specs.Flat.{tallied_from};
 ghost use Rattle.draugsten_tallies.specs.Intakes.{fault_from, flat_intake, intake_from, state_number, flat_end, FlatBursts, end_answer};
-ghost use Rattle.draugsten_tallies.specs.Inner.Terms.{record_for};
+ghost use Rattle.draugsten_tallies.specs.Inner.Terms.{record_for, unready_number, ready_number};
 ghost use Rattle.draugsten_tallies.specs.Promises.{IntakePromise};
 
-use crate::flat::{FlatTallied, flat_tallied, tallied_from};
+use crate::flat::FlatTallied;
 use crate::keeping::outcome_number;
 use intake::{Ending, Intake, Place};
 use tallies::Refusal;
@@ -43,6 +43,7 @@ pub struct FlatEnd {
 }
 
 // A number that is none of a fault is taken for one that no stream has.
+// Kept: no From, since neither u32 nor Option is of this crate.
 fn fault_from(number: u32) -> Option<Refusal>
     ensures { result ≡ fault_from number }
 {
@@ -54,43 +55,64 @@ fn fault_from(number: u32) -> Option<Refusal>
     }
 }
 
-fn intake_from(f: FlatIntake) -> Intake
-    ensures { result ≡ intake_from f }
-{
-    Intake {
-        place: Place {
-            journal: tallied_from(f.journal),
-            number: f.number,
-            fault: fault_from(f.fault),
-        },
-        held: f.held,
+impl From<FlatIntake> for Intake {
+    ghost from_gives = { λ f i. i ≡ intake_from f };
+
+    fn from(f: FlatIntake) -> Intake {
+        Intake {
+            place: Place {
+                journal: f.journal.into(),
+                number: f.number,
+                fault: fault_from(f.fault),
+            },
+            held: f.held,
+        }
     }
 }
 
-fn flat_intake(i: Intake) -> FlatIntake
-    ensures { result ≡ flat_intake i }
-{
-    let place = i.place;
-    FlatIntake {
-        journal: flat_tallied(place.journal),
-        number: place.number,
-        held: i.held,
-        fault: outcome_number(place.fault),
+impl From<Intake> for FlatIntake {
+    ghost from_gives = { λ i f. f ≡ flat_intake i };
+
+    fn from(i: Intake) -> FlatIntake {
+        FlatIntake {
+            journal: i.place.journal.into(),
+            number: i.place.number,
+            held: i.held,
+            fault: outcome_number(i.place.fault),
+        }
     }
 }
 
-// 55 a store that is too small, 54 a state that no start or burst leaves, else 0.
-fn state_number(store: &[u8], size: usize, from: Intake) -> u32
-    ensures { result ≡ state_number store.now size from }
+// Why a burst or an end does nothing: the store is too small, or the state is one that no start or burst leaves.
+#[derive(Clone, Copy, PartialEq, Eq)]
+enum Unready {
+    Small,
+    Unfit,
+}
+
+impl From<Unready> for u32 {
+    ghost from_gives = { λ u n. n ≡ unready_number u };
+
+    fn from(unready: Unready) -> u32 {
+        match unready {
+            Unready::Small => 55,
+            Unready::Unfit => 54,
+        }
+    }
+}
+
+// Whether an intake can go on. A store that is too small is told before a state that does not fit.
+#[tactic(auto, unfolding(crate::specs::Intakes::state_number))]
+fn check_state(store: &[u8], size: usize, from: Intake) -> Result<(), Unready>
+    ensures { ready_number result ≡ state_number store.now size from }
 {
     if store.len() < STORE_SIZE {
-        return 55;
+        return Err(Unready::Small);
     }
-    if intake::is_ready(store, size, from) {
-        0
-    } else {
-        54
+    if !intake::is_ready(store, size, from) {
+        return Err(Unready::Unfit);
     }
+    Ok(())
 }
 
 // The number of the record at fault, 0 where no fault was met.
@@ -103,30 +125,32 @@ fn record_for(place: Place) -> u64
     }
 }
 
-fn flat_end(ending: Ending) -> FlatEnd
-    ensures { result ≡ flat_end ending }
-{
-    match ending {
-        Ending::Nothing => FlatEnd {
-            number: 0,
-            in_record: 0,
-        },
-        Ending::Unfinished(n) => FlatEnd {
-            number: 53,
-            in_record: n,
-        },
-        Ending::Malformed(n) => FlatEnd {
-            number: 50,
-            in_record: n,
-        },
-        Ending::NoRoom(n) => FlatEnd {
-            number: 51,
-            in_record: n,
-        },
-        Ending::Unfit(_) => FlatEnd {
-            number: 54,
-            in_record: 0,
-        },
+impl From<Ending> for FlatEnd {
+    ghost from_gives = { λ e f. f ≡ flat_end e };
+
+    fn from(ending: Ending) -> FlatEnd {
+        match ending {
+            Ending::Nothing => FlatEnd {
+                number: 0,
+                in_record: 0,
+            },
+            Ending::Unfinished(n) => FlatEnd {
+                number: 53,
+                in_record: n,
+            },
+            Ending::Malformed(n) => FlatEnd {
+                number: 50,
+                in_record: n,
+            },
+            Ending::NoRoom(n) => FlatEnd {
+                number: 51,
+                in_record: n,
+            },
+            Ending::Unfit(_) => FlatEnd {
+                number: 54,
+                in_record: 0,
+            },
+        }
     }
 }
 
@@ -136,7 +160,7 @@ pub extern "C" fn draugsten_intake_start(journal: FlatTallied) -> FlatIntake
     ensures value { result ≡ flat_intake (start_of (tallied_from journal)) }
     ensures promise { IntakePromise }
 {
-    flat_intake(intake::start(tallied_from(journal)))
+    intake::start(journal.into()).into()
 }
 
 // One burst, which may break anywhere.
@@ -150,11 +174,10 @@ pub extern "C" fn draugsten_intake_burst(
     ensures flat_bursts { FlatBursts buffer.old store.old intake bytes.now buffer.new store.new result }
     ensures promise { IntakePromise }
 {
-    let from = intake_from(intake);
-    let refusal = state_number(&*store, buffer.len(), from);
-    if refusal != 0 {
+    let from = Intake::from(intake);
+    if let Err(unready) = check_state(&*store, buffer.len(), from) {
         return FlatBurst {
-            number: refusal,
+            number: unready.into(),
             in_record: 0,
             intake,
         };
@@ -164,7 +187,7 @@ pub extern "C" fn draugsten_intake_burst(
     FlatBurst {
         number: outcome_number(place.fault),
         in_record: record_for(place),
-        intake: flat_intake(next),
+        intake: next.into(),
     }
 }
 
@@ -174,13 +197,12 @@ pub extern "C" fn draugsten_intake_end(buffer: &[u8], store: &[u8], intake: Flat
     ensures value { result ≡ end_answer (length buffer.now) store.now intake }
     ensures promise { IntakePromise }
 {
-    let from = intake_from(intake);
-    let refusal = state_number(store, buffer.len(), from);
-    if refusal != 0 {
+    let from = Intake::from(intake);
+    if let Err(unready) = check_state(store, buffer.len(), from) {
         return FlatEnd {
-            number: refusal,
+            number: unready.into(),
             in_record: 0,
         };
     }
-    flat_end(intake::end(from))
+    intake::end(from).into()
 }

@@ -6,7 +6,7 @@ ghost use Rattle.tallies.specs.Tallies.{no_tallies, recount_for};
 ghost use Rattle.draugsten_tallies.specs.Flat.{flat_tallied, tallied_from, flat_tallies, outcome_number, good_number, flat_leaves, flat_left};
 ghost use Rattle.draugsten_tallies.specs.Promises.{TalliesPromise, JoinPromise, RecountPromise};
 
-use crate::flat::{FlatTallied, FlatTallies, flat_tallied, flat_tallies, tallied_from};
+use crate::flat::{FlatTallied, FlatTallies};
 use tallies::{Refusal, Tallied};
 
 // What an operation answers: 0 or the number of its refusal, and the journal's use and tallies afterwards.
@@ -26,6 +26,7 @@ pub struct FlatRecount {
 }
 
 // 0 where nothing was refused, else the number of the refusal.
+// Kept: no From, since Refusal is of a crate that knows no numbers of the C interface.
 pub fn outcome_number(outcome: Option<Refusal>) -> u32
     ensures { result ≡ outcome_number outcome }
 {
@@ -44,7 +45,7 @@ fn flat_kept(journal: FlatTallied, kept: Result<Tallied, Refusal>) -> FlatKept
     match kept {
         Ok(next) => FlatKept {
             number: 0,
-            journal: flat_tallied(next),
+            journal: next.into(),
         },
         Err(refusal) => FlatKept {
             number: outcome_number(Some(refusal)),
@@ -53,19 +54,13 @@ fn flat_kept(journal: FlatTallied, kept: Result<Tallied, Refusal>) -> FlatKept
     }
 }
 
-fn good_number(good: bool) -> u32
-    ensures { result ≡ good_number good }
-{
-    if good { 0 } else { 50 }
-}
-
 // The use and the tallies of an empty journal: a journal starts with them, and is cleared by them.
 #[unsafe(no_mangle)]
 pub extern "C" fn draugsten_tallies_cleared() -> FlatTallied
     ensures value { result ≡ flat_tallied nothing }
     ensures promise { TalliesPromise }
 {
-    flat_tallied(tallies::cleared())
+    tallies::cleared().into()
 }
 
 // The bytes of one record, put behind the bytes in use of the journal's buffer and counted.
@@ -80,7 +75,7 @@ pub extern "C" fn draugsten_tallies_append(
         (append_of buffer.old (tallied_from journal) bytes.now) }
     ensures promise { TalliesPromise }
 {
-    flat_kept(journal, tallies::append(buffer, tallied_from(journal), bytes))
+    flat_kept(journal, tallies::append(buffer, journal.into(), bytes))
 }
 
 // A whole journal, put behind the bytes in use of the journal's buffer and counted.
@@ -94,7 +89,7 @@ pub extern "C" fn draugsten_tallies_join(
         (join_of buffer.old (tallied_from journal) part.now) }
     ensures promise { JoinPromise }
 {
-    flat_kept(journal, tallies::join(buffer, tallied_from(journal), part))
+    flat_kept(journal, tallies::join(buffer, journal.into(), part))
 }
 
 // The tallies of a journal, counted anew.
@@ -105,10 +100,14 @@ pub extern "C" fn draugsten_tallies_recount(journal: &[u8]) -> FlatRecount
         (result.tallies ≡ flat_tallies (unwrap_or (recount_for journal.now) no_tallies)) }
     ensures promise { RecountPromise }
 {
-    let counted = tallies::recount(journal);
-    let none = tallies::cleared().tallies;
-    FlatRecount {
-        number: good_number(counted.is_some()),
-        tallies: flat_tallies(counted.unwrap_or(none)),
+    match tallies::recount(journal) {
+        Some(tallies) => FlatRecount {
+            number: 0,
+            tallies: tallies.into(),
+        },
+        None => FlatRecount {
+            number: 50,
+            tallies: tallies::cleared().tallies.into(),
+        },
     }
 }

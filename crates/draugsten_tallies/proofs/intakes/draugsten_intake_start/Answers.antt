@@ -7,4 +7,4 @@ use Rattle.draugsten_tallies.proofs.intakes.draugsten_intake_start.Goals as goal
 
 pub returns : goal.returns
 returns c =
-    record { value = c.flat_intake.ensures ∙ ap flat_intake (c.start.ensures.value ∙ ap start_of c.tallied_from.ensures); promise = intake_promise }
+    record { value = c.into-2.ensures ∙ ap flat_intake (c.start.ensures.value ∙ ap start_of c.into.ensures); promise = intake_promise }

@@ -6,4 +6,4 @@ use Rattle.draugsten_tallies.proofs.keeping.draugsten_tallies_cleared.Goals as g
 
 pub returns : goal.returns
 returns c =
-    record { value = c.flat_tallied.ensures ∙ ap flat_tallied c.cleared.ensures.value; promise = tallies_promise }
+    record { value = c.into.ensures ∙ ap flat_tallied c.cleared.ensures.value; promise = tallies_promise }

@@ -6,4 +6,4 @@ use Rattle.draugsten_tallies.proofs.keeping.draugsten_tallies_join.Goals as goal
 
 pub returns : goal.returns
 returns c =
-    record { journal_after = c.flat_kept.ensures _ ∙ ap flat_left (rw c.tallied_from.ensures at c.join.ensures.result_after); promise = join_promise }
+    record { journal_after = c.flat_kept.ensures _ ∙ ap flat_left (rw c.into.ensures at c.join.ensures.result_after); promise = join_promise }
