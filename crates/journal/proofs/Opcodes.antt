@@ -1,11 +1,13 @@
 -- The three opcodes, sets of them, and the four kinds of records of nodes.
-use mathlib.Core.Path.{◌≡◌, sym, ◌∙◌}
+use mathlib.Core.Path.{◌≡◌, refl, sym, ◌∙◌}
 use mathlib.Core.Bool.{cond}
 use Prim.Native.Nat.{ℕ, zero, suc, ◌*◌, ◌-◌, ◌/◌, ◌%◌, ◌^◌, ◌<◌}
 use native.Mathlib.Nat.{mul-zero, mul-one, one-mul}
 use native.Mathlib.Omega.{arith}
 use lib.Dec.{eqb}
-use Rattle.journal.specs.Journal.{IsOpcode}
+use Rattle.journal.specs.Journal.{IsOpcode, number}
+use Rattle.journal.specs.declared.operation.Opcode.{Opcode}
+use Rattle.journal.specs.declared.operation.Opcode.TheVariants as codes
 use Rattle.journal.specs.Terms.{IsKind, opcode_for}
 use Rattle.journal.specs.Scope.{holds}
 
@@ -17,6 +19,18 @@ code_2 = record { low = omega arith; high = omega arith }
 
 pub code_3 : IsOpcode 3
 code_3 = record { low = omega arith; high = omega arith }
+
+-- the number of an opcode is one of the three
+pub number_is : (o : Opcode) → IsOpcode (number o)
+number_is codes.Delete = code_1
+number_is codes.Update = code_2
+number_is codes.Add = code_3
+
+-- and one that is no addition is not the third
+pub not_third : (o : Opcode) → (o ≡ codes.Add → ⊥) → number o ≡ 3 → ⊥
+not_third codes.Delete h e = omega arith
+not_third codes.Update h e = omega arith
+not_third codes.Add h e = h refl
 
 -- a statement about every opcode
 pub each-code : (P : ℕ → Type 0) → P 1 → P 2 → P 3 → (code : ℕ) → IsOpcode code → P code

@@ -3,6 +3,8 @@ use Rattle.std.specs.Prelude.{ℕ, ◌≤◌, Bool, cond, ◌&&◌, ◌||◌, Li
 use Rattle.words.specs.Numbers.{le, le16, le32}
 use Rattle.records.specs.Records.{length_of, kind_of, records, well_formed_by, size_limit}
 use Rattle.journal.specs.Property.{good_property}
+use Rattle.journal.specs.declared.operation.Opcode.{Opcode}
+use Rattle.journal.specs.declared.operation.Opcode.TheVariants as codes
 use Rattle.journal.specs.declared.operation.Operation.{Operation}
 use Rattle.journal.specs.declared.operation.Operation.TheVariants.{Delete, Update, Add}
 
@@ -43,6 +45,11 @@ abbrev pub opcode : Operation → ℕ
 opcode (Delete p) = 1
 opcode (Update p) = 2
 opcode (Add p i) = 3
+
+abbrev pub number : Opcode → ℕ
+number codes.Delete = 1
+number codes.Update = 2
+number codes.Add = 3
 
 pub record IsOpcode (code : ℕ) : Type 0 where
   pub low : 1 ≤ code

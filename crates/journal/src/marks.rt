@@ -1,8 +1,10 @@
 // Marks: places that a scan came to, with the packed counts of what stands before them.
 ghost use Rattle.std.specs.Prelude.{◌≡◌, ◌+◌, ◌*◌, ◌≤◌};
-ghost use Rattle.journal.specs.Journal.{IsOpcode};
+ghost use Rattle.journal.specs.Journal.{number};
 ghost use Rattle.journal.specs.Marks.{count, mark_limit, Noted, listed};
 ghost use Rattle.journal.specs.Inner.Terms.{last_before, sought};
+
+use crate::operation::Opcode;
 
 // Packed counts have 21 bits for each opcode: a delete adds 1, an update this, and an addition this times this.
 pub const COUNT_LIMIT: u64 = 2_097_152;
@@ -34,17 +36,14 @@ pub struct Place {
 }
 
 // The count of an opcode in packed counts.
-pub fn count_of(code: usize, packed: u64) -> usize
-    requires { IsOpcode code }
-    ensures { result ≡ count code packed }
+pub fn count_of(opcode: Opcode, packed: u64) -> usize
+    ensures { result ≡ count (number opcode) packed }
 {
-    if code == 1 {
-        return (packed % COUNT_LIMIT) as usize;
+    match opcode {
+        Opcode::Delete => (packed % COUNT_LIMIT) as usize,
+        Opcode::Update => (packed / COUNT_LIMIT % COUNT_LIMIT) as usize,
+        Opcode::Add => (packed / LARGEST_WEIGHT % COUNT_LIMIT) as usize,
     }
-    if code == 2 {
-        return (packed / COUNT_LIMIT % COUNT_LIMIT) as usize;
-    }
-    (packed / LARGEST_WEIGHT % COUNT_LIMIT) as usize
 }
 
 impl Marks {
@@ -70,27 +69,27 @@ impl Marks {
     }
 
     // The last mark with no more than k operations of an opcode before it.
-    fn last_before(&self, code: usize, k: usize) -> Option<Mark>
-        requires { (self.now.noted ≤ mark_limit) × IsOpcode code }
-        ensures { result ≡ last_before code k (listed self.now) }
+    fn last_before(&self, opcode: Opcode, k: usize) -> Option<Mark>
+        requires { self.now.noted ≤ mark_limit }
+        ensures { result ≡ last_before (number opcode) k (listed self.now) }
     {
         self.places[..self.noted]
             .iter()
             .rev()
             .copied()
-            .find(|mark| count_of(code, mark.counts) <= k)
+            .find(|mark| count_of(opcode, mark.counts) <= k)
     }
 
     // Where to look for operation number k of an opcode: from that mark, or from the start.
-    pub fn seek(&self, code: usize, k: usize) -> Place
-        requires { (self.now.noted ≤ mark_limit) × IsOpcode code }
-        ensures { result ≡ sought code k (listed self.now) }
+    pub fn seek(&self, opcode: Opcode, k: usize) -> Place
+        requires { self.now.noted ≤ mark_limit }
+        ensures { result ≡ sought (number opcode) k (listed self.now) }
     {
-        match self.last_before(code, k) {
+        match self.last_before(opcode, k) {
             None => Place { at: 0, skip: k },
             Some(mark) => Place {
                 at: mark.at,
-                skip: k - count_of(code, mark.counts),
+                skip: k - count_of(opcode, mark.counts),
             },
         }
     }

@@ -2,7 +2,7 @@
 ghost use Rattle.std.specs.Prelude.{◌≡◌, true, cond, ◌&&◌, eqb, ◌+◌, ◌<◌, ◌≤◌, length, drop};
 ghost use Rattle.words.specs.Numbers.{le32};
 ghost use Rattle.records.specs.Records.{kind_of, size_of, first_record, records, all_good};
-ghost use Rattle.journal.specs.Journal.{good_record, IsOpcode, entry_of, entries, well_formed};
+ghost use Rattle.journal.specs.Journal.{good_record, number, entry_of, entries, well_formed};
 ghost use Rattle.journal.specs.Scope.{holds, asking};
 ghost use Rattle.journal.specs.Reportable.{reports, chosen};
 ghost use Rattle.journal.specs.Terms.{opcode_for, node_here};
@@ -10,29 +10,27 @@ ghost use Rattle.journal.specs.Marks.{Resumes, Marked};
 
 use crate::judging::read_type;
 use crate::marks::Marks;
+use crate::operation::Opcode;
 use crate::scope::Units;
 use crate::units::asked_here;
 
 // 1 where a set holds an opcode, else 0.
-fn in_set(set: u8, code: usize) -> usize
-    requires { IsOpcode code }
-    ensures { result ≡ cond (holds set code) 1 0 }
+fn in_set(set: u8, opcode: Opcode) -> usize
+    ensures { result ≡ cond (holds set (number opcode)) 1 0 }
 {
-    if code == 1 {
-        return (set % 2) as usize;
+    match opcode {
+        Opcode::Delete => (set % 2) as usize,
+        Opcode::Update => (set / 2 % 2) as usize,
+        Opcode::Add => (set / 4 % 2) as usize,
     }
-    if code == 2 {
-        return (set / 2 % 2) as usize;
-    }
-    (set / 4 % 2) as usize
 }
 
 // 1 where a set holds the opcode of a kind, and that is the opcode asked for, else 0.
-fn reported(set: u8, code: usize, kind: usize) -> usize
-    requires { IsOpcode code }
-    ensures { result ≡ cond (eqb (opcode_for kind) code && holds set code) 1 0 }
+fn reported(set: u8, opcode: Opcode, kind: usize) -> usize
+    ensures { result ≡ cond (eqb (opcode_for kind) (number opcode) && holds set (number opcode)) 1 0 }
 {
-    let bit = in_set(set, code);
+    let bit = in_set(set, opcode);
+    let code = opcode.number();
     if opcode_of(kind) == code { bit } else { 0 }
 }
 
@@ -63,45 +61,52 @@ fn reported_here(
     j: &[u8],
     row: &[u8; 17],
     units: Units,
-    code: usize,
+    opcode: Opcode,
     at: usize,
     kind: usize,
 ) -> usize
-    requires { (node_here j.now at ≡ true) × IsOpcode code × (kind ≡ kind_of (drop at j.now)) }
-    ensures { result ≡ cond (reports (asking row.now units) code (entry_of (first_record (drop at j.now)))) 1 0 }
+    requires { (node_here j.now at ≡ true) × (kind ≡ kind_of (drop at j.now)) }
+    ensures { result ≡ cond (reports (asking row.now units) (number opcode) (entry_of (first_record (drop at j.now)))) 1 0 }
 {
     let node = read_type(j, at);
-    let bit = reported(row[node as usize], code, kind);
+    let bit = reported(row[node as usize], opcode, kind);
     let asked = asked_here(j, at, units, kind);
     (bit + asked) / 2
 }
 
 // The record at a place from which the records are good. One of a property is not reported.
-pub fn visit(j: &[u8], row: &[u8; 17], units: Units, code: usize, at: usize) -> Visited
-    requires { (at < length j.now) × (all_good good_record (records (drop at j.now)) ≡ true) × IsOpcode code }
+pub fn visit(j: &[u8], row: &[u8; 17], units: Units, opcode: Opcode, at: usize) -> Visited
+    requires { (at < length j.now) × (all_good good_record (records (drop at j.now)) ≡ true) }
     ensures { (result.size ≡ size_of (drop at j.now)) ×
-        (result.reported ≡ cond (reports (asking row.now units) code (entry_of (first_record (drop at j.now)))) 1 0) }
+        (result.reported ≡ cond (reports (asking row.now units) (number opcode) (entry_of (first_record (drop at j.now)))) 1 0) }
 {
     let frame = records::read_frame(j, at);
     let size = records::record_size(frame);
     if 4 < frame.kind {
         return Visited { size, reported: 0 };
     }
-    let reported = reported_here(j, row, units, code, at, frame.kind as usize);
+    let reported = reported_here(j, row, units, opcode, at, frame.kind as usize);
     Visited { size, reported }
 }
 
 // A place from which the list of an opcode is what it is of the whole journal from operation number k on, by the marks of a scan.
-pub fn find(j: &[u8], row: &[u8; 17], units: Units, marks: &Marks, code: usize, k: usize) -> usize
-    requires { (well_formed j.now ≡ true) × Marked (asking row.now units) j.now marks.now × IsOpcode code ×
-        (k < length (chosen (asking row.now units) code (entries j.now))) }
-    ensures { Resumes (asking row.now units) j.now code k result 0 }
+pub fn find(
+    j: &[u8],
+    row: &[u8; 17],
+    units: Units,
+    marks: &Marks,
+    opcode: Opcode,
+    k: usize,
+) -> usize
+    requires { (well_formed j.now ≡ true) × Marked (asking row.now units) j.now marks.now ×
+        (k < length (chosen (asking row.now units) (number opcode) (entries j.now))) }
+    ensures { Resumes (asking row.now units) j.now (number opcode) k result 0 }
 {
-    let place = marks.seek(code, k);
+    let place = marks.seek(opcode, k);
     let mut at = place.at;
     let mut skip = place.skip;
     while 0 < skip {
-        let p = visit(j, row, units, code, at);
+        let p = visit(j, row, units, opcode, at);
         at += p.size;
         skip -= p.reported;
     }

@@ -3,7 +3,7 @@ ghost use Rattle.std.specs.Prelude.{◌≡◌, true, ◌+◌, ◌*◌, ◌-◌, 
 ghost use Rattle.std.proofs.lemmas.List.Edits.{sets};
 ghost use Rattle.journal.specs.Scope.{asking};
 ghost use Rattle.words.specs.Numbers.{word_bytes};
-ghost use Rattle.journal.specs.Journal.{IsOpcode, well_formed, entries};
+ghost use Rattle.journal.specs.Journal.{number, well_formed, entries};
 ghost use Rattle.journal.specs.Reportable.{chosen, reportable};
 ghost use Rattle.journal.specs.Marks.{Marked};
 ghost use Rattle.journal.specs.Inner.Terms.{operands_before};
@@ -16,33 +16,37 @@ ghost use Rattle.nodes.specs.Inner.Source.{Source};
 ghost use Rattle.nodes.specs.Inner.Writing.{width, Due, due_words, part_from, Handed, body_from};
 
 use crate::run::longest_run;
-use journal::{Counts, Marks, Units};
+use journal::{Counts, Marks, Opcode, Units};
 use node_area::{HEAD_SIZE, StateVariable, write_head};
 
 // The operand words of one operation of an opcode.
-fn width_of(code: usize) -> usize
-    ensures { result ≡ width code }
+fn width_of(opcode: Opcode) -> usize
+    ensures { result ≡ width (number opcode) }
 {
-    if code == 3 { 2 } else { 1 }
+    match opcode {
+        Opcode::Delete | Opcode::Update => 1,
+        Opcode::Add => 2,
+    }
 }
 
 // The operand words that a record ends in, stored; every other byte of the area stays.
-fn store_operands(area: &mut [u8], to: usize, j: &[u8], end: usize, code: usize)
-    requires { (to + 4 * width code ≤ length area.old) × (8 ≤ end) × (end ≤ length j.now) }
-    ensures { area.new ≡ sets area.old to (word_bytes (operands_before j.now code end)) }
+fn store_operands(area: &mut [u8], to: usize, j: &[u8], end: usize, opcode: Opcode)
+    requires { (to + 4 * width (number opcode) ≤ length area.old) × (8 ≤ end) × (end ≤ length j.now) }
+    ensures { area.new ≡ sets area.old to (word_bytes (operands_before j.now (number opcode) end)) }
 {
-    if code == 3 {
-        words::store_be32(area, to, journal::read_operand(j, end - 8));
-        words::store_be32(area, to + 4, journal::read_operand(j, end - 4));
-    } else {
-        words::store_be32(area, to, journal::read_operand(j, end - 4));
+    match opcode {
+        Opcode::Add => {
+            words::store_be32(area, to, journal::read_operand(j, end - 8));
+            words::store_be32(area, to + 4, journal::read_operand(j, end - 4));
+        }
+        _ => words::store_be32(area, to, journal::read_operand(j, end - 4)),
     }
 }
 
 // Operations of one opcode: so many from a number on, of those that the journal has, and where their part of the area begins.
 #[derive(Clone, Copy)]
 struct Part {
-    code: usize,
+    opcode: Opcode,
     first: usize,
     count: usize,
     to: usize,
@@ -51,31 +55,32 @@ struct Part {
 // The operands of the operations of a part, from a record's place on, stored behind its operator. A record that is passed over is
 // stored too, and the next one that counts in its place, so that no branch depends on a record.
 fn write_each(area: &mut [u8], j: &[u8], row: &[u8; 17], units: Units, part: Part, from: usize)
-    requires { Due (asking row.now units) j.now part.code from part.count ×
-        (part.to + 4 + 4 * (width part.code * part.count) ≤ length area.old) }
+    requires { Due (asking row.now units) j.now (number part.opcode) from part.count ×
+        (part.to + 4 + 4 * (width (number part.opcode) * part.count) ≤ length area.old) }
     ensures { area.new ≡ sets area.old (part.to + 4)
-        (word_bytes (due_words (asking row.now units) j.now part.code from part.count)) }
+        (word_bytes (due_words (asking row.now units) j.now (number part.opcode) from part.count)) }
 {
-    let code = part.code;
-    let step = 4 * width_of(code);
+    let opcode = part.opcode;
+    let step = 4 * width_of(opcode);
     let mut at = from;
     let mut to = part.to + 4;
     let mut due = part.count;
     while 0 < due {
-        let p = journal::visit(j, row, units, code, at);
+        let p = journal::visit(j, row, units, opcode, at);
         at += p.size;
-        store_operands(area, to, j, at, code);
+        store_operands(area, to, j, at, opcode);
         to += step * p.reported;
         due -= p.reported;
     }
 }
 
 // The same, with the two ways to ask for units apart: a loop that asks for all of them reads no unit.
+// Kept: the two arms name their units, so that the compiler makes two loops; one arm for both would test the units at each record.
 fn write_operands(area: &mut [u8], j: &[u8], row: &[u8; 17], units: Units, part: Part, from: usize)
-    requires { Due (asking row.now units) j.now part.code from part.count ×
-        (part.to + 4 + 4 * (width part.code * part.count) ≤ length area.old) }
+    requires { Due (asking row.now units) j.now (number part.opcode) from part.count ×
+        (part.to + 4 + 4 * (width (number part.opcode) * part.count) ≤ length area.old) }
     ensures { area.new ≡ sets area.old (part.to + 4)
-        (word_bytes (due_words (asking row.now units) j.now part.code from part.count)) }
+        (word_bytes (due_words (asking row.now units) j.now (number part.opcode) from part.count)) }
 {
     match units {
         Units::All => write_each(area, j, row, Units::All, part, from),
@@ -92,22 +97,23 @@ fn write_part(
     marks: &Marks,
     part: Part,
 ) -> usize
-    requires { (well_formed j.now ≡ true) × Marked (asking row.now units) j.now marks.now × IsOpcode part.code ×
-        (part.count ≤ length (chosen (asking row.now units) part.code
-        (entries j.now)) - part.first) × (part.count ≤ area_words) × (part.to + 4 * part_words (width part.code * part.count) ≤ length area.old) }
-    ensures value { result ≡ part.to + 4 * part_words (width part.code * part.count) }
+    requires { (well_formed j.now ≡ true) × Marked (asking row.now units) j.now marks.now ×
+        (part.count ≤ length (chosen (asking row.now units) (number part.opcode)
+        (entries j.now)) - part.first) × (part.count ≤ area_words) × (part.to + 4 * part_words (width (number part.opcode) * part.count) ≤ length area.old) }
+    ensures value { result ≡ part.to + 4 * part_words (width (number part.opcode) * part.count) }
     ensures area_after { area.new ≡ sets area.old part.to
-        (word_bytes (part_from (asking row.now units) j.now part.code part.first part.count)) }
+        (word_bytes (part_from (asking row.now units) j.now (number part.opcode) part.first part.count)) }
 {
-    let code = part.code;
+    let opcode = part.opcode;
     let first = part.first;
     let count = part.count;
     let to = part.to;
     if count == 0 {
         return to;
     }
-    let from = journal::find(j, row, units, marks, code, first);
-    let operands = width_of(code) * count;
+    let from = journal::find(j, row, units, marks, opcode, first);
+    let operands = width_of(opcode) * count;
+    let code = opcode.number();
     words::store_be32(area, to, (code * 0x0100_0000 + operands) as u32);
     write_operands(area, j, row, units, part, from);
     to + 4 * (1 + operands)
@@ -137,21 +143,21 @@ fn write_body(
     let passed = handing.passed;
     let run = handing.run;
     let deletes = Part {
-        code: 1,
+        opcode: Opcode::Delete,
         first: passed.deletes,
         count: run.deletes,
         to: HEAD_SIZE,
     };
     let second = write_part(area, j, row, units, marks, deletes);
     let updates = Part {
-        code: 2,
+        opcode: Opcode::Update,
         first: passed.updates,
         count: run.updates,
         to: second,
     };
     let third = write_part(area, j, row, units, marks, updates);
     let additions = Part {
-        code: 3,
+        opcode: Opcode::Add,
         first: passed.additions,
         count: run.additions,
         to: third,

@@ -9,16 +9,16 @@ ghost use Rattle.scanning.specs.Inner.Terms.{unpacked};
 use crate::noting::note;
 use crate::stride::stride;
 use crate::weights::{WeightTable, fill_weights};
-use journal::{Counts, Mark, Marks, Units};
+use journal::{Counts, Mark, Marks, Opcode, Units};
 
 // The three counts that were packed in one number.
 pub fn counts_of(packed: u64) -> Counts
     ensures { result ≡ unpacked packed }
 {
     Counts {
-        deletes: journal::count_of(1, packed),
-        updates: journal::count_of(2, packed),
-        additions: journal::count_of(3, packed),
+        deletes: journal::count_of(Opcode::Delete, packed),
+        updates: journal::count_of(Opcode::Update, packed),
+        additions: journal::count_of(Opcode::Add, packed),
     }
 }
 

@@ -1,17 +1,15 @@
 -- `marks::count_of` meets its contract.
-use mathlib.Core.Path.{◌≡◌}
 use native.Mathlib.Omega.{arith}
 use Rattle.journal.proofs.marks.count_of.Goals as goal
 
-pub returns-then-code-eq1 : goal.returns-then-code-eq1
-returns-then-code-eq1 c =
-    rw c.if-code-eq1.true (omega arith)
+pub returns-in-Delete : goal.returns-in-Delete
+returns-in-Delete c =
+    rw c.in-Delete.is (omega arith)
 
-pub returns-then-code-eq2 : goal.returns-then-code-eq2
-returns-then-code-eq2 c =
-    rw c.if-code-eq2.true (omega arith)
+pub returns-in-Update : goal.returns-in-Update
+returns-in-Update c =
+    rw c.in-Update.is (omega arith)
 
-pub returns : goal.returns
-returns c =
-    let third : c.args.code ≡ 3 = omega arith in
-    rw third (omega arith)
+pub returns-in-Add : goal.returns-in-Add
+returns-in-Add c =
+    rw c.in-Add.is (omega arith)

@@ -10,7 +10,7 @@ use Rattle.records.specs.Records.{kind_of, first_record}
 use Rattle.records.proofs.Choosing.{one_if_le}
 use Rattle.journal.specs.Scope.{holds, asking}
 use Rattle.journal.specs.Terms.{opcode_for}
-use Rattle.journal.specs.Journal.{entry_of}
+use Rattle.journal.specs.Journal.{entry_of, number}
 use Rattle.journal.specs.Reportable.{asks}
 use Rattle.journal.proofs.RecordLaws.{good_size_lem, good_fits, good_node_lem, good_reports}
 use Rattle.journal.proofs.walking.reported_here.Goals as goal
@@ -35,7 +35,7 @@ pub overflow_add-result : goal.overflow_add-result
 overflow_add-result c =
     let bits : (c.reported-bit.result ≤ 1) × (c.asked_here-asked.result ≤ 1) =
     let a = c.args in (
-      rw c.reported-bit.ensures (one_if_le (eqb (opcode_for a.kind) a.code && holds (get_or a.row.now c.read_type-node.result 0) a.code)),
+      rw c.reported-bit.ensures (one_if_le (eqb (opcode_for a.kind) (number a.opcode) && holds (get_or a.row.now c.read_type-node.result 0) (number a.opcode))),
       rw c.asked_here-asked.ensures (one_if_le (asks a.units (entry_of (first_record (drop a.at a.j.now))))),
     ) in
     omega (arith, bits)
@@ -43,5 +43,5 @@ overflow_add-result c =
 pub returns : goal.returns
 returns c =
     let a = c.args in
-    rw (c.asked_here-asked.ensures, c.reported-bit.ensures, good_reports a.j.now a.at c.requires.0 (asking a.row.now a.units) a.code, c.read_type-node.ensures, c.requires.2)
-    (both (eqb (opcode_for (kind_of (drop a.at a.j.now))) a.code && holds (get_or a.row.now (le 2 a.j.now (a.at + 4)) 0) a.code) (asks a.units (entry_of (first_record (drop a.at a.j.now)))))
+    rw (c.asked_here-asked.ensures, c.reported-bit.ensures, good_reports a.j.now a.at c.requires.0 (asking a.row.now a.units) (number a.opcode), c.read_type-node.ensures, c.requires.1)
+    (both (eqb (opcode_for (kind_of (drop a.at a.j.now))) (number a.opcode) && holds (get_or a.row.now (le 2 a.j.now (a.at + 4)) 0) (number a.opcode)) (asks a.units (entry_of (first_record (drop a.at a.j.now)))))

@@ -11,17 +11,17 @@ use Rattle.nodes.proofs.writing.write_body.Goals as goal
 pub write_part-second-requires : goal.write_part-second-requires
 write_part-second-requires c =
     let h = c.requires.3 in
-    (c.requires.1, c.requires.2, code_1, h.deletes, omega (arith, h.room), omega (arith, h.room, c.requires.0))
+    (c.requires.1, c.requires.2, h.deletes, omega (arith, h.room), omega (arith, h.room, c.requires.0))
 
 pub write_part-third-requires : goal.write_part-third-requires
 write_part-third-requires c =
     let h = c.requires.3 in
-    (c.requires.1, c.requires.2, code_2, h.updates, omega (arith, h.room), omega (arith, h.room, c.requires.0, c.write_part-second.ensures.value, c.write_part-second.auto.area))
+    (c.requires.1, c.requires.2, h.updates, omega (arith, h.room), omega (arith, h.room, c.requires.0, c.write_part-second.ensures.value, c.write_part-second.auto.area))
 
 pub write_part-end-requires : goal.write_part-end-requires
 write_part-end-requires c =
     let h = c.requires.3 in
-    (c.requires.1, c.requires.2, code_3, h.additions, omega (arith, h.room), omega (arith, h.room, c.requires.0, c.write_part-second.ensures.value, c.write_part-second.auto.area, c.write_part-third.ensures.value, c.write_part-third.auto.area))
+    (c.requires.1, c.requires.2, h.additions, omega (arith, h.room), omega (arith, h.room, c.requires.0, c.write_part-second.ensures.value, c.write_part-second.auto.area, c.write_part-third.ensures.value, c.write_part-third.auto.area))
 
 pub store_be32-requires : goal.store_be32-requires
 store_be32-requires c =
