@@ -4,8 +4,6 @@ ghost use Rattle.calls.specs.Lent.{part_at};
 ghost use Rattle.words.specs.Numbers.{words};
 ghost use Rattle.counting.specs.Area.{no_tally, words_used, tally_of};
 
-use node_area::Check;
-
 // How many operations an area hands out, and how many words they take, operators and operands.
 #[derive(Clone, Copy)]
 pub struct Tally {
@@ -43,13 +41,12 @@ fn tally_in(scope: u32, area: &[u8]) -> Tally
     requires { length area.now ≡ 4096 }
     ensures { result ≡ tally_of scope area.now }
 {
-    let found = node_area::check_area(scope, area);
-    match found {
-        Check::Refused(_, _) => no_tally(),
-        Check::Entries(n) => Tally {
-            operations: n as u64,
-            words: words_in(area),
-        },
+    let Ok(operations) = node_area::check_area(scope, area) else {
+        return no_tally();
+    };
+    Tally {
+        operations: operations as u64,
+        words: words_in(area),
     }
 }
 

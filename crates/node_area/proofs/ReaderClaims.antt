@@ -18,7 +18,7 @@ use Rattle.words.proofs.Choice.{choose, decide, and_left, and_right}
 use Rattle.journal.specs.declared.operation.Operation.{Operation}
 use Rattle.node_area.specs.declared.reading.Refusal.{Refusal}
 use Rattle.node_area.specs.declared.reading.Refusal.TheVariants.{Size, Reserved, Opcode, Past, Odd, Order, Unterminated}
-use Rattle.node_area.specs.declared.reading.Fault.TheVariants.{Fine, Bad}
+use Rattle.std.specs.Prelude.{Ok, Err}
 use Rattle.node_area.specs.Head.{reserved_from, is_reserved}
 use Rattle.node_area.specs.Reading.{refusal_number, opcode_in, count_in, fault_of, last_after, single, operations_at, reading}
 use Rattle.node_area.specs.Reading.{Verdict, good, bad, verdict, read_by}
@@ -68,16 +68,16 @@ module _ (code count : ℕ) (h : count < 0x0100_0000) where
   count_of = omega arith
 
 module _ (last at code count w : ℕ) (ws : List ℕ) (opcode : opcode_in w ≡ code) (number : count_in w ≡ count) where
-  refuses : (r : Refusal) → (w ≡ 0 → ⊥) → fault_of w last (length ws) ≡ Bad r → Refuses refusal_number (reading_from last at (w ∷ ws)) (refusal_number r) at
+  refuses : (r : Refusal) → (w ≡ 0 → ⊥) → fault_of w last (length ws) ≡ Err r → Refuses refusal_number (reading_from last at (w ∷ ws)) (refusal_number r) at
   refuses r h e = (r, (refl, rw (verdict_bad w at last ws r h e)))
 
-  reads : (w ≡ 0 → ⊥) → fault_of w last (length ws) ≡ Fine
+  reads : (w ≡ 0 → ⊥) → fault_of w last (length ws) ≡ Ok (tt {0})
       → reading_from last at (w ∷ ws) ≡ read_by (verdict 0 (at + 4 + 4 * count) (last_after last w) (drop count ws)) (operations_at ws code count)
   reads h e = rw (verdict_fine w at last ws h e, operations_more 0 w ws h, opcode, number)
 
   -- if there are no operands
   module _ (none : count_in w ≡ 0) where
-    fine : fault_of w last (length ws) ≡ Fine
+    fine : fault_of w last (length ws) ≡ Ok (tt {0})
     unfolding fault_of
     fine = rw (eq-eqb (count_in w) 0 none)
 
@@ -99,25 +99,25 @@ module _ (last at code count w : ℕ) (ws : List ℕ) (opcode : opcode_in w ≡ 
     unfolding last_after
     last-is = rw (filled, opcode)
 
-    not_known : (code ≡ 0) ⊎ (3 < code) → fault_of w last (length ws) ≡ Bad Opcode
+    not_known : (code ≡ 0) ⊎ (3 < code) → fault_of w last (length ws) ≡ Err Opcode
     unfolding fault_of
     not_known h =
         rw (filled, opcode) (⊎_elim (λ (e : code ≡ 0). rw e) (λ (e : 3 < code). rw (le-leb 1 code (omega arith), lt-leb code 3 e)) h)
 
-    odd : code ≡ 3 → count % 2 ≡ 1 → fault_of w last (length ws) ≡ Bad Odd
+    odd : code ≡ 3 → count % 2 ≡ 1 → fault_of w last (length ws) ≡ Err Odd
     unfolding fault_of
     odd three one = rw (filled, opcode, number, three, one)
 
     -- the tests for the order and for the end are left
     allowed : 1 ≤ code → code ≤ 3 → (code ≡ 3 → count % 2 ≡ 0)
-        → fault_of w last (length ws) ≡ cond (ltb code last) (Bad Order) (cond (ltb (length ws) count) (Bad Past) Fine)
+        → fault_of w last (length ws) ≡ cond (ltb code last) (Err Order) (cond (ltb (length ws) count) (Err Past) (Ok (tt {0})))
     unfolding fault_of
     allowed low high h =
         let even : (eqb code 3 && eqb (count % 2) 1) ≡ false = decide (eqb code 3) (λ t. rw (t, h (eqb-true code 3 t))) (λ t. rw t) in
         rw (filled, opcode, number, le-leb 1 code low, le-leb code 3 high, even)
 
   module _ (s : Sound last code count) where
-    in_order : fault_of w last (length ws) ≡ cond (ltb (length ws) count) (Bad Past) Fine
+    in_order : fault_of w last (length ws) ≡ cond (ltb (length ws) count) (Err Past) (Ok (tt {0}))
     in_order = allowed s.some s.low s.high s.even ∙ rw (le-ltb code last s.ordered)
 
     sound : count ≤ length ws

@@ -17,9 +17,8 @@ use Rattle.journal.specs.declared.operation.Operation.{Operation}
 use Rattle.journal.specs.declared.operation.Operation.TheVariants.{Add}
 use Rattle.node_area.specs.declared.reading.Refusal.{Refusal}
 use Rattle.node_area.specs.declared.reading.Refusal.TheVariants.{Size, Reserved, Opcode, Past, Odd, Order, Unterminated}
-use Rattle.node_area.specs.declared.reading.Fault.TheVariants.{Fine, Bad}
-use Rattle.node_area.specs.declared.reading.Check.{Check}
-use Rattle.node_area.specs.declared.reading.Check.TheVariants.{Entries, Refused}
+use Rattle.std.specs.Prelude.{Result, Ok, Err}
+use Rattle.words.specs.declared.refused.Refused.{Refused}
 use Rattle.words.specs.Reading.{read, refused}
 use Rattle.node_area.specs.Reading.{opcode_in, count_in, fault_of, last_after, Verdict, good, bad, verdict, single, operations_at, read_by, reading, check_of}
 use Rattle.node_area.specs.Inner.Terms.{operations_in}
@@ -29,7 +28,7 @@ use Rattle.node_area.specs.Claims.Cursor.{remaining, EntriesInOrder}
 -- ---- a fine operator
 
 -- where there are operands and no test finds a fault, those for the opcode, an odd count and operands past the end do not
-fault_none : (a b c d e : Bool) → cond (not (a && b)) (Bad Opcode) (cond c (Bad Odd) (cond d (Bad Order) (cond e (Bad Past) Fine))) ≡ Fine → (a ≡ true) × (b ≡ true) × (c ≡ false) × (e ≡ false)
+fault_none : (a b c d e : Bool) → cond (not (a && b)) (Err Opcode) (cond c (Err Odd) (cond d (Err Order) (cond e (Err Past) (Ok (tt {0}))))) ≡ Ok (tt {0}) → (a ≡ true) × (b ≡ true) × (c ≡ false) × (e ≡ false)
 fault_none false b c d e h = (cc, cc, cc, cc)
 fault_none true false c d e h = (cc, cc, cc, cc)
 fault_none true true true d e h = (cc, cc, cc, cc)
@@ -43,7 +42,7 @@ pub record Operator (word left : ℕ) : Type 0 where
   pub even : opcode_in word ≡ 3 → count_in word % 2 ≡ 0
   pub range : 0 < count_in word → (1 ≤ opcode_in word) × (opcode_in word ≤ 3)
 
-pub operator : (word last left : ℕ) → fault_of word last left ≡ Fine → Operator word left
+pub operator : (word last left : ℕ) → fault_of word last left ≡ Ok (tt {0}) → Operator word left
 unfolding fault_of
 operator word last left = go (eqb (count_in word) 0) refl
   where
@@ -54,7 +53,7 @@ operator word last left = go (eqb (count_in word) 0) refl
     not_odd h o = let p : (count_in word % 2 ≡ 1 → ⊥) = eqb-false (count_in word % 2) 1 (rw h at o) in omega arith
 
     go : (t : Bool) → eqb (count_in word) 0 ≡ t
-        → cond t Fine (cond (not (leb 1 (opcode_in word) && leb (opcode_in word) 3)) (Bad Opcode) (cond odd (Bad Odd) (cond (ltb (opcode_in word) last) (Bad Order) (cond (ltb left (count_in word)) (Bad Past) Fine)))) ≡ Fine
+        → cond t (Ok (tt {0})) (cond (not (leb 1 (opcode_in word) && leb (opcode_in word) 3)) (Err Opcode) (cond odd (Err Odd) (cond (ltb (opcode_in word) last) (Err Order) (cond (ltb left (count_in word)) (Err Past) (Ok (tt {0})))))) ≡ Ok (tt {0})
         → Operator word left
     go true z e = let none = eqb-true (count_in word) 0 z in record { fits = omega arith; even = λ h. omega arith; range = λ h. absurd (omega arith) }
     go false z e =
@@ -140,11 +139,11 @@ module _ (w at last : ℕ) (ws : List ℕ) where
   unfolding verdict
   verdict_end e = rw e
 
-  pub verdict_bad : (r : Refusal) → (w ≡ 0 → ⊥) → fault_of w last (length ws) ≡ Bad r → verdict 0 at last (w ∷ ws) ≡ bad r at
+  pub verdict_bad : (r : Refusal) → (w ≡ 0 → ⊥) → fault_of w last (length ws) ≡ Err r → verdict 0 at last (w ∷ ws) ≡ bad r at
   unfolding verdict
   verdict_bad r h e = rw (ne_eqb w 0 h, e)
 
-  pub verdict_fine : (w ≡ 0 → ⊥) → fault_of w last (length ws) ≡ Fine → verdict 0 at last (w ∷ ws) ≡ verdict 0 (at + 4 + 4 * count_in w) (last_after last w) (drop (count_in w) ws)
+  pub verdict_fine : (w ≡ 0 → ⊥) → fault_of w last (length ws) ≡ Ok (tt {0}) → verdict 0 at last (w ∷ ws) ≡ verdict 0 (at + 4 + 4 * count_in w) (last_after last w) (drop (count_in w) ws)
   unfolding verdict
   verdict_fine h e = rw (ne_eqb w 0 h, e) (verdict_passed (count_in w) (at + 4) (last_after last w) ws (operator w last (length ws) e).fits)
 
@@ -154,16 +153,16 @@ verdict_none at last = refl
 
 -- ---- the check of an area from a place on
 
-abbrev tally : Verdict → ℕ → Check
-tally good n = Entries n
-tally (bad r at) n = Refused r at
+abbrev tally : Verdict → ℕ → Result ℕ (Refused Refusal)
+tally good n = Ok n
+tally (bad r at) n = Err (record { refusal = r; offset = at })
 
 -- what a check finds that stands at a place and has counted so many operations
-unfoldable pub found : List ℕ → ℕ → ℕ → ℕ → Check
+unfoldable pub found : List ℕ → ℕ → ℕ → ℕ → Result ℕ (Refused Refusal)
 found a at last entries = tally (verdict 0 at last (words (drop at a))) (entries + length (operations_at (words (drop at a)) last 0))
 
 -- what the whole check finds
-abbrev checked : List ℕ → Check
+abbrev checked : List ℕ → Result ℕ (Refused Refusal)
 checked a = check_of (read_by (verdict 0 16 0 (words (drop 16 a))) (operations_at (words (drop 16 a)) 0 0))
 
 -- a check that stands at the place of an operator: what it finds from there on is what the whole check finds
@@ -191,7 +190,7 @@ few_operations : (w : ℕ) → operations_in w ≤ count_in w
 few_operations w = choose (eqb (opcode_in w) 3) (λ (k : ℕ). k ≤ count_in w) (λ _. omega arith) (λ _. omega arith)
 
 module _ (a : List ℕ) (at last entries : ℕ) (s : Stands a at last entries) where
-  pub stands_out : length a ≤ at → Refused Unterminated area_size ≡ checked a
+  pub stands_out : length a ≤ at → Err (record { refusal = Unterminated; offset = area_size }) ≡ checked a
   unfolding found
   stands_out h = rw (s.finds, words_short a at (omega arith), verdict_none at last)
 
@@ -203,15 +202,15 @@ module _ (a : List ℕ) (at last entries : ℕ) (s : Stands a at last entries) w
     behind : (area_size - (at + 4)) / 4 ≡ length (words (drop (at + 4) a))
     behind = sym (length_words ((area_size - (at + 4)) / 4) (drop (at + 4) a) (omega (arith, s.place, length-drop (at + 4) a)))
 
-    pub stands_end : w ≡ 0 → Entries entries ≡ checked a
+    pub stands_end : w ≡ 0 → Ok entries ≡ checked a
     unfolding found
     stands_end e = rw (s.finds, ahead, verdict_end w at last _ e, operations_end last w _ e, add-zero entries)
 
-    pub stands_bad : (r : Refusal) → (w ≡ 0 → ⊥) → fault_of w last ((area_size - (at + 4)) / 4) ≡ Bad r → Refused r at ≡ checked a
+    pub stands_bad : (r : Refusal) → (w ≡ 0 → ⊥) → fault_of w last ((area_size - (at + 4)) / 4) ≡ Err r → Err (record { refusal = r; offset = at }) ≡ checked a
     unfolding found
     stands_bad r h e = rw (s.finds, ahead, verdict_bad w at last _ r h (rw behind at e))
 
-    pub stands_fine : (w ≡ 0 → ⊥) → fault_of w last ((area_size - (at + 4)) / 4) ≡ Fine → Stands a (at + 4 + 4 * count_in w) (last_after last w) (entries + operations_in w)
+    pub stands_fine : (w ≡ 0 → ⊥) → fault_of w last ((area_size - (at + 4)) / 4) ≡ Ok (tt {0}) → Stands a (at + 4 + 4 * count_in w) (last_after last w) (entries + operations_in w)
     unfolding found
     stands_fine h e =
         let n = count_in w in
@@ -225,6 +224,9 @@ module _ (a : List ℕ) (at last entries : ℕ) (s : Stands a at last entries) w
           few = omega (arith, s.few, few_operations w);
           finds = rw (s.finds, ahead, verdict_fine w at last ws h (rw behind at e), operations_more last w ws h, passed, rest, operations_next _ (opcode_in w), operations_next _ (last_after last w), add_assoc entries);
         }
+
+-- the ways of the code, for the tactics
+pub ruleset turns = (stands_first, stands_out, stands_end, stands_bad, stands_fine)
 
 -- ---- the operations of a reading, in order
 

@@ -16,8 +16,8 @@ use Rattle.words.proofs.Words.{words_drop}
 use Rattle.journal.specs.declared.operation.Operation.{Operation}
 use Rattle.journal.specs.declared.operation.Operation.TheVariants.{Add}
 use Rattle.node_area.specs.declared.reading.Refusal.TheVariants.{Size, Reserved}
-use Rattle.node_area.specs.declared.reading.Fault.{Fault}
-use Rattle.node_area.specs.declared.reading.Fault.TheVariants.{Fine, Bad}
+use Rattle.node_area.specs.declared.reading.Refusal.{Refusal}
+use Rattle.std.specs.Prelude.{Result, Ok, Err}
 use Rattle.node_area.specs.Reading.{fault_of, Verdict, good, bad, verdict, single, operations_at, read_by, reading}
 use Rattle.node_area.specs.Head.{area_size, head_size, reserved_from, is_reserved}
 use Rattle.node_area.proofs.Verdicts.{verdict_bad, operations_next, operations_single, operations_pair}
@@ -40,12 +40,12 @@ good_words scope area os e =
 -- ---- an operator
 
 -- an operator of good words is fine
-pub good_fine : (w at last : ℕ) (ws : List ℕ) → (w ≡ 0 → ⊥) → verdict 0 at last (w ∷ ws) ≡ good → fault_of w last (length ws) ≡ Fine
+pub good_fine : (w at last : ℕ) (ws : List ℕ) → (w ≡ 0 → ⊥) → verdict 0 at last (w ∷ ws) ≡ good → fault_of w last (length ws) ≡ Ok (tt {0})
 good_fine w at last ws h g = go (fault_of w last (length ws)) refl
   where
-    go : (f : Fault) → fault_of w last (length ws) ≡ f → fault_of w last (length ws) ≡ Fine
-    go Fine e = e
-    go (Bad r) e = let b = verdict_bad w at last ws r h e in cc
+    go : (f : Result (Unit {0}) Refusal) → fault_of w last (length ws) ≡ f → fault_of w last (length ws) ≡ Ok (tt {0})
+    go (Ok _) e = e
+    go (Err r) e = let b = verdict_bad w at last ws r h e in cc
 
 -- words stand inside of their bytes
 pub words_inside : (l : List ℕ) → 4 * length (words l) ≤ length l

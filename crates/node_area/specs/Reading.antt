@@ -1,5 +1,5 @@
 -- Reading a node work area (document 01, "Readers").
-use Rattle.std.specs.Prelude.{ℕ, zero, suc, ◌+◌, ◌-◌, ◌/◌, ◌%◌, cond, ◌&&◌, not, List, [], ◌∷◌, leb, ltb, eqb, length, drop}
+use Rattle.std.specs.Prelude.{ℕ, zero, suc, ◌+◌, ◌-◌, ◌/◌, ◌%◌, cond, ◌&&◌, not, List, [], ◌∷◌, leb, ltb, eqb, length, drop, Result, Ok, Err}
 use Rattle.words.specs.Reading.{Reading, read, refused}
 use Rattle.words.specs.Numbers.{words}
 use Rattle.journal.specs.declared.operation.Operation.{Operation}
@@ -7,10 +7,7 @@ use Rattle.journal.specs.declared.operation.Operation.TheVariants.{Delete, Updat
 use Rattle.node_area.specs.Head.{area_size, head_size, reserved_from, is_reserved}
 use Rattle.node_area.specs.declared.reading.Refusal.{Refusal}
 use Rattle.node_area.specs.declared.reading.Refusal.TheVariants.{Size, Reserved, Opcode, Past, Odd, Order, Unterminated}
-use Rattle.node_area.specs.declared.reading.Fault.{Fault}
-use Rattle.node_area.specs.declared.reading.Fault.TheVariants.{Fine, Bad}
-use Rattle.node_area.specs.declared.reading.Check.{Check}
-use Rattle.node_area.specs.declared.reading.Check.TheVariants.{Entries, Refused}
+use Rattle.words.specs.declared.refused.Refused.{Refused}
 
 -- 01: "20 not 4,096 bytes", "21 bytes 4 to 15 not zero", "22 opcode not 1 to 3; .. 25 odd count for opcode 3;
 -- 26 opcode lower than an earlier one; 24 operands past the end", "27 the area ends without a terminator"; 02: "23 is withdrawn"
@@ -32,14 +29,14 @@ count_in word = word % 0x0100_0000
 
 -- The first fault of an operator, in the papers' order; `last` is the opcode of the last operator before it that has operands, `left` the words behind it.
 -- 02, M-101: "A non-zero word whose low three bytes are zero is passed over whatever its opcode", "the empty count is looked at before 22."
-unfoldable pub fault_of : ℕ → ℕ → ℕ → Fault
+unfoldable pub fault_of : ℕ → ℕ → ℕ → Result (Unit {0}) Refusal
 fault_of word last left =
-    cond (eqb (count_in word) 0) Fine
-    (cond (not (leb 1 (opcode_in word) && leb (opcode_in word) 3)) (Bad Opcode)
-    (cond (eqb (opcode_in word) 3 && eqb (count_in word % 2) 1) (Bad Odd)
-    (cond (ltb (opcode_in word) last) (Bad Order)
-    (cond (ltb left (count_in word)) (Bad Past)
-    Fine))))
+    cond (eqb (count_in word) 0) (Ok tt)
+    (cond (not (leb 1 (opcode_in word) && leb (opcode_in word) 3)) (Err Opcode)
+    (cond (eqb (opcode_in word) 3 && eqb (count_in word % 2) 1) (Err Odd)
+    (cond (ltb (opcode_in word) last) (Err Order)
+    (cond (ltb left (count_in word)) (Err Past)
+    (Ok tt)))))
 
 -- 02, M-101: ".. and takes no part in the order test." The opcode before the operator that follows this one.
 unfoldable pub last_after : ℕ → ℕ → ℕ
@@ -50,9 +47,9 @@ pub data Verdict : Type 0 where
   good : Verdict
   bad : Refusal → ℕ → Verdict
 
-abbrev pub judged_by : Fault → ℕ → Verdict → Verdict
-judged_by Fine at more = more
-judged_by (Bad r) at more = bad r at
+abbrev pub judged_by : Result (Unit {0}) Refusal → ℕ → Verdict → Verdict
+judged_by (Ok _) at more = more
+judged_by (Err r) at more = bad r at
 
 -- 01: "Then operators from byte 16: word zero ends the list; .. each at the operator's offset, in this order. 27 the area ends without a terminator
 -- (offset 4096)."
@@ -97,6 +94,6 @@ reading scope area =
     found)
 
 -- What a check of an area tells of its reading: the number of its operations, or the refusal.
-abbrev pub check_of : Reading Operation Refusal → Check
-check_of (read os) = Entries (length os)
-check_of (refused r at) = Refused r at
+abbrev pub check_of : Reading Operation Refusal → Result ℕ (Refused Refusal)
+check_of (read os) = Ok (length os)
+check_of (refused r at) = Err (record { refusal = r; offset = at })

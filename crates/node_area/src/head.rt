@@ -11,6 +11,7 @@ pub const AREA_SIZE: usize = 4096;
 pub const HEAD_SIZE: usize = 16;
 
 // Where the reserved bytes of a scope's areas begin: behind the state, in scope 3 behind the unit address.
+#[tactic(auto, using(std::proofs::lemmas::Bool::Decides::nat_tests))]
 pub fn reserved_from(scope: u32) -> usize
     ensures { result ≡ reserved_from scope }
 {
@@ -22,7 +23,7 @@ pub fn is_reserved(scope: u32, area: &[u8]) -> bool
     requires { head_size ≤ length area.now }
     ensures { result ≡ is_reserved scope area.now }
 {
-    words::is_zero(area, reserved_from(scope), HEAD_SIZE)
+    words::are_zeros(&area[reserved_from(scope)..HEAD_SIZE])
 }
 
 // The unit address behind the state.

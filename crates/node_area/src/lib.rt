@@ -6,5 +6,5 @@ mod reading;
 mod state;
 
 pub use head::{AREA_SIZE, HEAD_SIZE, is_reserved, read_unit, reserved_from, write_head};
-pub use reading::{Check, Cursor, Next, Refusal, check_area};
+pub use reading::{Cursor, Refusal, check_area};
 pub use state::StateVariable;

@@ -8,7 +8,7 @@ ghost use Rattle.node_area.specs.State.{total, is_within, passed_of, remaining_o
 use journal::Counts;
 
 // The State Variable: how many operations were reported before. It counts from 0.
-#[derive(Clone, Copy)]
+#[derive(Clone, Copy, PartialEq, Eq)]
 pub struct StateVariable(pub u32);
 
 impl StateVariable {
@@ -32,7 +32,7 @@ impl StateVariable {
     pub fn reported(self) -> u64
         ensures { result ≡ self.0 }
     {
-        self.0 as u64
+        u64::from(self.0)
     }
 
     // Whether operations remain behind the state.
@@ -44,6 +44,7 @@ impl StateVariable {
     }
 
     // Whether the state is 0 or below the number of all operations.
+    #[tactic(auto, using(std::proofs::lemmas::Bool::Decides::nat_tests))]
     pub fn is_within(self, all: Counts) -> bool
         requires { total all < 0x1_0000_0000_0000_0000 }
         ensures { result ≡ is_within self.0 (total all) }
@@ -56,8 +57,8 @@ impl StateVariable {
         ensures { result ≡ passed_of all self.0 }
     {
         let deletes = self.0 as usize;
-        let updates = words::saturating_sub(deletes, all.deletes);
-        let additions = words::saturating_sub(updates, all.updates);
+        let updates = deletes.saturating_sub(all.deletes);
+        let additions = updates.saturating_sub(all.updates);
         Counts {
             deletes,
             updates,
@@ -71,9 +72,9 @@ impl StateVariable {
     {
         let passed = self.passed(all);
         Counts {
-            deletes: words::saturating_sub(all.deletes, passed.deletes),
-            updates: words::saturating_sub(all.updates, passed.updates),
-            additions: words::saturating_sub(all.additions, passed.additions),
+            deletes: all.deletes.saturating_sub(passed.deletes),
+            updates: all.updates.saturating_sub(passed.updates),
+            additions: all.additions.saturating_sub(passed.additions),
         }
     }
 

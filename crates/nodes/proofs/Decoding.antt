@@ -13,7 +13,7 @@ use Rattle.journal.specs.declared.operation.Operation.{Operation}
 use Rattle.journal.specs.declared.operation.Operation.TheVariants.{Delete, Update, Add}
 use Rattle.journal.specs.Journal.{IsOpcode, opcode, operands}
 use Rattle.journal.proofs.Opcodes.{code_1, code_2, code_3}
-use Rattle.node_area.specs.declared.reading.Fault.TheVariants.{Fine}
+use Rattle.std.specs.Prelude.{Ok}
 use Rattle.nodes.specs.Run.{area_words, cost}
 use Rattle.nodes.specs.Claims.Longest.{AllOf}
 use Rattle.nodes.specs.Area.{part, body}
@@ -108,7 +108,7 @@ record Operands (code : ℕ) (vs : List ℕ) (os : List Operation) : Type 0 wher
   holds : (ws : List ℕ) → operations_at (vs ++ ws) code (length vs) ≡ os ++ operations_at ws code 0
 
 no_fault : (code : ℕ) (vs : List ℕ) (os : List Operation) (word last left : ℕ) → Operands code vs os
-    → opcode_in word ≡ code → count_in word ≡ length vs → 0 < length vs → last ≤ code → length vs ≤ left → fault_of word last left ≡ Fine
+    → opcode_in word ≡ code → count_in word ≡ length vs → 0 < length vs → last ≤ code → length vs ≤ left → fault_of word last left ≡ Ok (tt {0})
 unfolding fault_of
 no_fault code vs os word last left p q c some order fits =
     rw (q, c) (simp (ne_eqb (length vs) 0 (λ e. omega arith), le-leb 1 code p.low, le-leb code 3 p.high, p.even, le-ltb code last order, le-ltb left (length vs) fits))
@@ -123,7 +123,7 @@ reads_part code (v ∷ vs) ws os ps p r at last h =
     let q : opcode_in w ≡ code = digits_div code p.short in
     let c : count_in w ≡ n = digits_mod code p.short in
     let some : (w ≡ 0 → ⊥) = λ e. omega arith in
-    let fine : fault_of w last (length ((v ∷ vs) ++ ws)) ≡ Fine = no_fault code (v ∷ vs) os w last _ p q c (omega arith) h (omega (arith, length-append vs ws)) in
+    let fine : fault_of w last (length ((v ∷ vs) ++ ws)) ≡ Ok (tt {0}) = no_fault code (v ∷ vs) os w last _ p q c (omega arith) h (omega (arith, length-append vs ws)) in
     let behind = r (at + 4 + 4 * n) code (omega arith) in (
       verdict_fine w at last ((v ∷ vs) ++ ws) some fine ∙ rw (last_filled last w (omega arith), q, c, drop-append_seam (v ∷ vs) ws) behind.0,
       operations_more last w ((v ∷ vs) ++ ws) some ∙ rw (q, c, p.holds ws, behind.1),

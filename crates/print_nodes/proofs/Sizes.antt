@@ -15,7 +15,8 @@ use Rattle.journal.specs.declared.operation.Operation.TheVariants.{Delete, Updat
 use Rattle.words.proofs.Choice.{choose, decide}
 use Rattle.node_area.specs.declared.reading.Refusal.{Refusal}
 use Rattle.node_area.specs.declared.reading.Refusal.TheVariants.{Size, Reserved}
-use Rattle.node_area.specs.declared.reading.Check.TheVariants.{Entries, Refused}
+use Rattle.std.specs.Prelude.{Ok, Err}
+use Rattle.words.specs.declared.refused.Refused.{Refused}
 use Rattle.words.specs.Reading.{Reading, read, refused}
 use Rattle.node_area.specs.Reading.{Verdict, good, bad, verdict, reading, read_by, refusal_number, operations_at, opcode_in, count_in, check_of}
 use Rattle.node_area.specs.Head.{area_size, head_size, state_in, unit_in, reserved_from, is_reserved}
@@ -83,21 +84,21 @@ module _ (scope : ℕ) (input : List ℕ) where
   text_refused r at e = rw e
 
   -- the text of an area with n operations
-  pub area_text : (n state : ℕ) → check_of (reading scope input) ≡ Entries n → state ≡ state_in input
+  pub area_text : (n state : ℕ) → check_of (reading scope input) ≡ Ok n → state ≡ state_in input
       → (length input ≡ area_size) × (text scope input ≡ ended state- state ++ (unit_line scope input ++ (lines (remaining input start_of) ++ ended end- n)))
   area_text n state e w = go (reading scope input) refl e
     where
-      go : (r : Reading Operation Refusal) → reading scope input ≡ r → check_of r ≡ Entries n
+      go : (r : Reading Operation Refusal) → reading scope input ≡ r → check_of r ≡ Ok n
           → (length input ≡ area_size) × (text scope input ≡ ended state- state ++ (unit_line scope input ++ (lines (remaining input start_of) ++ ended end- n)))
       go (read os) g h = let same : length os ≡ n = cc in ((area_read scope input os g).size, text_read os g ∙ rw (entries_in_order scope input os g, same, w))
       go (refused r at) g h = (cc, cc)
 
-  pub refused_text : (r : Refusal) (at : ℕ) → check_of (reading scope input) ≡ Refused r at → text scope input ≡ refusal_line (refusal_number r) at
-  refused_text r at e = go (reading scope input) refl e
+  pub refused_text : (r : Refused Refusal) → check_of (reading scope input) ≡ Err r → text scope input ≡ refusal_line (refusal_number r.refusal) r.offset
+  refused_text r e = go (reading scope input) refl e
     where
-      go : (x : Reading Operation Refusal) → reading scope input ≡ x → check_of x ≡ Refused r at → text scope input ≡ refusal_line (refusal_number r) at
+      go : (x : Reading Operation Refusal) → reading scope input ≡ x → check_of x ≡ Err r → text scope input ≡ refusal_line (refusal_number r.refusal) r.offset
       go (read os) g h = cc
-      go (refused q k) g h = let same : ◌≡◌ {A = Reading Operation Refusal} (refused q k) (refused r at) = cc in text_refused r at (g ∙ same)
+      go (refused q k) g h = let same : ◌≡◌ {A = Reading Operation Refusal} (refused q k) (refused r.refusal r.offset) = cc in text_refused r.refusal r.offset (g ∙ same)
 
   -- ---- the line of the unit
 

@@ -15,11 +15,10 @@ use Rattle.words.proofs.Words.{words_step, words_drop}
 use Rattle.journal.specs.declared.operation.Operation.{Operation}
 use Rattle.journal.specs.declared.operation.Operation.TheVariants.{Delete, Update, Add}
 use Rattle.node_area.specs.Head.{area_size}
-use Rattle.node_area.specs.declared.reading.Fault.TheVariants.{Fine}
+use Rattle.std.specs.Prelude.{Result, Ok, Err}
 use Rattle.node_area.specs.declared.reading.Refusal.{Refusal}
 use Rattle.node_area.specs.declared.reading.Refusal.TheVariants.{Size}
-use Rattle.node_area.specs.declared.reading.Check.{Check}
-use Rattle.node_area.specs.declared.reading.Check.TheVariants.{Entries, Refused}
+use Rattle.words.specs.declared.refused.Refused.{Refused}
 use Rattle.words.specs.Reading.{Reading, read, refused}
 use Rattle.node_area.specs.Reading as nodes
 use Rattle.node_area.specs.Reading.{opcode_in, count_in, fault_of, last_after, verdict, single, operations_at, reading, check_of}
@@ -177,7 +176,7 @@ module _ {area start l : List ℕ} {count at i : ℕ} (s : Walking area start co
       some : w ≡ 0 → ⊥
       some z = let none = rw (here, operations_end 0 w ws z) at s.ahead in omega arith
 
-      fault : fault_of w s.last (length ws) ≡ Fine
+      fault : fault_of w s.last (length ws) ≡ Ok (tt {0})
       fault = good_fine w at s.last ws some (rw here at s.fine)
 
       pub walking_operator : Operator w (length ws)
@@ -210,10 +209,10 @@ module _ {area start l : List ℕ} {count at i : ℕ} (s : Walking area start co
 -- ---- what a check of an area tells of its reading
 
 -- a check that refuses tells the refusal of the reading
-pub refused_reading : (scope : ℕ) (area : List ℕ) (x : Check) (r : Refusal) (at : ℕ) → x ≡ check_of (reading scope area) → x ≡ Refused r at → reading scope area ≡ refused r at
-refused_reading scope area x r at told e = go (reading scope area) told
+pub refused_reading : (scope : ℕ) (area : List ℕ) (x : Result ℕ (Refused Refusal)) (r : Refused Refusal) → x ≡ check_of (reading scope area) → x ≡ Err r → reading scope area ≡ refused r.refusal r.offset
+refused_reading scope area x r told e = go (reading scope area) told
   where
-    go : (y : Reading Operation Refusal) → x ≡ check_of y → y ≡ refused r at
+    go : (y : Reading Operation Refusal) → x ≡ check_of y → y ≡ refused r.refusal r.offset
     go (read os) h = cc
     go (refused q k) h = cc
 
@@ -235,7 +234,7 @@ pub record Good (scope : ℕ) (area : List ℕ) (n : ℕ) : Type 0 where
   pub entries : length (remaining area start_of) ≡ n
 
 -- a check that finds operations passes such an area
-pub good : (scope : ℕ) (area : List ℕ) (x : Check) (n : ℕ) → x ≡ check_of (reading scope area) → x ≡ Entries n → Good scope area n
+pub good : (scope : ℕ) (area : List ℕ) (x : Result ℕ (Refused Refusal)) (n : ℕ) → x ≡ check_of (reading scope area) → x ≡ Ok n → Good scope area n
 good scope area x n told e = go (reading scope area) refl told
   where
     go : (y : Reading Operation Refusal) → reading scope area ≡ y → x ≡ check_of y → Good scope area n

@@ -17,20 +17,6 @@ pub struct NodeReading {
     pub entries: usize,
 }
 
-fn node_refusal(refusal: node_area::Refusal) -> u32
-    ensures { result ≡ nodes_reading.refusal_number refusal }
-{
-    match refusal {
-        node_area::Refusal::Size => 20,
-        node_area::Refusal::Reserved => 21,
-        node_area::Refusal::Opcode => 22,
-        node_area::Refusal::Past => 24,
-        node_area::Refusal::Odd => 25,
-        node_area::Refusal::Order => 26,
-        node_area::Refusal::Unterminated => 27,
-    }
-}
-
 // Three words from a place on; every other word of the buffer stays.
 fn store_words(out: &mut [u32], to: usize, first: u32, second: u32, third: u32)
     requires { to + 3 ≤ length out.old }
@@ -89,11 +75,11 @@ fn store_operands(
     let code = word / 0x0100_0000;
     let operands = (word % 0x0100_0000) as usize;
     if code == 3 {
-        let pairs = words::least(operands / 2, most);
+        let pairs = (operands / 2).min(most);
         store_pairs(area, at, pairs, out, to);
         return pairs;
     }
-    let singles = words::least(operands, most);
+    let singles = operands.min(most);
     store_singles(area, at, code, singles, out, to);
     singles
 }
@@ -120,16 +106,15 @@ pub fn read_nodes(area: &[u8], scope: u32, out: &mut [u32]) -> NodeReading
     ensures value { result ≡ node_reading area.now (nodes_reading.reading scope area.now) }
     ensures out_after { out.new ≡ nodes_out out.old (nodes_reading.reading scope area.now) }
 {
-    let found = node_area::check_area(scope, area);
-    match found {
-        node_area::Check::Refused(refusal, offset) => NodeReading {
-            refusal: node_refusal(refusal),
+    match node_area::check_area(scope, area) {
+        Err(refused) => NodeReading {
+            refusal: u32::from(refused.refusal),
             state: 0,
-            offset,
+            offset: refused.offset,
             entries: 0,
         },
-        node_area::Check::Entries(entries) => {
-            store_operations(area, out, words::least(entries, out.len() / 3));
+        Ok(entries) => {
+            store_operations(area, out, entries.min(out.len() / 3));
             NodeReading {
                 refusal: 0,
                 state: node_area::StateVariable::read(area).0,

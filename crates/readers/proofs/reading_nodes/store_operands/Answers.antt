@@ -8,7 +8,7 @@ use Rattle.readers.proofs.reading_nodes.store_operands.Goals as goal
 pub store_pairs-requires : goal.store_pairs-requires
 store_pairs-requires c =
     let args = c.args in
-    let least = c.least-pairs.ensures in
+    let least = c.min-pairs.ensures in
     let inside = words_inside (drop args.at args.area.now) in
     let behind = length-drop args.at args.area.now in
     (omega arith, omega arith)
@@ -16,13 +16,13 @@ store_pairs-requires c =
 pub returns-then-code-eq3 : goal.returns-then-code-eq3
 returns-then-code-eq3 c =
     let args = c.args in
-    let both = operands_pairs args.word args.most _ args.at args.to args.area.now _ _ c.requires.1 c.if-code-eq3.true c.least-pairs.ensures c.store_pairs.ensures in
+    let both = operands_pairs args.word args.most _ args.at args.to args.area.now _ _ c.requires.1 c.if-code-eq3.true c.min-pairs.ensures c.store_pairs.ensures in
     record { value = both.0; out_after = both.1 }
 
 pub store_singles-requires : goal.store_singles-requires
 store_singles-requires c =
     let args = c.args in
-    let least = c.least-singles.ensures in
+    let least = c.min-singles.ensures in
     let other = c.if-code-eq3.false in
     let inside = words_inside (drop args.at args.area.now) in
     let behind = length-drop args.at args.area.now in
@@ -31,5 +31,5 @@ store_singles-requires c =
 pub returns : goal.returns
 returns c =
     let args = c.args in
-    let both = operands_singles args.word args.most _ args.at args.to args.area.now _ _ c.requires.1 c.if-code-eq3.false c.least-singles.ensures c.store_singles.ensures in
+    let both = operands_singles args.word args.most _ args.at args.to args.area.now _ _ c.requires.1 c.if-code-eq3.false c.min-singles.ensures c.store_singles.ensures in
     record { value = both.0; out_after = both.1 }
