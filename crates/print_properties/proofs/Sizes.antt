@@ -11,9 +11,9 @@ use Rattle.words.proofs.Choice.{decide}
 use Rattle.words.specs.Reading.{Reading, read, refused}
 use Rattle.node_area.specs.Head.{area_size}
 use Rattle.property_area.specs.declared.reading.Refusal.{Refusal}
-use Rattle.property_area.specs.declared.reading.Judged.{Judged}
-use Rattle.property_area.specs.declared.reading.Judged.TheVariants.{Bad, Fine}
-use Rattle.property_area.specs.declared.reading.Check.TheVariants.{Properties, Refused}
+use Rattle.property_area.specs.declared.reading.Located.{Located}
+use Rattle.std.specs.Prelude.{Result, Ok, Err}
+use Rattle.words.specs.declared.refused.Refused.{Refused}
 use Rattle.property_area.specs.Head.{phandle_in, state_in, count_in, first_at}
 use Rattle.property_area.specs.Piece.{Piece}
 use Rattle.property_area.specs.Reading.{end_of, located_at, judged_at, piece_in, reading, refusal_number, check_of}
@@ -39,11 +39,11 @@ length-lines zero area at h = omega arith
 length-lines (suc n) area at h = go (length-lines n area (end_of (located_at area at))) (judged_at area at) refl
   where
     go : (end_of (located_at area at) ≤ length area → length (lines (pieces_from n area (end_of (located_at area at)))) + 7 * end_of (located_at area at) ≤ 7 * length area)
-        → (j : Judged)
+        → (j : Result Located Refusal)
         → judged_at area at ≡ j
         → length (lines (fine_or j (piece_in area (located_at area at) ∷ pieces_from n area (end_of (located_at area at))))) + 7 * at ≤ 7 * length area
-    go more (Bad r) e = omega arith
-    go more (Fine l) e =
+    go more (Err r) e = omega arith
+    go more (Ok l) e =
         let m = located_at area at in
         let p = piece_in area m in
         let fine = fine_told area at l e in
@@ -67,24 +67,24 @@ module _ (input : List ℕ) where
   sized ps e = decide (eqb (length input) area_size) (eqb-true (length input) area_size) (λ t. let h = rw t at e in cc)
 
   -- the text of an area with n properties
-  pub area_text : (n phandle state : ℕ) → check_of (reading input) ≡ Properties n → phandle ≡ phandle_in input → state ≡ state_in input
+  pub area_text : (n phandle state : ℕ) → check_of (reading input) ≡ Ok n → phandle ≡ phandle_in input → state ≡ state_in input
       → (length input ≡ area_size) × (text input ≡ phandle_line phandle ++ (ended state- state ++ (lines (remaining input (start_of input)) ++ ended end- n)))
   unfolding text
   area_text n phandle state e v w = go (reading input) refl e
     where
-      go : (r : Reading Piece Refusal) → reading input ≡ r → check_of r ≡ Properties n
+      go : (r : Reading Piece Refusal) → reading input ≡ r → check_of r ≡ Ok n
           → (length input ≡ area_size)
           × (text_of (phandle_in input) (state_in input) (reading input) ≡ phandle_line phandle ++ (ended state- state ++ (lines (remaining input (start_of input)) ++ ended end- n)))
       go (read ps) g h = let same : length ps ≡ n = cc in (sized ps g, rw (g, properties_in_order input ps g, same, v, w))
       go (refused r at) g h = (cc, cc)
 
-  pub refused_text : (r : Refusal) (at : ℕ) → check_of (reading input) ≡ Refused r at → text input ≡ refusal_line (refusal_number r) at
+  pub refused_text : (r : Refused Refusal) → check_of (reading input) ≡ Err r → text input ≡ refusal_line (refusal_number r.refusal) r.offset
   unfolding text
-  refused_text r at e = go (reading input) refl e
+  refused_text r e = go (reading input) refl e
     where
-      go : (x : Reading Piece Refusal) → reading input ≡ x → check_of x ≡ Refused r at → text_of (phandle_in input) (state_in input) (reading input) ≡ refusal_line (refusal_number r) at
+      go : (x : Reading Piece Refusal) → reading input ≡ x → check_of x ≡ Err r → text_of (phandle_in input) (state_in input) (reading input) ≡ refusal_line (refusal_number r.refusal) r.offset
       go (read ps) g h = cc
-      go (refused q k) g h = let same : ◌≡◌ {A = Reading Piece Refusal} (refused q k) (refused r at) = cc in rw g (ap (text_of (phandle_in input) (state_in input)) same)
+      go (refused q k) g h = let same : ◌≡◌ {A = Reading Piece Refusal} (refused q k) (refused r.refusal r.offset) = cc in rw g (ap (text_of (phandle_in input) (state_in input)) same)
 
 -- ---- the text fits
 

@@ -1,8 +1,7 @@
 // The text of a property work area, put into a buffer.
-ghost use Rattle.std.specs.Prelude.{◌≤◌, ◌≡◌, length};
+ghost use Rattle.std.specs.Prelude.{◌≤◌, ◌≡◌, length, Ok};
 ghost use Rattle.std.proofs.lemmas.List.Edits.{sets};
-ghost use Rattle.property_area.specs.declared.reading.Check.TheVariants.{Properties};
-ghost use Rattle.property_area.specs.Reading.{refusal_number, reading, check_of, piece_in};
+ghost use Rattle.property_area.specs.Reading.{reading, check_of, piece_in};
 ghost use Rattle.property_area.specs.Claims.Cursor.{remaining, start_of};
 ghost use Rattle.printing.specs.Put.{Fits, Put};
 ghost use Rattle.print_properties.specs.Text.{value_text, entry, line, lines, phandle_line, text};
@@ -12,7 +11,7 @@ ghost use Rattle.print_properties.specs.Claims.PrintProperties.{PrintPropertiesP
 use printing::{
     put_bytes, put_ended, put_named, put_number, put_operand, put_refusal, put_value_bytes,
 };
-use property_area::{Check, Cursor, DELETION, Located, Next, Refusal};
+use property_area::{Cursor, DELETION, Located};
 
 // A value's length and its bytes.
 fn put_value(value: &[u8], out: &mut [u8], at: usize) -> usize
@@ -70,18 +69,11 @@ fn put_lines(input: &[u8], out: &mut [u8], at: usize) -> usize
 {
     let mut cursor = Cursor::start(input);
     let mut to = at;
-    loop {
-        let step = cursor.next(input);
-        match step {
-            Next::End => {
-                return to;
-            }
-            Next::Found(l, after) => {
-                to = put_line(input, l, out, to);
-                cursor = after;
-            }
-        }
+    while let Some((found, behind)) = cursor.next(input) {
+        to = put_line(input, found, out, to);
+        cursor = behind;
     }
+    to
 }
 
 // The line of a phandle.
@@ -95,7 +87,7 @@ fn put_phandle(phandle: u32, out: &mut [u8], at: usize) -> usize
 
 // An area that has so many properties.
 fn put_area(input: &[u8], count: usize, out: &mut [u8]) -> usize
-    requires { (32_768 ≤ length out.old) × (check_of (reading input.now) ≡ Properties count) }
+    requires { (32_768 ≤ length out.old) × (check_of (reading input.now) ≡ Ok count) }
     ensures { Put out.old out.new 0 result (text input.now) }
 {
     let phandle = property_area::read_phandle(input);
@@ -106,26 +98,14 @@ fn put_area(input: &[u8], count: usize, out: &mut [u8]) -> usize
     put_ended(b"end ", count as u64, out, last)
 }
 
-fn refusal_number(r: Refusal) -> u64
-    ensures { result ≡ refusal_number r }
-{
-    match r {
-        Refusal::Size => 40,
-        Refusal::Reserved => 41,
-        Refusal::Name => 42,
-        Refusal::Past => 43,
-    }
-}
-
 // Puts the text of an input at the front of a buffer and gives its length; the rest of the buffer stays.
 pub fn print_area(input: &[u8], out: &mut [u8; 32_768]) -> usize
     ensures value { result ≡ length (text input.now) }
     ensures out_after { out.new ≡ sets out.old 0 (text input.now) }
     ensures promise { PrintPropertiesPromise }
 {
-    let found = property_area::check_area(input);
-    match found {
-        Check::Refused(reason, offset) => put_refusal(refusal_number(reason), offset, out),
-        Check::Properties(count) => put_area(input, count, out),
+    match property_area::check_area(input) {
+        Err(refused) => put_refusal(u64::from(u32::from(refused.refusal)), refused.offset, out),
+        Ok(count) => put_area(input, count, out),
     }
 }

@@ -10,14 +10,13 @@ use lib.Dec.{eqb, eqb-suc-zero}
 use lib.ListN.{length}
 use borrow.Author.Tests.{eq-eqb, eqb-true, le-ltb}
 use Rattle.words.proofs.Choice.{decide}
+use Rattle.std.proofs.lemmas.Bool.Decides.{nat_tests}
 use Rattle.words.specs.Reading.{Reading, read, refused}
 use Rattle.node_area.specs.Head.{area_size}
 use Rattle.property_area.specs.declared.reading.Refusal.{Refusal}
-use Rattle.property_area.specs.declared.reading.Judged.{Judged}
-use Rattle.property_area.specs.declared.reading.Judged.TheVariants.{Bad, Fine}
+use Rattle.std.specs.Prelude.{Result, Ok, Err}
 use Rattle.property_area.specs.declared.reading.Located.{Located}
-use Rattle.property_area.specs.declared.reading.Check.{Check}
-use Rattle.property_area.specs.declared.reading.Check.TheVariants.{Properties, Refused}
+use Rattle.words.specs.declared.refused.Refused.{Refused}
 use Rattle.property_area.specs.Head.{is_reserved, count_in, first_at}
 use Rattle.property_area.specs.Piece.{Piece}
 use Rattle.property_area.specs.Reading.{located_at, end_of, judged_at, piece_in, with_piece, read_by, read_from, reading, check_of}
@@ -34,16 +33,16 @@ read_next zero area at h = absurd (omega arith)
 read_next (suc n) area at h = rw (sub-one (suc n))
 
 -- what a check tells that has passed so many properties
-abbrev counted : ℕ → Reading Piece Refusal → Check
-counted n (read ps) = Properties (n + length ps)
-counted n (refused r at) = Refused r at
+abbrev counted : ℕ → Reading Piece Refusal → Result ℕ (Refused Refusal)
+counted n (read ps) = Ok (n + length ps)
+counted n (refused r at) = Err (record { refusal = r; offset = at })
 
 counted_none : (r : Reading Piece Refusal) → check_of r ≡ counted 0 r
-counted_none (read ps) = ap Properties (sym (zero-add (length ps)))
+counted_none (read ps) = ap Ok (sym (zero-add (length ps)))
 counted_none (refused r at) = refl
 
 counted_more : (n : ℕ) (p : Piece) (r : Reading Piece Refusal) → counted n (with_piece p r) ≡ counted (n + 1) r
-counted_more n p (read ps) = let more : n + suc (length ps) ≡ n + 1 + length ps = omega arith in ap Properties more
+counted_more n p (read ps) = let more : n + suc (length ps) ≡ n + 1 + length ps = omega arith in ap Ok more
 counted_more n p (refused r at) = refl
 
 -- a check that stands at the place of a property: what it finds from there on is what the whole check finds
@@ -58,7 +57,7 @@ stands_first area count h r e =
     record { few = omega arith; finds = rw (eq-eqb (length area) area_size h, r, all, e) (counted_none (read_from (count_in area) area first_at)) }
 
 module _ {area : List ℕ} {count at passed : ℕ} (s : Stands area count at passed) where
-  pub stands_end : count ≤ passed → Properties count ≡ check_of (reading area)
+  pub stands_end : count ≤ passed → Ok count ≡ check_of (reading area)
   unfolding read_from
   stands_end h =
       let none : count - passed ≡ 0 = omega arith in
@@ -69,10 +68,10 @@ module _ {area : List ℕ} {count at passed : ℕ} (s : Stands area count at pas
     ahead : read_from (count - passed) area at ≡ read_by (judged_at area at) at (with_piece (piece_in area (located_at area at)) (read_from (count - passed - 1) area (end_of (located_at area at))))
     ahead = read_next (count - passed) area at (omega arith)
 
-    pub stands_bad : (r : Refusal) → judged_at area at ≡ Bad r → Refused r at ≡ check_of (reading area)
+    pub stands_bad : (r : Refusal) → judged_at area at ≡ Err r → Err (record { refusal = r; offset = at }) ≡ check_of (reading area)
     stands_bad r e = rw (s.finds, ahead, e)
 
-    pub stands_fine : (l : Located) → judged_at area at ≡ Fine l → Stands area count (end_of l) (passed + 1)
+    pub stands_fine : (l : Located) → judged_at area at ≡ Ok l → Stands area count (end_of l) (passed + 1)
     stands_fine l e =
         let less : count - passed - 1 ≡ count - (passed + 1) = omega arith in
         let m = located_at area at in
@@ -89,9 +88,9 @@ unfolding next_of remaining pieces_from
 step_gives area at zero = refl
 step_gives area at (suc n) = rw (eqb-suc-zero n) (go (judged_at area at) refl)
   where
-    go : (j : Judged) → judged_at area at ≡ j → Gives area (fine_or j (piece_in area (located_at area at) ∷ pieces_from n area (end_of (located_at area at)))) (step_by j (suc n - 1))
-    go (Bad r) e = refl
-    go (Fine l) e = let here = (fine_told area at l e).0 in rw (here, sub-one (suc n))
+    go : (j : Result Located Refusal) → judged_at area at ≡ j → Gives area (fine_or j (piece_in area (located_at area at) ∷ pieces_from n area (end_of (located_at area at)))) (step_by j (suc n - 1))
+    go (Err r) e = refl
+    go (Ok l) e = let here = (fine_told area at l e).0 in rw (here, sub-one (suc n))
 
 pub steps_give : StepsGive
 unfolding remaining
@@ -104,12 +103,12 @@ unfolding read_from pieces_from
 in_order zero area at ps e = cc
 in_order (suc n) area at ps e = go (judged_at area at) (read_from n area (end_of (located_at area at))) (in_order n area (end_of (located_at area at))) e
   where
-    go : (j : Judged) (r : Reading Piece Refusal) → ((qs : List Piece) → r ≡ read qs → pieces_from n area (end_of (located_at area at)) ≡ qs)
+    go : (j : Result Located Refusal) (r : Reading Piece Refusal) → ((qs : List Piece) → r ≡ read qs → pieces_from n area (end_of (located_at area at)) ≡ qs)
         → read_by j at (with_piece (piece_in area (located_at area at)) r) ≡ read ps
         → fine_or j (piece_in area (located_at area at) ∷ pieces_from n area (end_of (located_at area at))) ≡ ps
-    go (Bad b) r more h = cc
-    go (Fine l) (refused b k) more h = cc
-    go (Fine l) (read qs) more h = rw (more qs refl) (cc)
+    go (Err b) r more h = cc
+    go (Ok l) (refused b k) more h = cc
+    go (Ok l) (read qs) more h = rw (more qs refl) (cc)
 
 -- an area that is read has its size, and its properties are read from the first place on
 pub whole_read : (area : List ℕ) (ps : List Piece) → reading area ≡ read ps → (length area ≡ area_size) × (read_from (count_in area) area first_at ≡ read ps)
@@ -133,14 +132,14 @@ properties_in_order area ps e = rw (le-ltb (length area) first_at (omega (arith,
 abbrev pub AllFine : ℕ → List ℕ → ℕ → Type 0
 AllFine n area at = length (pieces_from n area at) ≡ n
 
-pub fine_next : (n : ℕ) (area : List ℕ) (at : ℕ) → AllFine (suc n) area at → (judged_at area at ≡ Fine (located_at area at)) × AllFine n area (end_of (located_at area at))
+pub fine_next : (n : ℕ) (area : List ℕ) (at : ℕ) → AllFine (suc n) area at → (judged_at area at ≡ Ok (located_at area at)) × AllFine n area (end_of (located_at area at))
 unfolding pieces_from
 fine_next n area at h = go (judged_at area at) refl h
   where
-    go : (j : Judged) → judged_at area at ≡ j → length (fine_or j (piece_in area (located_at area at) ∷ pieces_from n area (end_of (located_at area at)))) ≡ suc n
-        → (judged_at area at ≡ Fine (located_at area at)) × AllFine n area (end_of (located_at area at))
-    go (Bad r) e k = absurd (omega arith)
-    go (Fine l) e k = (e ∙ ap Fine (fine_told area at l e).0, omega arith)
+    go : (j : Result Located Refusal) → judged_at area at ≡ j → length (fine_or j (piece_in area (located_at area at) ∷ pieces_from n area (end_of (located_at area at)))) ≡ suc n
+        → (judged_at area at ≡ Ok (located_at area at)) × AllFine n area (end_of (located_at area at))
+    go (Err r) e k = absurd (omega arith)
+    go (Ok l) e k = (e ∙ ap Ok (fine_told area at l e).0, omega arith)
 
 fine_fewer : (k n : ℕ) (area : List ℕ) (at : ℕ) → k ≤ n → AllFine n area at → AllFine k area at
 unfolding pieces_from
@@ -156,13 +155,18 @@ unfolding read_from
 read_all zero area at ps e = cc
 read_all (suc n) area at ps e = go (judged_at area at) (read_from n area (end_of (located_at area at))) (read_all n area (end_of (located_at area at))) e
   where
-    go : (j : Judged) (r : Reading Piece Refusal) → ((qs : List Piece) → r ≡ read qs → length qs ≡ n) → read_by j at (with_piece (piece_in area (located_at area at)) r) ≡ read ps → length ps ≡ suc n
-    go (Bad b) r more h = cc
-    go (Fine l) (refused b k) more h = cc
-    go (Fine l) (read qs) more h = let all : ps ≡ piece_in area (located_at area at) ∷ qs = cc in rw all (ap suc (more qs refl))
+    go : (j : Result Located Refusal) (r : Reading Piece Refusal) → ((qs : List Piece) → r ≡ read qs → length qs ≡ n) → read_by j at (with_piece (piece_in area (located_at area at)) r) ≡ read ps → length ps ≡ suc n
+    go (Err b) r more h = cc
+    go (Ok l) (refused b k) more h = cc
+    go (Ok l) (read qs) more h = let all : ps ≡ piece_in area (located_at area at) ∷ qs = cc in rw all (ap suc (more qs refl))
 
 -- the first properties of an area that is read
 pub area_fine : (area : List ℕ) (ps : List Piece) (k : ℕ) → reading area ≡ read ps → k ≤ length ps → AllFine k area first_at
 area_fine area ps k e few =
     let all = read_all (count_in area) area first_at ps (whole_read area ps e).1 in
     fine_fewer k (count_in area) area first_at (omega arith) (ap length (area_pieces area ps e) ∙ all)
+
+-- the ways of the code, for the tactics
+pub ruleset turns = (nat_tests, fine_told, stands_first, stands_end, stands_bad, stands_fine)
+
+pub ruleset steps = (nat_tests, fine_told)

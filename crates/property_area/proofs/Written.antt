@@ -14,7 +14,7 @@ use Rattle.words.proofs.Ends.{string_back, string_ended}
 use Rattle.words.proofs.Numbers.{length_be_bytes}
 use Rattle.words.proofs.Places.{word_there, behind}
 use Rattle.journal.specs.Property.{name_limit}
-use Rattle.property_area.specs.declared.reading.Judged.TheVariants.{Fine}
+use Rattle.std.specs.Prelude.{Ok}
 use Rattle.property_area.specs.Head.{is_reserved, count_in}
 use Rattle.property_area.specs.Piece.{Piece, deletion, descriptor_of, length_of_value, piece_bytes, pieces_bytes}
 use Rattle.property_area.specs.Reading.{name_at, value_place, located_at, end_of, judged_at, piece_in, read_from, reading}
@@ -111,7 +111,7 @@ module _ (area : List ℕ) (at : ℕ) (p : Piece) (r : List ℕ) (full : length 
   rest_there : drop (end_of (located_at area at)) area ≡ r
   rest_there = behind area (at + length name + 1 + 4) (length value) (end_of (located_at area at)) value r end_there value_next refl
 
-  fine : judged_at area at ≡ Fine (located_at area at)
+  fine : judged_at area at ≡ Ok (located_at area at)
   unfolding judged_at
   fine =
       let ended = string_ended (drop at area) name _ name_first sound.non_zero name_limit sound.named sound.short in

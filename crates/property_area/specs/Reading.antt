@@ -1,5 +1,5 @@
 -- Reading a property work area (document 02, M-103).
-use Rattle.std.specs.Prelude.{ℕ, zero, suc, ◌+◌, cond, not, List, [], ◌∷◌, ltb, eqb, length, take, drop}
+use Rattle.std.specs.Prelude.{ℕ, zero, suc, ◌+◌, cond, not, List, [], ◌∷◌, ltb, eqb, length, take, drop, Result, Ok, Err}
 use Rattle.words.specs.Numbers.{be32}
 use Rattle.words.specs.Nul.{until_nul, is_ended}
 use Rattle.words.specs.Reading.{Reading, read, refused}
@@ -8,10 +8,7 @@ use Rattle.node_area.specs.Head.{area_size}
 use Rattle.property_area.specs.declared.reading.Refusal.{Refusal}
 use Rattle.property_area.specs.declared.reading.Refusal.TheVariants.{Size, Reserved, Name, Past}
 use Rattle.property_area.specs.declared.reading.Located.{Located}
-use Rattle.property_area.specs.declared.reading.Judged.{Judged}
-use Rattle.property_area.specs.declared.reading.Judged.TheVariants.{Bad, Fine}
-use Rattle.property_area.specs.declared.reading.Check.{Check}
-use Rattle.property_area.specs.declared.reading.Check.TheVariants.{Properties, Refused}
+use Rattle.words.specs.declared.refused.Refused.{Refused}
 use Rattle.property_area.specs.Head.{reserved_at, is_reserved, count_in, first_at}
 use Rattle.property_area.specs.Piece.{Piece, deletion, length_of_value}
 
@@ -42,12 +39,12 @@ abbrev pub end_of : Located → ℕ
 end_of l = l.value + l.value_length
 
 -- 02: "42 not a name with its NUL, 43 descriptor or value past the end"
-unfoldable pub judged_at : List ℕ → ℕ → Judged
+unfoldable pub judged_at : List ℕ → ℕ → Result Located Refusal
 judged_at area at =
-    cond (not (is_ended name_limit (drop at area))) (Bad Name)
-    (cond (ltb (length area) (value_place area at)) (Bad Past)
-    (cond (ltb (length area) (end_of (located_at area at))) (Bad Past)
-    (Fine (located_at area at))))
+    cond (not (is_ended name_limit (drop at area))) (Err Name)
+    (cond (ltb (length area) (value_place area at)) (Err Past)
+    (cond (ltb (length area) (end_of (located_at area at))) (Err Past)
+    (Ok (located_at area at))))
 
 -- what a property tells: its name and its value are parts of the area
 abbrev pub piece_in : List ℕ → Located → Piece
@@ -65,9 +62,9 @@ abbrev pub with_piece : Piece → Reading Piece Refusal → Reading Piece Refusa
 with_piece p (read ps) = read (p ∷ ps)
 with_piece p (refused r at) = refused r at
 
-abbrev pub read_by : Judged → ℕ → Reading Piece Refusal → Reading Piece Refusal
-read_by (Fine l) at more = more
-read_by (Bad r) at more = refused r at
+abbrev pub read_by : Result Located Refusal → ℕ → Reading Piece Refusal → Reading Piece Refusal
+read_by (Ok l) at more = more
+read_by (Err r) at more = refused r at
 
 -- the next n properties from a byte offset on
 unfoldable pub read_from : ℕ → List ℕ → ℕ → Reading Piece Refusal
@@ -86,6 +83,6 @@ reading area =
     found)
 
 -- What a check of an area tells of its reading: the number of its properties, or the refusal.
-abbrev pub check_of : Reading Piece Refusal → Check
-check_of (read ps) = Properties (length ps)
-check_of (refused r at) = Refused r at
+abbrev pub check_of : Reading Piece Refusal → Result ℕ (Refused Refusal)
+check_of (read ps) = Ok (length ps)
+check_of (refused r at) = Err (record { refusal = r; offset = at })

@@ -34,7 +34,7 @@ pub fn is_reserved(area: &[u8]) -> bool
     requires { first_at ≤ length area.now }
     ensures { result ≡ is_reserved area.now }
 {
-    words::is_zero(area, RESERVED_AT, COUNT_AT)
+    words::are_zeros(&area[RESERVED_AT..COUNT_AT])
 }
 
 // The head with the number of properties; every other byte of the area stays.

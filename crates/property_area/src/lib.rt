@@ -5,4 +5,4 @@ mod head;
 mod reading;
 
 pub use head::{FIRST_AT, is_reserved, read_phandle, read_state, write_head};
-pub use reading::{Check, Cursor, DELETION, Located, Next, Refusal, check_area, locate};
+pub use reading::{Cursor, DELETION, Located, Refusal, check_area, locate};

@@ -23,8 +23,9 @@ use Rattle.indices.specs.Reading.{length_at, good_length, fault_at, entry_at, ch
 use Rattle.indices.specs.Cursor.{entries_from, remaining, start_of}
 use Rattle.indices.proofs.IndexLaws.{code_part, judged, entries_in_order}
 use Rattle.indices.proofs.Fine.{code_ends, Reads, reads_next, area_reads}
-use Rattle.property_area.specs.declared.reading.Judged.{Judged}
-use Rattle.property_area.specs.declared.reading.Judged.TheVariants.{Bad, Fine}
+use Rattle.std.specs.Prelude.{Result, Ok, Err}
+use Rattle.property_area.specs.declared.reading.Located.{Located}
+use Rattle.property_area.specs.declared.reading.Refusal as properties_refusal
 use Rattle.property_area.specs.Head.{count_in, first_at}
 use Rattle.property_area.specs.Piece.{Piece, deletion, descriptor_of, length_of_value, piece_bytes, pieces_bytes}
 use Rattle.property_area.specs.Reading.{name_at, descriptor_place, located_at, end_of, judged_at, piece_in}
@@ -198,13 +199,13 @@ module _ (area : List ℕ) (bytes : Bytes area) where
   pieces_row (suc n) zero at before place = rw zero-min none
   pieces_row (suc n) (suc m) at before place = go (judged_at area at) refl (pieces_row n m (end_of (located_at area at)))
     where
-      go : (j : Judged) → judged_at area at ≡ j
+      go : (j : Result Located properties_refusal.Refusal) → judged_at area at ≡ j
           → let l = located_at area at in let others = pieces_from n area (end_of l) in let ps = fine_or j (piece_in area l ∷ others) in
           ((first : List Piece) → end_of l ≡ 20 + length (pieces_bytes first)
           → Row 5 (PieceTold area) first m others (properties_words (min m (length others)) area (end_of l)))
           → Row 5 (PieceTold area) before (suc m) ps (properties_words (min (suc m) (length ps)) area at)
-      go (Bad r) e row = rw (min-zero (suc m)) end
-      go (Fine l) e row =
+      go (Err r) e row = rw (min-zero (suc m)) end
+      go (Ok l) e row =
           let found = fine_told area at l e in
           let told = piece_told at before place (rw found.0 at found.1) in
           rw suc-min-suc (one (property_words (located_at area at)) refl told.0 (row _ told.1))

@@ -1,10 +1,9 @@
 // The reader of property areas: all properties of an area, into a buffer that the caller lends.
-ghost use Rattle.std.specs.Prelude.{◌≡◌, ◌+◌, ◌*◌, ◌≤◌, length};
+ghost use Rattle.std.specs.Prelude.{◌≡◌, ◌+◌, ◌*◌, ◌≤◌, length, Ok};
 ghost use Rattle.std.proofs.lemmas.List.Edits.{sets};
 ghost use Rattle.node_area.specs.Head.{area_size};
-ghost use Rattle.property_area.specs.declared.reading.Judged.TheVariants as judged;
 ghost use Rattle.property_area.specs.Head.{first_at};
-ghost use Rattle.property_area.specs.Reading.{refusal_number, located_at, end_of, judged_at, reading};
+ghost use Rattle.property_area.specs.Reading.{located_at, end_of, judged_at, reading};
 ghost use Rattle.property_area.specs.Claims.Cursor.{pieces_from};
 ghost use Rattle.readers.specs.Readings.{property_words, properties_words, property_reading, properties_out};
 ghost use Rattle.readers.specs.Claims.Readings.{PropertyWordsTell};
@@ -20,20 +19,9 @@ pub struct PropertyReading {
     pub entries: usize,
 }
 
-fn property_refusal(refusal: property_area::Refusal) -> u32
-    ensures { result ≡ refusal_number refusal }
-{
-    match refusal {
-        property_area::Refusal::Size => 40,
-        property_area::Refusal::Reserved => 41,
-        property_area::Refusal::Name => 42,
-        property_area::Refusal::Past => 43,
-    }
-}
-
 // The property at a place of the area, which a check passed, as five words from a place of the buffer on; where the property ends.
 fn store_property(area: &[u8], at: usize, out: &mut [u32], to: usize) -> usize
-    requires { (length area.now ≡ area_size) × (judged_at area.now at ≡ judged.Fine (located_at area.now at)) × (to + 5 ≤ length out.old) }
+    requires { (length area.now ≡ area_size) × (judged_at area.now at ≡ Ok (located_at area.now at)) × (to + 5 ≤ length out.old) }
     ensures value { result ≡ end_of (located_at area.now at) }
     ensures out_after { out.new ≡ sets out.old to (property_words (located_at area.now at)) }
 {
@@ -43,7 +31,7 @@ fn store_property(area: &[u8], at: usize, out: &mut [u32], to: usize) -> usize
     out[to + 2] = found.descriptor;
     out[to + 3] = found.value as u32;
     out[to + 4] = found.value_length as u32;
-    found.value + found.value_length
+    found.end()
 }
 
 // The first properties of an area, so many of them, which a check passed.
@@ -52,10 +40,8 @@ fn store_properties(area: &[u8], out: &mut [u32], count: usize)
     ensures { out.new ≡ sets out.old 0 (properties_words count area.now first_at) }
 {
     let mut at = property_area::FIRST_AT;
-    let mut i: usize = 0;
-    while i < count {
+    for i in 0..count {
         at = store_property(area, at, out, 5 * i);
-        i += 1;
     }
 }
 
@@ -65,17 +51,16 @@ pub fn read_properties(area: &[u8], out: &mut [u32]) -> PropertyReading
     ensures out_after { out.new ≡ properties_out out.old area.now (reading area.now) }
     ensures entries { PropertyWordsTell }
 {
-    let found = property_area::check_area(area);
-    match found {
-        property_area::Check::Refused(refusal, offset) => PropertyReading {
-            refusal: property_refusal(refusal),
+    match property_area::check_area(area) {
+        Err(refused) => PropertyReading {
+            refusal: u32::from(refused.refusal),
             phandle: 0,
             state: 0,
-            offset,
+            offset: refused.offset,
             entries: 0,
         },
-        property_area::Check::Properties(entries) => {
-            store_properties(area, out, words::least(entries, out.len() / 5));
+        Ok(entries) => {
+            store_properties(area, out, entries.min(out.len() / 5));
             PropertyReading {
                 refusal: 0,
                 phandle: property_area::read_phandle(area),

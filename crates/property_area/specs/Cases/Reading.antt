@@ -1,9 +1,9 @@
 -- Readings of property areas, for example (document 02, M-103), cited by the contract of `check_area`; `PropertyReaderExactly` is of every area.
-use Rattle.std.specs.Prelude.{ℕ, ◌-◌, Bool, false, ◌&&◌, List, [], ◌∷◌, ◌++◌, T, eqb, length, replicate}
+use Rattle.std.specs.Prelude.{ℕ, ◌-◌, Bool, false, ◌&&◌, List, [], ◌∷◌, ◌++◌, T, eqb, length, replicate, Result, Ok, Err}
 use Rattle.words.specs.Numbers.{be_bytes}
 use Rattle.words.specs.Claims.Cases.{all}
-use Rattle.property_area.specs.declared.reading.Check.{Check}
-use Rattle.property_area.specs.declared.reading.Check.TheVariants.{Properties, Refused}
+use Rattle.property_area.specs.declared.reading.Refusal.{Refusal}
+use Rattle.words.specs.declared.refused.Refused.{Refused}
 use Rattle.property_area.specs.Reading.{refusal_number, reading, check_of}
 
 -- what a check is to find: a number of properties, or the number of a refusal and its byte offset
@@ -44,11 +44,11 @@ reading_cases =
     ∷ case 1 (property 1 4071 (bytes 4070)) (refusal 43 20)
     ∷ []
 
-abbrev pub matches : Check → Found → Bool
-matches (Properties n) (properties m) = eqb n m
-matches (Properties n) (refusal r at) = false
-matches (Refused f k) (properties m) = false
-matches (Refused f k) (refusal r at) = eqb (refusal_number f) r && eqb k at
+abbrev pub matches : Result ℕ (Refused Refusal) → Found → Bool
+matches (Ok n) (properties m) = eqb n m
+matches (Ok n) (refusal r at) = false
+matches (Err f) (properties m) = false
+matches (Err f) (refusal r at) = eqb (refusal_number f.refusal) r && eqb f.offset at
 
 abbrev pub agrees : ReadingCase → Bool
 agrees c = matches (check_of (reading c.area)) c.finds

@@ -5,8 +5,8 @@ use Rattle.printing.proofs.Puts.{Ahead}
 use Rattle.print_properties.specs.Text.{lines}
 use Rattle.print_properties.proofs.text.put_lines.Given as goal
 
-abbrev pub invariant-loop-l : goal.invariant-loop-l
-invariant-loop-l l = Ahead (lines (remaining l.input (start_of l.input))) l.initial.out l.at l.out l.to (lines (remaining l.input l.cursor))
+abbrev pub invariant-loop-found : goal.invariant-loop-found
+invariant-loop-found l = Ahead (lines (remaining l.input (start_of l.input))) l.initial.out l.at l.out l.to (lines (remaining l.input l.cursor))
 
-abbrev pub decreases-loop-l : goal.decreases-loop-l
-decreases-loop-l l = length (remaining l.input l.cursor)
+abbrev pub decreases-loop-found : goal.decreases-loop-found
+decreases-loop-found l = length (remaining l.input l.cursor)

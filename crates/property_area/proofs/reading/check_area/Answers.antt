@@ -1,42 +1,36 @@
-use mathlib.Core.Path.{sym, ◌∙◌}
-use borrow.Author.Rules.{rules}
-use borrow.Author.Tests.{eq-eqb, ne_eqb}
-use Rattle.property_area.specs.Reading.{reading}
+-- The claims on the reader, at each return of `check_area`.
 use Rattle.property_area.proofs.Claims.{area_claims}
 use Rattle.property_area.proofs.ReaderClaims.{property_reader_exactly}
-use Rattle.property_area.proofs.Judging.{fine_told}
-use Rattle.property_area.proofs.PropertyLaws.{stands_first, stands_end, stands_bad, stands_fine}
 use Rattle.property_area.proofs.reading.check_area.Goals as goal
 
-pub returns-then-area-ne-AREA_SIZE : goal.returns-then-area-ne-AREA_SIZE
-unfolding reading
-returns-then-area-ne-AREA_SIZE c =
-    record { value = rw (ne_eqb _ 4096 c.if-area-ne-AREA_SIZE.true); claims = area_claims; exactly = property_reader_exactly }
+pub returns-then-area-ne-AREA_SIZE-clause-claims : goal.returns-then-area-ne-AREA_SIZE-clause-claims
+returns-then-area-ne-AREA_SIZE-clause-claims c =
+    area_claims
 
-pub returns-then-not-is_reserved : goal.returns-then-not-is_reserved
-unfolding reading
-returns-then-not-is_reserved c =
-    record { value = rw (eq-eqb _ 4096 c.if-area-ne-AREA_SIZE.false, ← c.is_reserved.ensures, c.if-not-is_reserved.true-raw); claims = area_claims; exactly = property_reader_exactly }
+pub returns-then-area-ne-AREA_SIZE-clause-exactly : goal.returns-then-area-ne-AREA_SIZE-clause-exactly
+returns-then-area-ne-AREA_SIZE-clause-exactly c =
+    property_reader_exactly
 
-pub loop-passed-init : goal.loop-passed-init
-loop-passed-init c =
-    let reserved = sym c.is_reserved.ensures ∙ c.if-not-is_reserved.false in
-    stands_first c.args.area.now c.read_be32-count.result c.if-area-ne-AREA_SIZE.false reserved c.read_be32-count.ensures
+pub returns-then-not-is_reserved-clause-claims : goal.returns-then-not-is_reserved-clause-claims
+returns-then-not-is_reserved-clause-claims c =
+    area_claims
 
-pub returns-in-Bad : goal.returns-in-Bad
-returns-in-Bad c =
-    record { value = stands_bad c.loop-passed.invariant c.loop-passed-test.true _ (sym c.judge-found.ensures ∙ c.in-Bad.is); claims = area_claims; exactly = property_reader_exactly }
+pub returns-then-not-is_reserved-clause-exactly : goal.returns-then-not-is_reserved-clause-exactly
+returns-then-not-is_reserved-clause-exactly c =
+    property_reader_exactly
 
-pub overflow_add-at : goal.overflow_add-at
-overflow_add-at c =
-    let found = sym c.judge-found.ensures ∙ c.in-Fine.is in
-    search (rules, (fine_told c.args.area.now c.loop-passed.at _ found).1)
+pub returns-in_err-found-clause-claims : goal.returns-in_err-found-clause-claims
+returns-in_err-found-clause-claims c =
+    area_claims
 
-pub loop-passed-preserved : goal.loop-passed-preserved
-loop-passed-preserved c =
-    let found = sym c.judge-found.ensures ∙ c.in-Fine.is in
-    stands_fine c.loop-passed.invariant c.loop-passed-test.true _ found
+pub returns-in_err-found-clause-exactly : goal.returns-in_err-found-clause-exactly
+returns-in_err-found-clause-exactly c =
+    property_reader_exactly
 
-pub returns : goal.returns
-returns c =
-    record { value = stands_end c.loop-passed.invariant c.loop-passed-test.false; claims = area_claims; exactly = property_reader_exactly }
+pub returns-clause-claims : goal.returns-clause-claims
+returns-clause-claims c =
+    area_claims
+
+pub returns-clause-exactly : goal.returns-clause-exactly
+returns-clause-exactly c =
+    property_reader_exactly

@@ -1,5 +1,5 @@
 -- `reading_properties::store_property` meets its contract.
-use mathlib.Core.Path.{ap}
+use mathlib.Core.Path.{ap, ◌∙◌}
 use Prim.Native.Nat.{◌≤◌}
 use native.Mathlib.Numerals.{towards_suc}
 use native.Mathlib.Omega.{arith}
@@ -54,12 +54,12 @@ pub bounds-out-to-5 : goal.bounds-out-to-5
 bounds-out-to-5 c =
     simp length-set (omega arith)
 
-pub overflow_add-result : goal.overflow_add-result
-overflow_add-result c =
+pub end-requires : goal.end-requires
+end-requires c =
     let small : (c.locate-found.result.name ≤ area_size) × (c.locate-found.result.name_length ≤ area_size) × (end_of c.locate-found.result ≤ area_size) =
     parts_small _ _ _ c.requires.0 c.requires.1 c.locate-found.ensures in
     search (rules, small)
 
 pub returns : goal.returns
 returns c =
-    let told = c.locate-found.ensures in record { value = ap end_of told; out_after = rw told (simp towards_suc) }
+    let told = c.locate-found.ensures in record { value = c.end.ensures ∙ ap end_of told; out_after = rw told (simp towards_suc) }
