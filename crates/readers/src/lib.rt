@@ -4,6 +4,7 @@
 mod reading_indices;
 mod reading_nodes;
 mod reading_properties;
+mod storing;
 
 pub use reading_indices::{IndexReading, code_length, index_refusal, read_indices};
 pub use reading_nodes::{NodeReading, read_nodes};

@@ -8,6 +8,8 @@ ghost use Rattle.property_area.specs.Claims.Cursor.{pieces_from};
 ghost use Rattle.readers.specs.Readings.{property_words, properties_words, property_reading, properties_out};
 ghost use Rattle.readers.specs.Claims.Readings.{PropertyWordsTell};
 
+use crate::storing::store;
+
 // What a reading of a property area tells: a refusal and its byte offset, or the phandle, the state and the number of properties.
 #[repr(C)]
 #[derive(Clone, Copy)]
@@ -20,17 +22,21 @@ pub struct PropertyReading {
 }
 
 // The property at a place of the area, which a check passed, as five words from a place of the buffer on; where the property ends.
+#[tactic(auto, using(crate::proofs::PropertyWords::parts_small))]
 fn store_property(area: &[u8], at: usize, out: &mut [u32], to: usize) -> usize
     requires { (length area.now ≡ area_size) × (judged_at area.now at ≡ Ok (located_at area.now at)) × (to + 5 ≤ length out.old) }
     ensures value { result ≡ end_of (located_at area.now at) }
     ensures out_after { out.new ≡ sets out.old to (property_words (located_at area.now at)) }
 {
     let found = property_area::locate(area, at);
-    out[to] = found.name as u32;
-    out[to + 1] = found.name_length as u32;
-    out[to + 2] = found.descriptor;
-    out[to + 3] = found.value as u32;
-    out[to + 4] = found.value_length as u32;
+    let words = [
+        found.name as u32,
+        found.name_length as u32,
+        found.descriptor,
+        found.value as u32,
+        found.value_length as u32,
+    ];
+    store(out, to, &words);
     found.end()
 }
 
