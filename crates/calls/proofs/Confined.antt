@@ -7,6 +7,7 @@ use Prim.Native.Nat.{ℕ, ◌+◌, ◌*◌, ◌<◌, ◌≤◌}
 use native.Mathlib.Omega.{arith}
 use lib.ListN.{length, get_or}
 use lib.Seq.{sets, length-sets}
+use Rattle.std.specs.Prelude.{Ok, Err, is_ok}
 use Rattle.words.specs.Claims.Exactly.{Outside}
 use Rattle.words.specs.Numbers.{be32, word_bytes}
 use Rattle.words.proofs.Choice.{decide, and_left, and_right}
@@ -37,9 +38,8 @@ use Rattle.calls.proofs.ReadingRecords.{recorded}
 use Rattle.calls.proofs.Memory.{part_length, part_kept, part_before, part_behind, part_same, written_length}
 use lib.Dec.{leb, eqb}
 use borrow.Author.Tests.{leb-true, le-leb}
-use Rattle.dump.specs.declared.registration.Verdict.{Verdict}
-use Rattle.dump.specs.declared.registration.Verdict.TheVariants as verdict
-use Rattle.dump.specs.Registration.{is_done, no_registration, registered, structure_at, verdict_of, registration_after}
+use Rattle.dump.specs.declared.registration.Refusal.TheVariants as refusal
+use Rattle.dump.specs.Registration.{Verdict, no_registration, registered, structure_at, verdict_of, registration_after}
 use Rattle.calls.specs.ConfigureDump.{verdict_status, dump_status}
 use Rattle.calls.specs.GetIndices.{indices_status, next_number}
 use Rattle.calls.proofs.Requests.{indices_refused, indices_outside, indices_length}
@@ -208,11 +208,11 @@ module _ (c : Found) where
   unfolding dump_status registration_after
   dump_kept command address len h = go (verdict_of m command address len r.phase) h
     where
-      go : (v : Verdict) → is_answer (verdict_status v) ≡ false → cond (is_done v) (cond (eqb command 1) (registered (structure_at m address len)) no_registration) r ≡ r
-      go verdict.Done e = absurd (false≢true (sym e))
-      go verdict.Parameter e = refl
-      go verdict.AlreadyRegistered e = refl
-      go verdict.DumpActive e = refl
+      go : (v : Verdict) → is_answer (verdict_status v) ≡ false → cond (is_ok v) (cond (eqb command 1) (registered (structure_at m address len)) no_registration) r ≡ r
+      go (Ok _) e = absurd (false≢true (sym e))
+      go (Err refusal.Parameter) e = refl
+      go (Err refusal.AlreadyRegistered) e = refl
+      go (Err refusal.DumpActive) e = refl
 
   dump_proper : is_dump b ≡ true → Proper c (dump_outcome c)
   unfolding dump_outcome

@@ -7,14 +7,14 @@ use native.Mathlib.Omega.{arith}
 use lib.Dec.{leb, ltb, eqb}
 use lib.ListN.{length}
 use borrow.Author.Tests.{eq-eqb, ne_eqb, lt-ltb, le-ltb}
+use Rattle.std.specs.Prelude.{Ok, Err, is_ok}
 use Rattle.words.specs.Claims.Exactly.{Exactly}
 use Rattle.dump.specs.declared.registration.Phase.{Phase}
 use Rattle.dump.specs.declared.registration.Phase.TheVariants.{Unregistered, Registered, Active}
 use Rattle.dump.specs.declared.registration.Registration.{Registration}
-use Rattle.dump.specs.declared.registration.Verdict.{Verdict}
-use Rattle.dump.specs.declared.registration.Verdict.TheVariants.{Done, Parameter, AlreadyRegistered, DumpActive}
+use Rattle.dump.specs.declared.registration.Refusal.TheVariants.{Parameter, AlreadyRegistered, DumpActive}
 use Rattle.dump.specs.Structure.{good_structure}
-use Rattle.dump.specs.Registration.{is_none, is_registered, is_active, is_done, acceptable, verdict_of, registration_after, no_registration, padded, registered, structure_at}
+use Rattle.dump.specs.Registration.{Verdict, is_none, is_registered, is_active, acceptable, verdict_of, registration_after, no_registration, padded, registered, structure_at}
 use Rattle.calls.specs.Status.{status_word}
 use Rattle.calls.specs.Lent.{part_at}
 use Rattle.calls.specs.ConfigureDump.{verdict_status, dump_status}
@@ -28,13 +28,13 @@ done_if c p a = (eqb c 1 && (is_none p && a)) || ((eqb c 2 && is_registered p) |
 
 abbrev ladder : ℕ → Phase → Bool → Verdict
 ladder c p a =
-    cond (ltb c 1 || ltb 3 c) Parameter
-    (cond (is_active p && leb c 2) DumpActive
-    (cond (is_registered p && eqb c 1) AlreadyRegistered
-    (cond (eqb c 2 && not (is_registered p)) Parameter
-    (cond (eqb c 3 && not (is_active p)) Parameter
-    (cond (eqb c 1 && not a) Parameter
-    Done)))))
+    cond (ltb c 1 || ltb 3 c) (Err Parameter)
+    (cond (is_active p && leb c 2) (Err DumpActive)
+    (cond (is_registered p && eqb c 1) (Err AlreadyRegistered)
+    (cond (eqb c 2 && not (is_registered p)) (Err Parameter)
+    (cond (eqb c 3 && not (is_active p)) (Err Parameter)
+    (cond (eqb c 1 && not a) (Err Parameter)
+    (Ok tt))))))
 
 abbrev word : ℕ → Verdict → Bool
 word w v = eqb (status_word (verdict_status v)) w
@@ -69,16 +69,16 @@ agrees (suc (suc (suc (suc c)))) p a = over (suc (suc (suc (suc c)))) (omega ari
 
 -- one of four
 one_of : (v : Verdict) → let s = status_word (verdict_status v) in (s ≡ minus 10 → ⊥) → (s ≡ minus 9 → ⊥) → (s ≡ 0 → ⊥) → s ≡ minus 3
-one_of Done a b c = absurd (c refl)
-one_of Parameter a b c = refl
-one_of AlreadyRegistered a b c = absurd (b refl)
-one_of DumpActive a b c = absurd (a refl)
+one_of (Ok _) a b c = absurd (c refl)
+one_of (Err Parameter) a b c = refl
+one_of (Err AlreadyRegistered) a b c = absurd (b refl)
+one_of (Err DumpActive) a b c = absurd (a refl)
 
-done_word : (v : Verdict) → is_done v ≡ word 0 v
-done_word Done = refl
-done_word Parameter = refl
-done_word AlreadyRegistered = refl
-done_word DumpActive = refl
+done_word : (v : Verdict) → is_ok v ≡ word 0 v
+done_word (Ok _) = refl
+done_word (Err Parameter) = refl
+done_word (Err AlreadyRegistered) = refl
+done_word (Err DumpActive) = refl
 
 -- ---- the phases and the structure, in the paper's terms
 

@@ -7,4 +7,4 @@ mod status;
 
 pub use reading_record::ReadingRecord;
 pub use request::Request;
-pub use status::{Number, Status, is_given, status_word};
+pub use status::{Number, Status, is_given};

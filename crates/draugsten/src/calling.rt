@@ -1,12 +1,10 @@
 // The call and the registration over the C boundary.
 ghost use Rattle.std.specs.Prelude.{◌≡◌};
 ghost use Rattle.dump.specs.Registration.{no_registration};
-ghost use Rattle.calls.specs.Status.{number_of};
 ghost use Rattle.crossing.specs.Registration.{flat_of};
 ghost use Rattle.draugsten.specs.Registration.{flat_found, flat_leaves, flat_call_of};
 ghost use Rattle.draugsten.specs.Promises.{CallPromise, NoRegistrationPromise};
 
-use calls::Number;
 use crossing::{FlatReading, FlatRegistration};
 use inventory::Edition;
 
@@ -17,17 +15,6 @@ pub struct FlatAnswer {
     pub number: u32,
     pub registration: FlatRegistration,
     pub reading: FlatReading,
-}
-
-fn number_of(number: Number) -> u32
-    ensures { result ≡ number_of number }
-{
-    match number {
-        Number::Given => 0,
-        Number::Short => 10,
-        Number::NoOutputs => 11,
-        Number::TooMany => 12,
-    }
 }
 
 // The registration that a partition starts with.
@@ -75,7 +62,7 @@ pub extern "C" fn draugsten_call(
     let next = answer.registration;
     let then = stepped.reading;
     FlatAnswer {
-        number: number_of(number),
+        number: u32::from(number),
         registration: crossing::flat_of(next),
         reading: crossing::flat_reading_of(then),
     }

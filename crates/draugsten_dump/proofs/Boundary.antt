@@ -11,14 +11,14 @@ use Rattle.words.specs.Claims.Exactly.{Exactly}
 use Rattle.words.proofs.Choice.{decide, choose}
 use Rattle.dump.specs.declared.registration.Phase.TheVariants.{Registered, Active}
 use Rattle.dump.specs.declared.registration.Registration.{Registration}
-use Rattle.dump.specs.declared.registration.Verdict.{Verdict}
-use Rattle.dump.specs.declared.registration.Verdict.TheVariants.{Done, Parameter, AlreadyRegistered, DumpActive}
+use Rattle.dump.specs.declared.registration.Refusal.TheVariants.{Parameter, AlreadyRegistered, DumpActive}
+use Rattle.std.specs.Prelude.{Ok, Err, is_ok}
 use Rattle.calls.specs.Status.{status_word}
 use Rattle.calls.specs.ConfigureDump.{verdict_status}
 use Rattle.crossing.specs.declared.registration.FlatRegistration.{FlatRegistration}
 use Rattle.crossing.specs.Registration.{phase_number, phase_of, flat_of, registration_of, is_registration}
 use Rattle.crossing.proofs.Registrations.{bounds, same, flat_is}
-use Rattle.dump.specs.Registration.{is_done}
+use Rattle.dump.specs.Registration.{Verdict}
 use Rattle.dumping.specs.Running.{Run, run_of, run_verdict}
 use Rattle.dumping.proofs.RunClaims.{run_claims}
 use Rattle.draugsten_dump.specs.Running.{flat_leaves, flat_run_of}
@@ -29,17 +29,17 @@ use Rattle.draugsten_dump.specs.Claims.Dump.{FlatExactly, EachFlatRun, RunHanded
 abbrev word : Verdict → ℕ
 word v = status_word (verdict_status v)
 
-done_word : (v : Verdict) → Exactly (word v ≡ 0) (v ≡ Done)
-done_word Done = (λ _. refl, λ _. refl)
-done_word Parameter = (λ e. absurd (omega arith), λ e. ap word e)
-done_word AlreadyRegistered = (λ e. absurd (omega arith), λ e. ap word e)
-done_word DumpActive = (λ e. absurd (omega arith), λ e. ap word e)
+done_word : (v : Verdict) → Exactly (word v ≡ 0) (v ≡ Ok tt)
+done_word (Ok _) = (λ _. refl, λ _. refl)
+done_word (Err Parameter) = (λ e. absurd (omega arith), λ e. ap word e)
+done_word (Err AlreadyRegistered) = (λ e. absurd (omega arith), λ e. ap word e)
+done_word (Err DumpActive) = (λ e. absurd (omega arith), λ e. ap word e)
 
-active_word : (v : Verdict) → Exactly (word v ≡ 0xffff_fff6) (v ≡ DumpActive)
-active_word Done = (λ e. absurd (omega arith), λ e. ap word e)
-active_word Parameter = (λ e. absurd (omega arith), λ e. ap word e)
-active_word AlreadyRegistered = (λ e. absurd (omega arith), λ e. ap word e)
-active_word DumpActive = (λ _. refl, λ _. refl)
+active_word : (v : Verdict) → Exactly (word v ≡ 0xffff_fff6) (v ≡ Err DumpActive)
+active_word (Ok _) = (λ e. absurd (omega arith), λ e. ap word e)
+active_word (Err Parameter) = (λ e. absurd (omega arith), λ e. ap word e)
+active_word (Err AlreadyRegistered) = (λ e. absurd (omega arith), λ e. ap word e)
+active_word (Err DumpActive) = (λ _. refl, λ _. refl)
 
 -- ---- phases as numbers, up to 2
 
@@ -122,7 +122,7 @@ each_flat_run platform memory f = decide (is_registration f)
 -- a run keeps the length of the copy
 run_length : (platform memory : List ℕ) (r : Registration) → (run_of platform memory r).next.len ≡ r.len
 unfolding run_of
-run_length platform memory r = choose (is_done (run_verdict r)) (λ (y : Run). y.next.len ≡ r.len) (λ _. refl) (λ _. refl)
+run_length platform memory r = choose (is_ok (run_verdict r)) (λ (y : Run). y.next.len ≡ r.len) (λ _. refl) (λ _. refl)
 
 pub run_handed_on : RunHandedOn
 run_handed_on platform memory f n = decide (is_registration f)

@@ -9,7 +9,7 @@ use lib.Seq.{take_at}
 use Rattle.words.specs.Numbers.{be32}
 use Rattle.dump.specs.declared.registration.Phase.TheVariants.{Unregistered, Registered, Active}
 use Rattle.dump.specs.declared.registration.Registration.{Registration}
-use Rattle.dump.specs.declared.registration.Verdict.TheVariants.{Done}
+use Rattle.std.specs.Prelude.{Ok}
 use Rattle.dump.specs.Structure.{good_structure}
 use Rattle.calls.specs.Buffer.{Found, call_of}
 use Rattle.calls.specs.Claims.Terms.{Asks, HasStatus, status_of}
@@ -50,7 +50,7 @@ unfolding part_at
 part_short m address len = omega (arith, length-take len (drop address m))
 
 -- what command 1 copied is a good structure of at most 512 bytes
-runs : (m : List ℕ) (address len : ℕ) (r : Registration) → Acceptable m address len → Holds r Registered (part_at m address len) → (platform memory : List ℕ) → (run_of platform memory r).verdict ≡ Done
+runs : (m : List ℕ) (address len : ℕ) (r : Registration) → Acceptable m address len → Holds r Registered (part_at m address len) → (platform memory : List ℕ) → (run_of platform memory r).verdict ≡ Ok tt
 runs m address len r good holds platform memory =
     (run_claims.each_verdict platform memory r).done.1 (
       holds.in_phase,

@@ -1,12 +1,10 @@
 // Running a registered dump over the C boundary.
 ghost use Rattle.std.specs.Prelude.{◌≡◌};
-ghost use Rattle.calls.specs.Status.{status_word};
-ghost use Rattle.calls.specs.ConfigureDump.{verdict_status};
 ghost use Rattle.draugsten_dump.specs.Running.{flat_leaves, flat_run_of};
 ghost use Rattle.draugsten_dump.specs.Promises.{RunPromise};
 
+use calls::Status;
 use crossing::FlatRegistration;
-use dump::Verdict;
 
 // What a run answers: its number, its status, and the registration afterwards.
 #[repr(C)]
@@ -15,17 +13,6 @@ pub struct FlatRun {
     pub number: u32,
     pub status: u32,
     pub registration: FlatRegistration,
-}
-
-fn status_of(verdict: Verdict) -> u32
-    ensures { result ≡ status_word (verdict_status verdict) }
-{
-    match verdict {
-        Verdict::Done => 0,
-        Verdict::Parameter => 4294967293,
-        Verdict::AlreadyRegistered => 4294967287,
-        Verdict::DumpActive => 4294967286,
-    }
 }
 
 // Runs a registered dump. What is no registration gives 13, and nothing changes; otherwise what is handed back is one.
@@ -46,12 +33,16 @@ pub extern "C" fn draugsten_run_dump(
             registration,
         };
     }
-    let ran = dumping::run_dump(crossing::registration_of(registration), memory, platform);
-    let verdict = ran.verdict;
-    let next = ran.next;
-    FlatRun {
-        number: 0,
-        status: status_of(verdict),
-        registration: crossing::flat_of(next),
+    match dumping::run_dump(crossing::registration_of(registration), memory, platform) {
+        Ok(next) => FlatRun {
+            number: 0,
+            status: u32::from(Status::Done),
+            registration: crossing::flat_of(next),
+        },
+        Err(refusal) => FlatRun {
+            number: 0,
+            status: u32::from(Status::from(refusal)),
+            registration,
+        },
     }
 }

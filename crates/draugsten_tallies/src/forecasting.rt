@@ -25,7 +25,7 @@ pub extern "C" fn draugsten_forecast(tallies: FlatTallies, scope: u32, state: u3
 {
     let told = forecast::forecast_from(tallies.into(), scope, StateVariable(state));
     FlatForecast {
-        status: calls::status_word(told.status),
+        status: u32::from(told.status),
         next: told.next,
     }
 }

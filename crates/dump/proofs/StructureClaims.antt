@@ -15,6 +15,8 @@ use Rattle.words.specs.Claims.Exactly.{Exactly}
 use Rattle.words.proofs.Choice.{decide}
 use Rattle.words.proofs.Exactly.{equal, at_most, below, both, either}
 use Rattle.words.proofs.Named.{until_stops, until_non_zero, until_split}
+use Rattle.dump.proofs.Claims.{structure_cases}
+use Rattle.dump.proofs.StructureLaws.{header_bounds, short_structure}
 use Rattle.dump.specs.Structure.{good_header, each_section, good_type, good_section, requested, without_disk, path_end, good_path, good_structure}
 use Rattle.dump.specs.Claims.Structure.{Section, NoDisk, Disk, StructureExactly}
 
@@ -140,3 +142,6 @@ structure_exactly s =
           },
       λ h. tests.1 ((h.version, (h.some, (h.few, (h.status_flags_claim, (h.from, h.end))))), (h.sections, h.disk)),
     )
+
+-- what `is_structure` needs: its claims, and the laws of the parts
+pub ruleset of_structures = (structure_cases, structure_exactly, short_structure, header_bounds)

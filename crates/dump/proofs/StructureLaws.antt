@@ -1,40 +1,28 @@
 -- Laws of judging a dump structure.
-use mathlib.Core.Path.{◌≡◌, refl, ◌∙◌}
-use mathlib.Core.Bool.{Bool, true, false, ◌&&◌, ◌||◌, and-false}
+use mathlib.Core.Path.{◌≡◌, refl, ap, ◌∙◌}
+use mathlib.Core.Bool.{Bool, true, false, ◌&&◌}
 use mathlib.Core.List.{List}
-use Prim.Native.Nat.{ℕ, zero, suc, ◌+◌, ◌-◌, ◌<◌, ◌≤◌}
-use native.Mathlib.Nat.{add-zero}
-use native.Mathlib.Numerals.{sub-one}
+use Prim.Native.Nat.{ℕ, zero, suc, ◌+◌, ◌*◌, ◌<◌, ◌≤◌}
 use native.Mathlib.Omega.{arith}
-use lib.Dec.{leb, ltb, eqb}
-use lib.ListN.{length, drop_of_length-le}
-use lib.Seq.{slice, take-length}
-use borrow.Author.Tests.{le-ltb, leb-true}
-use Rattle.words.specs.Nul.{until_nul}
+use lib.Dec.{leb, eqb}
+use lib.ListN.{length}
+use Rattle.std.specs.List.{list_all, range_with_len}
+use borrow.Author.Tests.{leb-true}
 use Rattle.words.proofs.Choice.{decide, and_left, and_right}
-use Rattle.dump.specs.Structure.{header_size, section_size, section_limit, version, sections, status_flags, first_section, sections_end, path_offset, good_header, each_section, good_path, good_structure}
+use Rattle.dump.specs.Structure.{header_size, section_size, section_limit, version, sections, status_flags, first_section, sections_end, good_header, each_section, good_structure}
 
 -- ---- sections one after the other
 
-module _ (test : ℕ → Bool) where
-  -- none left
-  pub each_none : (n at : ℕ) → n ≤ 0 → each_section test n at ≡ true
-  unfolding each_section
-  each_none zero at h = refl
-  each_none (suc n) at h = absurd (omega arith)
+-- so many from number a on, by their numbers
+each_from : (test : ℕ → Bool) (at a n : ℕ) → list_all (λ k. test (at + section_size * k)) (range_with_len a n) ≡ each_section test n (at + section_size * a)
+unfolding each_section
+each_from test at a zero = refl
+each_from test at a (suc n) =
+    let next : at + section_size * (a + 1) ≡ at + section_size * a + section_size = omega arith in
+    ap (λ (b : Bool). test (at + section_size * a) && b) (each_from test at (a + 1) n ∙ ap (each_section test n) next)
 
-  -- the first of them and the others
-  each_step : (n at : ℕ) → 0 < n → each_section test n at ≡ (test at && each_section test (n - 1) (at + section_size))
-  unfolding each_section
-  each_step zero at h = absurd (omega arith)
-  each_step (suc n) at h = rw (sub-one (suc n))
-
-  module _ (n at : ℕ) (more : 0 < n) where
-    pub each_bad : test at ≡ false → each_section test n at ≡ false
-    each_bad e = each_step n at more ∙ rw e
-
-    pub each_good : test at ≡ true → each_section test n at ≡ each_section test (n - 1) (at + section_size)
-    each_good e = each_step n at more ∙ rw e
+pub each_numbered : (test : ℕ → Bool) (at n : ℕ) → list_all (λ k. test (at + section_size * k)) (range_with_len 0 n) ≡ each_section test n at
+each_numbered test at n = let start : at + section_size * 0 ≡ at = omega arith in each_from test at 0 n ∙ ap (each_section test n) start
 
 -- ---- the header
 
@@ -49,20 +37,3 @@ header_bounds s h =
 pub short_structure : (s : List ℕ) → length s < header_size → good_structure s ≡ false
 unfolding good_structure
 short_structure s h = decide (good_header s) (λ e. absurd (omega (arith, header_bounds s e))) (λ e. rw e)
-
--- ---- the path
-
--- a path judged by its offset, the place of its NUL, the length, and where the sections start and end
-abbrev pub judged_path : ℕ → ℕ → ℕ → ℕ → ℕ → Bool
-judged_path path nul len first end = leb header_size path && (ltb path nul && (ltb nul len && (ltb nul first || leb end path)))
-
--- no path starts at or behind the end
-pub path_outside : (s : List ℕ) → length s ≤ path_offset s → good_path s ≡ false
-unfolding good_path until_nul
-path_outside s h = simp (drop_of_length-le s h, add-zero, le-ltb (path_offset s) (path_offset s) (omega arith), and-false)
-
--- the path of a structure by what the code read and found
-pub path_read : (s : List ℕ) (path nul first end : ℕ) → path ≡ path_offset s → nul ≡ path + length (until_nul (slice path (length s) s)) → first ≡ first_section s → end ≡ sections_end s
-    → good_path s ≡ judged_path path nul (length s) first end
-unfolding good_path
-path_read s path nul first end p n f e = rw (n, take-length s, e, f, p)

@@ -8,14 +8,15 @@ use native.Mathlib.Omega.{arith}
 use lib.Dec.{leb, ltb, eqb}
 use lib.ListN.{length, take, drop, length-take, length-drop}
 use borrow.Author.Tests.{leb-true, lt-ltb, le-ltb, eqb-true}
+use Rattle.std.specs.Prelude.{Ok, Err, is_ok}
+use Rattle.std.specs.Result.{result_map_both}
 use Rattle.words.proofs.Choice.{decide, choose, and_left, and_right}
 use Rattle.dump.specs.declared.registration.Phase.{Phase}
 use Rattle.dump.specs.declared.registration.Phase.TheVariants.{Unregistered, Registered, Active}
 use Rattle.dump.specs.declared.registration.Registration.{Registration}
-use Rattle.dump.specs.declared.registration.Verdict.{Verdict}
-use Rattle.dump.specs.declared.registration.Configured.{Configured}
+use Rattle.dump.specs.declared.registration.Refusal.{Refusal}
 use Rattle.dump.specs.Structure.{header_size}
-use Rattle.dump.specs.Registration.{copy_size, is_done, padded, no_registration, registered, structure_at, acceptable, verdict_of, registration_after}
+use Rattle.dump.specs.Registration.{Verdict, copy_size, padded, no_registration, registered, structure_at, acceptable, verdict_of, registration_after}
 
 -- an acceptable structure fits into a copy, and stands inside memory
 module _ (m : List ℕ) (address len : ℕ) (good : acceptable m address len ≡ true) where
@@ -34,9 +35,19 @@ module _ (m : List ℕ) (address len : ℕ) (good : acceptable m address len ≡
       let n : length (structure_at m address len) ≡ len = simp (length-take, length-drop) (omega arith) in
       rw (e, add-sub_cancel_left address len, n)
 
--- what came, handed back with a verdict
-pub kept-is : (x : Configured) (r : Registration) (v : Verdict) → (x.next ≡ r) × (x.verdict ≡ v) → x ≡ record { next = r; verdict = v }
-kept-is x r v e = rw (← e.0, ← e.1)
+-- what is handed back, and why nothing is, by the verdict
+pub handed_over : {T : Type 0} (x next : T) (v : Verdict) → Ok next ≡ result_map_both (λ _. x) (λ e. e) v → (v ≡ Ok tt) × (next ≡ x)
+handed_over x next (Ok _) e = (refl, cc)
+handed_over x next (Err _) e = cc
+
+pub refused_for : {T : Type 0} (x : T) (r : Refusal) (v : Verdict) → Err r ≡ result_map_both (λ _. x) (λ e. e) v → v ≡ Err r
+refused_for x r (Ok _) e = cc
+refused_for x r (Err _) e = cc
+
+-- what is refused stays
+pub refused_stays : (m : List ℕ) (command address len : ℕ) (r : Registration) (e : Refusal) → verdict_of m command address len r.phase ≡ Err e → registration_after m command address len r ≡ r
+unfolding registration_after
+refused_stays m command address len r e v = rw v
 
 -- a command that is none of the three fails the first test
 pub outside : (command : ℕ) → (command ≡ 1 → ⊥) → (command ≡ 2 → ⊥) → (command ≡ 3 → ⊥) → (ltb command 1 || ltb 3 command) ≡ true
@@ -46,7 +57,7 @@ outside (suc n) one two three = rw (le-ltb (suc n) 1 (omega arith), lt-ltb 3 (su
 -- ---- what a command makes of a registration
 
 -- what command 1 copies is acceptable
-done_acceptable : (m : List ℕ) (address len : ℕ) (p : Phase) → is_done (verdict_of m 1 address len p) ≡ true → acceptable m address len ≡ true
+done_acceptable : (m : List ℕ) (address len : ℕ) (p : Phase) → is_ok (verdict_of m 1 address len p) ≡ true → acceptable m address len ≡ true
 unfolding verdict_of
 done_acceptable m address len Active e = absurd (false≢true e)
 done_acceptable m address len Registered e = absurd (false≢true e)
@@ -57,7 +68,7 @@ pub registration_ways : (m : List ℕ) (command address len : ℕ) (r : Registra
     → (acceptable m address len ≡ true → P (registered (structure_at m address len))) → P (registration_after m command address len r)
 unfolding registration_after
 registration_ways m command address len r P same gone copied =
-    choose (is_done (verdict_of m command address len r.phase)) P
+    choose (is_ok (verdict_of m command address len r.phase)) P
     (λ d. choose (eqb command 1) P (λ e. copied (done_acceptable m address len r.phase (rw (eqb-true command 1 e) at d))) (λ _. gone))
     (λ _. same)
 

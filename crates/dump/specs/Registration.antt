@@ -1,11 +1,11 @@
 -- The kernel dump registration, and what each command makes of it (document 01, "Kernel dump registration").
-use Rattle.std.specs.Prelude.{ℕ, ◌+◌, ◌-◌, Bool, true, false, cond, ◌&&◌, ◌||◌, not, List, ◌++◌, leb, ltb, eqb, length, take, drop, replicate}
+use Rattle.std.specs.Prelude.{ℕ, ◌+◌, ◌-◌, Bool, true, false, cond, ◌&&◌, ◌||◌, not, List, ◌++◌, leb, ltb, eqb, length, take, drop, replicate, Result, Ok, Err, is_ok}
+use Rattle.std.specs.Result.{result_map_both}
 use Rattle.dump.specs.declared.registration.Phase.{Phase}
 use Rattle.dump.specs.declared.registration.Phase.TheVariants.{Unregistered, Registered, Active}
 use Rattle.dump.specs.declared.registration.Registration.{Registration}
-use Rattle.dump.specs.declared.registration.Verdict.{Verdict}
-use Rattle.dump.specs.declared.registration.Verdict.TheVariants.{Done, Parameter, AlreadyRegistered, DumpActive}
-use Rattle.dump.specs.declared.registration.Configured.{Configured}
+use Rattle.dump.specs.declared.registration.Refusal.{Refusal}
+use Rattle.dump.specs.declared.registration.Refusal.TheVariants.{Parameter, AlreadyRegistered, DumpActive}
 use Rattle.dump.specs.Structure.{header_size, good_structure}
 
 abbrev pub is_none : Phase → Bool
@@ -23,11 +23,9 @@ is_active Unregistered = false
 is_active Registered = false
 is_active Active = true
 
-abbrev pub is_done : Verdict → Bool
-is_done Done = true
-is_done Parameter = false
-is_done AlreadyRegistered = false
-is_done DumpActive = false
+-- what comes of a command or a run: it is done, or it is refused
+abbrev pub Verdict : Type 0
+Verdict = Result (Unit {0}) Refusal
 
 -- the bytes of a copy
 abbrev pub copy_size : ℕ
@@ -56,20 +54,21 @@ acceptable m address len = leb header_size len && (leb len copy_size && (leb (ad
 -- not active (-3)."
 unfoldable pub verdict_of : List ℕ → ℕ → ℕ → ℕ → Phase → Verdict
 verdict_of m command address len phase =
-    cond (ltb command 1 || ltb 3 command) Parameter
-    (cond (is_active phase && leb command 2) DumpActive
-    (cond (is_registered phase && eqb command 1) AlreadyRegistered
-    (cond (eqb command 2 && not (is_registered phase)) Parameter
-    (cond (eqb command 3 && not (is_active phase)) Parameter
-    (cond (eqb command 1 && not (acceptable m address len)) Parameter
-    Done)))))
+    cond (ltb command 1 || ltb 3 command) (Err Parameter)
+    (cond (is_active phase && leb command 2) (Err DumpActive)
+    (cond (is_registered phase && eqb command 1) (Err AlreadyRegistered)
+    (cond (eqb command 2 && not (is_registered phase)) (Err Parameter)
+    (cond (eqb command 3 && not (is_active phase)) (Err Parameter)
+    (cond (eqb command 1 && not (acceptable m address len)) (Err Parameter)
+    (Ok tt))))))
 
 -- 01: "each command takes the registration and hands the new one back", "Commands 2 and 3 ignore address and length and give none."
 unfoldable pub registration_after : List ℕ → ℕ → ℕ → ℕ → Registration → Registration
 registration_after m command address len r =
-    cond (is_done (verdict_of m command address len r.phase))
+    cond (is_ok (verdict_of m command address len r.phase))
     (cond (eqb command 1) (registered (structure_at m address len)) no_registration)
     r
 
-abbrev pub configured : List ℕ → ℕ → ℕ → ℕ → Registration → Configured
-configured m command address len r = record { next = registration_after m command address len r; verdict = verdict_of m command address len r.phase }
+-- the next registration, or why there is none
+abbrev pub configured : List ℕ → ℕ → ℕ → ℕ → Registration → Result Registration Refusal
+configured m command address len r = result_map_both (λ _. registration_after m command address len r) (λ e. e) (verdict_of m command address len r.phase)

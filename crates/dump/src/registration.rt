@@ -7,7 +7,7 @@ use crate::structure::{HEADER_SIZE, is_structure};
 // The bytes of a copy.
 pub const COPY_SIZE: usize = 512;
 
-#[derive(Clone, Copy)]
+#[derive(Clone, Copy, PartialEq, Eq)]
 pub enum Phase {
     Unregistered,
     Registered,
@@ -22,20 +22,12 @@ pub struct Registration {
     pub copy: [u8; COPY_SIZE],
 }
 
-// What comes of a command.
-#[derive(Clone, Copy)]
-pub enum Verdict {
-    Done,
+// Why a command is refused. The registration then stays as it was.
+#[derive(Clone, Copy, PartialEq, Eq)]
+pub enum Refusal {
     Parameter,
     AlreadyRegistered,
     DumpActive,
-}
-
-// What a command hands back: the next registration, and what came of it.
-#[derive(Clone, Copy)]
-pub struct Configured {
-    pub next: Registration,
-    pub verdict: Verdict,
 }
 
 // The registration that a partition starts with.
@@ -55,114 +47,87 @@ fn copied(s: &[u8]) -> [u8; COPY_SIZE]
     ensures { result ≡ padded s.now }
 {
     let mut copy = [0u8; COPY_SIZE];
-    let mut i: usize = 0;
-    while i < s.len() {
-        copy[i] = s[i];
-        i += 1;
-    }
+    words::store(&mut copy, 0, s);
     copy
 }
 
 // Whether a good structure of this length stands at an address of memory.
+#[tactic(auto, unfolding(crate::specs::Registration::acceptable))]
 fn is_acceptable(memory: &[u8], address: u32, len: u32) -> bool
     ensures { result ≡ acceptable memory.now address len }
 {
-    let n = len as usize;
-    if n < HEADER_SIZE {
-        return false;
-    }
-    if COPY_SIZE < n {
-        return false;
-    }
     let at = address as usize;
-    let end = at + n;
-    if memory.len() < end {
-        return false;
-    }
-    is_structure(&memory[at..end])
+    let n = len as usize;
+    HEADER_SIZE <= n
+        && n <= COPY_SIZE
+        && at + n <= memory.len()
+        && is_structure(&memory[at..at + n])
 }
 
 impl Registration {
-    // Command 1.
-    pub fn register(self, memory: &[u8], address: u32, len: u32) -> Configured
+    // Command 1: the next registration. Where it is refused, this one stays.
+    #[tactic(auto, unfolding(crate::specs::Registration::verdict_of, crate::specs::Registration::registration_after))]
+    pub fn register(self, memory: &[u8], address: u32, len: u32) -> Result<Registration, Refusal>
         ensures { result ≡ configured memory.now 1 address len self }
     {
         let before = self.phase;
         match before {
-            Phase::Active => self.kept(Verdict::DumpActive),
-            Phase::Registered => self.kept(Verdict::AlreadyRegistered),
+            Phase::Active => Err(Refusal::DumpActive),
+            Phase::Registered => Err(Refusal::AlreadyRegistered),
             Phase::Unregistered => {
                 if !is_acceptable(memory, address, len) {
-                    return self.kept(Verdict::Parameter);
+                    return Err(Refusal::Parameter);
                 }
                 let at = address as usize;
                 let n = len as usize;
-                let copy = copied(&memory[at..at + n]);
-                Configured {
-                    next: Registration {
-                        phase: Phase::Registered,
-                        len: n,
-                        copy,
-                    },
-                    verdict: Verdict::Done,
-                }
+                Ok(Registration {
+                    phase: Phase::Registered,
+                    len: n,
+                    copy: copied(&memory[at..at + n]),
+                })
             }
         }
     }
 
     // Command 2.
-    pub fn unregister(self) -> Configured
+    #[tactic(auto, unfolding(crate::specs::Registration::verdict_of, crate::specs::Registration::registration_after))]
+    pub fn unregister(self) -> Result<Registration, Refusal>
         ensures { result ≡ configured [] 2 0 0 self }
     {
-        let phase = self.phase;
-        match phase {
-            Phase::Active => self.kept(Verdict::DumpActive),
-            Phase::Registered => Configured {
-                next: no_registration(),
-                verdict: Verdict::Done,
-            },
-            Phase::Unregistered => self.kept(Verdict::Parameter),
+        match self.phase {
+            Phase::Active => Err(Refusal::DumpActive),
+            Phase::Registered => Ok(no_registration()),
+            Phase::Unregistered => Err(Refusal::Parameter),
         }
     }
 
     // Command 3.
-    pub fn complete(self) -> Configured
+    #[tactic(auto, unfolding(crate::specs::Registration::verdict_of, crate::specs::Registration::registration_after))]
+    pub fn complete(self) -> Result<Registration, Refusal>
         ensures { result ≡ configured [] 3 0 0 self }
     {
-        let phase = self.phase;
-        match phase {
-            Phase::Active => Configured {
-                next: no_registration(),
-                verdict: Verdict::Done,
-            },
-            Phase::Registered => self.kept(Verdict::Parameter),
-            Phase::Unregistered => self.kept(Verdict::Parameter),
-        }
-    }
-
-    // What came, handed back as it is.
-    fn kept(self, verdict: Verdict) -> Configured
-        ensures { (result.next ≡ self) × (result.verdict ≡ verdict) }
-    {
-        Configured {
-            next: self,
-            verdict,
+        match self.phase {
+            Phase::Active => Ok(no_registration()),
+            Phase::Registered | Phase::Unregistered => Err(Refusal::Parameter),
         }
     }
 
     // A command by its number.
-    pub fn configure(self, memory: &[u8], command: u32, address: u32, len: u32) -> Configured
+    #[tactic(auto, unfolding(crate::specs::Registration::verdict_of, crate::specs::Registration::registration_after))]
+    pub fn configure(
+        self,
+        memory: &[u8],
+        command: u32,
+        address: u32,
+        len: u32,
+    ) -> Result<Registration, Refusal>
         ensures { result ≡ configured memory.now command address len self }
     {
-        if command == 1 {
-            return self.register(memory, address, len);
+        match command {
+            1 => self.register(memory, address, len),
+            2 => self.unregister(),
+            3 => self.complete(),
+            _ => Err(Refusal::Parameter),
         }
-        if command == 2 {
-            return self.unregister();
-        }
-        if command == 3 {
-            return self.complete();
-        }
-        self.kept(Verdict::Parameter)
     }
 }

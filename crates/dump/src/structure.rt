@@ -33,62 +33,37 @@ pub const SECTION_ACTUAL: usize = 24;
 pub const SECTION_DESTINATION: usize = 32;
 
 // Whether the header's numbers are good and the sections end within the length.
+#[tactic(auto, unfolding(crate::specs::Structure::good_header))]
 fn is_header(s: &[u8]) -> bool
     requires { header_size ≤ length s.now }
     ensures { result ≡ good_header s.now }
 {
-    if words::read_be32(s, 0) != 1 {
-        return false;
-    }
     let sections = words::read_be16(s, SECTIONS) as usize;
-    if sections < 1 {
-        return false;
-    }
-    if SECTION_LIMIT < sections {
-        return false;
-    }
-    if words::read_be16(s, STATUS_FLAGS) != 0 {
-        return false;
-    }
     let first = words::read_be32(s, FIRST_SECTION) as usize;
-    if first < HEADER_SIZE {
-        return false;
-    }
-    first + SECTION_SIZE * sections <= s.len()
+    words::read_be32(s, 0) == 1
+        && 1 <= sections
+        && sections <= SECTION_LIMIT
+        && words::read_be16(s, STATUS_FLAGS) == 0
+        && HEADER_SIZE <= first
+        && first + SECTION_SIZE * sections <= s.len()
 }
 
+#[tactic(auto, unfolding(crate::specs::Structure::good_type))]
 fn is_type(kind: u16) -> bool
     ensures { result ≡ good_type kind }
 {
-    if kind == 1 {
-        return true;
-    }
-    if kind == 2 {
-        return true;
-    }
-    if kind == 17 {
-        return true;
-    }
-    if kind == 18 {
-        return true;
-    }
-    256 <= kind
+    matches!(kind, 1 | 2 | 0x11 | 0x12 | 0x100..)
 }
 
+#[tactic(auto, unfolding(crate::specs::Structure::good_section))]
 fn is_section(s: &[u8], at: usize) -> bool
     requires { at + section_size ≤ length s.now }
     ensures { result ≡ good_section s.now at }
 {
-    if 1 < words::read_be32(s, at) {
-        return false;
-    }
-    if !is_type(words::read_be16(s, at + SECTION_TYPE)) {
-        return false;
-    }
-    if words::read_be16(s, at + SECTION_ERRORS) != 0 {
-        return false;
-    }
-    words::read_be64(s, at + SECTION_ACTUAL) == 0
+    words::read_be32(s, at) <= 1
+        && is_type(words::read_be16(s, at + SECTION_TYPE))
+        && words::read_be16(s, at + SECTION_ERRORS) == 0
+        && words::read_be64(s, at + SECTION_ACTUAL) == 0
 }
 
 // Whether so many sections from an offset on are good.
@@ -96,16 +71,7 @@ fn are_sections(s: &[u8], first: usize, count: usize) -> bool
     requires { first + section_size * count ≤ length s.now }
     ensures { result ≡ each_section (good_section s.now) count first }
 {
-    let mut at = first;
-    let mut left = count;
-    while 0 < left {
-        if !is_section(s, at) {
-            return false;
-        }
-        at += SECTION_SIZE;
-        left -= 1;
-    }
-    true
+    (0..count).all(|k| is_section(s, first + SECTION_SIZE * k))
 }
 
 // Whether so many sections from an offset on have request flag 1.
@@ -113,61 +79,37 @@ fn are_requested(s: &[u8], first: usize, count: usize) -> bool
     requires { first + section_size * count ≤ length s.now }
     ensures { result ≡ each_section (requested s.now) count first }
 {
-    let mut at = first;
-    let mut left = count;
-    while 0 < left {
-        if words::read_be32(s, at) != 1 {
-            return false;
-        }
-        at += SECTION_SIZE;
-        left -= 1;
-    }
-    true
+    (0..count).all(|k| words::read_be32(s, first + SECTION_SIZE * k) == 1)
 }
 
 // Whether a structure with block size 0 has no other sign of a disk.
+#[tactic(auto, unfolding(crate::specs::Structure::without_disk))]
 fn is_without_disk(s: &[u8], first: usize, count: usize) -> bool
     requires { (header_size ≤ length s.now) × (first ≡ first_section s.now) × (count ≡ sections s.now) × (sections_end s.now ≤ length s.now) }
     ensures { result ≡ without_disk s.now }
 {
-    if words::read_be64(s, 16) != 0 {
-        return false;
-    }
-    if words::read_be64(s, 24) != 0 {
-        return false;
-    }
-    if words::read_be32(s, 32) != 0 {
-        return false;
-    }
-    are_requested(s, first, count)
+    words::read_be64(s, 16) == 0
+        && words::read_be64(s, 24) == 0
+        && words::read_be32(s, 32) == 0
+        && are_requested(s, first, count)
 }
 
 // Whether the path is good beside sections from one offset up to another.
+#[tactic(auto, using(words::proofs::Ends::until_le), unfolding(crate::specs::Structure::good_path))]
 fn is_path(s: &[u8], first: usize, end: usize) -> bool
     requires { (header_size ≤ length s.now) × (first ≡ first_section s.now) × (end ≡ sections_end s.now) }
     ensures { result ≡ good_path s.now }
 {
     let path = words::read_be32(s, 32) as usize;
-    if path < HEADER_SIZE {
-        return false;
-    }
     if s.len() <= path {
         return false;
     }
-    let nul = words::find_nul(s, path, s.len());
-    if nul <= path {
-        return false;
-    }
-    if s.len() <= nul {
-        return false;
-    }
-    if nul < first {
-        return true;
-    }
-    end <= path
+    let nul = path + words::until_nul(&s[path..]);
+    HEADER_SIZE <= path && path < nul && nul < s.len() && (nul < first || end <= path)
 }
 
 // Whether the bytes are a good dump structure.
+#[tactic(auto, using(crate::proofs::StructureClaims::of_structures), unfolding(crate::specs::Structure::good_structure))]
 pub fn is_structure(s: &[u8]) -> bool
     ensures value { result ≡ good_structure s.now }
     ensures cases { StructureCases }

@@ -1,20 +1,17 @@
 -- Four flags, each there or not, and the test of a wide sum.
-use Prim.Native.Nat.{ℕ, ◌+◌, ◌-◌, ◌/◌, ◌%◌, ◌≤◌, ◌<◌}
-use mathlib.Core.Path.{◌≡◌, refl, sym, ◌∙◌}
+use Prim.Native.Nat.{ℕ, ◌+◌, ◌*◌, ◌/◌, ◌%◌, ◌≤◌, ◌<◌}
+use mathlib.Core.Path.{◌≡◌, refl}
 use mathlib.Core.Bool.{Bool, true, false, cond}
 use native.Mathlib.Omega.{arith}
-use lib.Dec.{ltb}
-use borrow.Author.Tests.{lt-ltb, le-ltb, ltb-true, ltb-false}
-use Rattle.words.proofs.Choice.{decide}
-
--- start plus length, without the sum
-pub past_by : (end start requested : ℕ) → start ≤ end → ltb (end - start) requested ≡ ltb end (start + requested)
-past_by end start requested h = decide (ltb (end - start) requested)
-    (λ t. t ∙ sym (lt-ltb end (start + requested) (omega (arith, ltb-true (end - start) requested t))))
-    (λ t. t ∙ sym (le-ltb end (start + requested) (omega (arith, ltb-false (end - start) requested t))))
+use Rattle.std.specs.Int.{from_bool}
 
 unfoldable pub four : Bool → Bool → Bool → Bool → ℕ
 four a b c d = cond a 16_384 0 + cond b 8192 0 + cond c 4096 0 + cond d 2048 0
+
+-- a flag as its number times the test
+pub flag_times : (t : Bool) (n m : ℕ) → m ≡ from_bool t → n * m ≡ cond t n 0
+flag_times true n m e = grind arith
+flag_times false n m e = grind arith
 
 -- a test as a number
 abbrev pub one_if_lem : Bool → ℕ

@@ -16,15 +16,15 @@ use Rattle.words.proofs.Stores.{be_stored}
 use Rattle.dump.specs.declared.registration.Phase.{Phase}
 use Rattle.dump.specs.declared.registration.Phase.TheVariants.{Unregistered, Registered, Active}
 use Rattle.dump.specs.declared.registration.Registration.{Registration}
-use Rattle.dump.specs.declared.registration.Verdict.{Verdict}
-use Rattle.dump.specs.declared.registration.Verdict.TheVariants.{Done, Parameter, AlreadyRegistered, DumpActive}
+use Rattle.dump.specs.declared.registration.Refusal.TheVariants.{Parameter, DumpActive}
+use Rattle.std.specs.Prelude.{Ok, Err, is_ok}
 use Rattle.dump.specs.Structure.{header_size, section_size, sections, first_section, good_structure}
-use Rattle.dump.specs.Registration.{copy_size, is_registered, is_active, is_done}
+use Rattle.dump.specs.Registration.{Verdict, copy_size, is_registered, is_active}
 use Rattle.dumping.specs.Section.{actual_length}
 use Rattle.dumping.specs.Running.{structure_run, good_copy, run_verdict, run_of}
 use Rattle.dumping.specs.Claims.Run.{count, place, section_of, errors_in, actual_in, SectionExactly, InOrder, MemoryKept, CopyKept, StatusFlags, Ran, EachVerdict, EachSection, RunClaims}
 use Rattle.dumping.proofs.Claims.{section_claims}
-use Rattle.dumping.proofs.Runs.{not_asked, good_bounds, run_refused, run_done}
+use Rattle.dumping.proofs.Runs.{not_asked, good_bounds, run_kept, run_done}
 use Rattle.dumping.proofs.OneSection.{asked_errors, asked_actual}
 use Rattle.dumping.proofs.SectionRuns.{number_beside, same_number, errors, actual, memories, copies, failures, memories_size, each_copies, memories_kept, copies_size, copies_kept, errors_told, actual_told, no_failure, failure, sections_ran}
 
@@ -32,11 +32,11 @@ use Rattle.dumping.proofs.SectionRuns.{number_beside, same_number, errors, actua
 
 -- what a phase and the judgement of the copy come to
 record Judged (p : Phase) (good : Bool) (v : Verdict) : Type 0 where
-  active : Exactly (v ≡ DumpActive) (p ≡ Active)
-  done : Exactly (v ≡ Done) ((p ≡ Registered) × (good ≡ true))
-  otherwise : (v ≡ DumpActive → ⊥) → (v ≡ Done → ⊥) → v ≡ Parameter
+  active : Exactly (v ≡ Err DumpActive) (p ≡ Active)
+  done : Exactly (v ≡ Ok tt) ((p ≡ Registered) × (good ≡ true))
+  otherwise : (v ≡ Err DumpActive → ⊥) → (v ≡ Ok tt → ⊥) → v ≡ Err Parameter
 
-judged : (p : Phase) (good : Bool) → Judged p good (cond (is_active p) DumpActive (cond (is_registered p && good) Done Parameter))
+judged : (p : Phase) (good : Bool) → Judged p good (cond (is_active p) (Err DumpActive) (cond (is_registered p && good) (Ok tt) (Err Parameter)))
 judged Unregistered good = record { active = (λ e. cc, λ e. cc); done = (λ e. (cc, cc), λ h. cc); otherwise = λ a d. refl }
 judged Registered true = record { active = (λ e. cc, λ e. cc); done = (λ e. (refl, refl), λ h. refl); otherwise = λ a d. absurd (d refl) }
 judged Registered false = record { active = (λ e. cc, λ e. cc); done = (λ e. (cc, cc), λ h. cc); otherwise = λ a d. refl }
@@ -51,15 +51,13 @@ unfolding good_copy
 good_exactly copy len =
     (λ e. (leb-true len copy_size (and_left (leb len copy_size) _ e), and_right (leb len copy_size) _ e), λ h. rw (le-leb len copy_size h.0) h.1)
 
-not_done : (v : Verdict) → (v ≡ Done → ⊥) → is_done v ≡ false
-not_done Done h = absurd (h refl)
-not_done Parameter h = refl
-not_done AlreadyRegistered h = refl
-not_done DumpActive h = refl
+not_done : (v : Verdict) → (v ≡ Ok tt → ⊥) → is_ok v ≡ false
+not_done (Ok _) h = absurd (h refl)
+not_done (Err _) h = refl
 
 verdict_is : (platform memory : List ℕ) (r : Registration) → (run_of platform memory r).verdict ≡ run_verdict r
 unfolding run_of
-verdict_is platform memory r = decide (is_done (run_verdict r)) (λ t. rw t) (λ f. rw f)
+verdict_is platform memory r = decide (is_ok (run_verdict r)) (λ t. rw t) (λ f. rw f)
 
 each_verdict : EachVerdict
 each_verdict platform memory r =
@@ -70,9 +68,7 @@ each_verdict platform memory r =
       active = rw v j.active;
       done = (λ e. let d = j.done.0 (sym v ∙ e) in (d.0, good.0 d.1), λ h. v ∙ j.done.1 (h.0, good.1 h.1));
       otherwise = rw v j.otherwise;
-      refused = λ d.
-          let kept = run_refused platform memory r (record { next = r; verdict = run_verdict r }) (run_verdict r) (not_done (run_verdict r) (λ e. d (v ∙ e))) refl (refl, refl) in
-          rw (← kept) (refl, refl);
+      refused = λ d. rw (run_kept platform memory r (not_done (run_verdict r) (λ e. d (v ∙ e)))) (refl, refl);
       becomes_active = λ e. rw (run_done platform memory r (sym v ∙ e)) (refl, refl);
     }
 
@@ -153,7 +149,7 @@ module _ (platform memory copy : List ℕ) where
 
 each_section_claim : EachSection
 each_section_claim platform memory r bytes e =
-    let v : run_verdict r ≡ Done = sym (verdict_is platform memory r) ∙ e in
+    let v : run_verdict r ≡ Ok tt = sym (verdict_is platform memory r) ∙ e in
     let bounds = good_bounds r.copy r.len ((judged_run r).done.0 v).1 in
     rw (run_done platform memory r v, structure_ran platform memory r.copy) (ran platform memory r.copy bytes bounds)
 

@@ -13,23 +13,17 @@ use Rattle.words.proofs.Choice.{and_left, and_right}
 use Rattle.words.proofs.Numbers.{be_take}
 use Rattle.dump.specs.declared.registration.Phase.TheVariants.{Unregistered, Registered, Active}
 use Rattle.dump.specs.declared.registration.Registration.{Registration}
-use Rattle.dump.specs.declared.registration.Verdict.{Verdict}
-use Rattle.dump.specs.declared.registration.Verdict.TheVariants.{Done, Parameter, DumpActive}
-use Rattle.dump.specs.declared.registration.Configured.{Configured}
+use Rattle.dump.specs.declared.registration.Refusal.{Refusal}
+use Rattle.dump.specs.declared.registration.Refusal.TheVariants.{Parameter, DumpActive}
+use Rattle.std.specs.Prelude.{Ok, Err, is_ok}
 use Rattle.dump.specs.Structure.{header_size, section_size, sections, first_section, good_header, good_structure}
-use Rattle.dump.specs.Registration.{copy_size, is_done}
+use Rattle.dump.specs.Registration.{copy_size}
 use Rattle.dump.proofs.StructureLaws.{header_bounds}
 use Rattle.dumping.specs.declared.section.Section.{Section}
 use Rattle.dumping.specs.Section.{error_flags, actual_length}
 use Rattle.dumping.specs.Running.{source_of, is_asked, errors_of, actual_of, memory_after, Running, section_run, sections_run, structure_run, good_copy, run_verdict, leaves_run, run_of}
 
 -- ---- one section
-
--- nothing is stored where there is nothing
-pub none_stored : (m source : List ℕ) (to from n : ℕ) → n < 1 → m ≡ sets m to (take n (drop from source))
-none_stored m source to from n h =
-    let z : n ≡ 0 = omega arith in
-    rw z
 
 -- what came of a section: its error flags, its actual length, and memory
 pub record Came (platform memory : List ℕ) (x : Section) (errors actual : ℕ) (after : List ℕ) : Type 0 where
@@ -94,17 +88,17 @@ pub going_start : (platform memory copy : List ℕ) (at left : ℕ) → at ≡ f
 going_start platform memory copy at left a n h = record { room = rw (a, n) h; long = refl; wide = refl; rest = rw (a, n) }
 
 module _ {platform memory₀ copy₀ memory copy : List ℕ} {at left : ℕ} {failed : Bool} (t : Going platform memory₀ copy₀ memory copy at left failed) where
-  pub going_next : (m d : List ℕ) (error f : Bool) → 0 < left → standing m d error ≡ section_run platform at (standing memory copy false) → f ≡ (failed || error)
-      → Going platform memory₀ copy₀ m d (at + section_size) (left - 1) f
-  going_next m d error f more e g =
+  pub going_next : (m d : List ℕ) (error : Bool) (next rest : ℕ) → 0 < left → next ≡ at + section_size → rest ≡ left - 1
+      → standing m d error ≡ section_run platform at (standing memory copy false) → Going platform memory₀ copy₀ m d next rest (failed || error)
+  going_next m d error next rest more f g e =
       let sizes = section_sizes platform at (standing memory copy false) in
       let a : length m ≡ length memory = ap (λ (r : Running). length r.memory) e ∙ sizes.0 in
       let b : length d ≡ length copy = ap (λ (r : Running). length r.copy) e ∙ sizes.1 in
       record {
-        room = omega (arith, t.room, b);
+        room = omega (arith, t.room, b, f, g);
         long = a ∙ t.long;
         wide = b ∙ t.wide;
-        rest = rw g (ap (sections_run platform (left - 1) (at + section_size)) (sym (failed_before platform memory copy m d at failed error e)) ∙ sym (run_step platform left at (standing memory copy failed) more) ∙ t.rest);
+        rest = rw (f, g) (ap (sections_run platform (left - 1) (at + section_size)) (sym (failed_before platform memory copy m d at failed error e)) ∙ sym (run_step platform left at (standing memory copy failed) more) ∙ t.rest);
       }
 
   pub going_end : (flags : ℕ) (after : List ℕ) → left ≤ 0 → flags ≡ 32_768 + cond failed 8192 0 → after ≡ sets copy 6 (be_bytes 2 flags)
@@ -135,31 +129,35 @@ good_room copy len good =
     (omega arith, b.1)
 
 module _ (platform memory : List ℕ) (r : Registration) where
-  pub run_refused : (x : Configured) (v : Verdict) → is_done v ≡ false → run_verdict r ≡ v → (x.next ≡ r) × (x.verdict ≡ v) → leaves_run memory x ≡ run_of platform memory r
+  pub run_kept : is_ok (run_verdict r) ≡ false → run_of platform memory r ≡ record { memory = memory; next = r; verdict = run_verdict r }
   unfolding run_of
-  run_refused x v d e k = rw (k.0, k.1, e, d)
+  run_kept e = rw e
 
-  pub run_done : run_verdict r ≡ Done → run_of platform memory r ≡ record {
+  pub run_refused : (e : Refusal) → run_verdict r ≡ Err e → leaves_run memory r (Err e) ≡ run_of platform memory r
+  unfolding run_of
+  run_refused e v = rw v
+
+  pub run_done : run_verdict r ≡ Ok tt → run_of platform memory r ≡ record {
     memory = (structure_run platform memory r.copy).memory;
     next = record { phase = Active; len = r.len; copy = (structure_run platform memory r.copy).copy };
-    verdict = Done;
+    verdict = Ok tt;
   }
   unfolding run_of
   run_done e = rw e
 
 module _ (r : Registration) where
-  pub verdict_active : r.phase ≡ Active → run_verdict r ≡ DumpActive
+  pub verdict_active : r.phase ≡ Active → run_verdict r ≡ Err DumpActive
   unfolding run_verdict
   verdict_active p = rw p
 
-  pub verdict_none : r.phase ≡ Unregistered → run_verdict r ≡ Parameter
+  pub verdict_none : r.phase ≡ Unregistered → run_verdict r ≡ Err Parameter
   unfolding run_verdict
   verdict_none p = rw p
 
-  pub verdict_good : r.phase ≡ Registered → good_copy r.copy r.len ≡ true → run_verdict r ≡ Done
+  pub verdict_good : r.phase ≡ Registered → good_copy r.copy r.len ≡ true → run_verdict r ≡ Ok tt
   unfolding run_verdict
   verdict_good p g = rw (p, g)
 
-  pub verdict_bad : r.phase ≡ Registered → good_copy r.copy r.len ≡ false → run_verdict r ≡ Parameter
+  pub verdict_bad : r.phase ≡ Registered → good_copy r.copy r.len ≡ false → run_verdict r ≡ Err Parameter
   unfolding run_verdict
   verdict_bad p g = rw (p, g)

@@ -1,15 +1,15 @@
 -- Running a registered dump (document 02, M-104).
-use Rattle.std.specs.Prelude.{ℕ, zero, suc, ◌+◌, Bool, false, cond, not, ◌&&◌, ◌||◌, List, leb, eqb, length, take, drop}
+use Rattle.std.specs.Prelude.{ℕ, zero, suc, ◌+◌, Bool, false, cond, not, ◌&&◌, ◌||◌, List, leb, eqb, length, take, drop, Result, Ok, Err, is_ok}
+use Rattle.std.specs.Result.{result_unwrap_or, result_map_both}
 use Rattle.std.proofs.lemmas.List.Edits.{sets}
 use Rattle.words.specs.Numbers.{be_bytes}
 use Rattle.dump.specs.declared.registration.Registration.{Registration}
 use Rattle.dump.specs.declared.registration.Phase.TheVariants.{Active}
-use Rattle.dump.specs.declared.registration.Verdict.{Verdict}
-use Rattle.dump.specs.declared.registration.Verdict.TheVariants.{Done, Parameter, DumpActive}
-use Rattle.dump.specs.declared.registration.Configured.{Configured}
+use Rattle.dump.specs.declared.registration.Refusal.{Refusal}
+use Rattle.dump.specs.declared.registration.Refusal.TheVariants.{Parameter, DumpActive}
 use Rattle.dump.specs.Structure.{section_size, sections, first_section, request_flags, section_type, section_source, section_requested, section_destination}
 use Rattle.dump.specs.Structure.{good_structure}
-use Rattle.dump.specs.Registration.{copy_size, is_registered, is_active, is_done}
+use Rattle.dump.specs.Registration.{Verdict, copy_size, is_registered, is_active}
 use Rattle.dumping.specs.declared.section.Section.{Section}
 use Rattle.dumping.specs.Section.{error_flags, actual_length}
 
@@ -81,7 +81,7 @@ good_copy copy len = leb len copy_size && good_structure (take len copy)
 
 -- "Refusals: -10 when active, -3 when nothing is registered or the copy isn't a good structure."
 unfoldable pub run_verdict : Registration → Verdict
-run_verdict r = cond (is_active r.phase) DumpActive (cond (is_registered r.phase && good_copy r.copy r.len) Done Parameter)
+run_verdict r = cond (is_active r.phase) (Err DumpActive) (cond (is_registered r.phase && good_copy r.copy r.len) (Ok tt) (Err Parameter))
 
 -- All that a run leaves: partition memory, the next registration, and what came of it. Platform memory is only read.
 pub record Run : Type 0 where
@@ -89,14 +89,15 @@ pub record Run : Type 0 where
   pub next : Registration
   pub verdict : Verdict
 
-abbrev pub leaves_run : List ℕ → Configured → Run
-leaves_run memory x = record { memory = memory; next = x.next; verdict = x.verdict }
+-- where it is refused, the registration that came stays
+abbrev pub leaves_run : List ℕ → Registration → Result Registration Refusal → Run
+leaves_run memory r x = record { memory = memory; next = result_unwrap_or x r; verdict = result_map_both (λ _. tt) (λ e. e) x }
 
 -- "and the registration becomes active. Nothing else changes"
 unfoldable pub run_of : List ℕ → List ℕ → Registration → Run
 run_of platform memory r =
     let ran = structure_run platform memory r.copy in
     let v = run_verdict r in
-    cond (is_done v)
+    cond (is_ok v)
     (record { memory = ran.memory; next = record { phase = Active; len = r.len; copy = ran.copy }; verdict = v })
     (record { memory = memory; next = r; verdict = v })

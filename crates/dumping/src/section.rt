@@ -1,5 +1,5 @@
 // What a section copies, and its error flags, by numbers alone.
-ghost use Rattle.std.specs.Prelude.{◌≡◌, cond, ◌+◌, ◌-◌, min, ltb};
+ghost use Rattle.std.specs.Prelude.{◌≡◌, ◌+◌, ltb};
 ghost use Rattle.dumping.specs.Section.{has, error_flags, actual_length};
 ghost use Rattle.dumping.specs.Claims.Dumping.{SectionClaims};
 
@@ -13,61 +13,30 @@ pub struct Section {
     pub destination: u64,
 }
 
-fn least(a: u64, b: u64) -> u64
-    ensures { result ≡ min a b }
-{
-    if a < b {
-        return a;
-    }
-    b
-}
-
-// What is left from a place on; nothing past the end.
-fn left_from(end: u64, place: u64) -> u64
-    ensures { result ≡ end - place }
-{
-    if end < place {
-        return 0;
-    }
-    end - place
-}
-
-// A flag where a test is passed.
-fn flag_if(test: bool, flag: u16) -> u16
-    ensures { result ≡ cond test flag 0 }
-{
-    if test {
-        return flag;
-    }
-    0
-}
-
 // Whether start plus length passes the end. The sum itself may pass 2^64 - 1.
 fn is_past(end: u64, start: u64, requested: u64) -> bool
     ensures { result ≡ ltb end (start + requested) }
 {
-    if end < start {
-        return true;
+    match start.checked_add(requested) {
+        Some(to) => end < to,
+        None => true,
     }
-    end - start < requested
 }
 
 // The bytes that a source has of those requested.
 fn bytes_in(source: u64, section: Section) -> u64
     ensures { result ≡ has source section }
 {
-    least(section.requested, left_from(source, section.start))
+    section.requested.min(source.saturating_sub(section.start))
 }
 
 // How many bytes are copied, from a source of so many bytes to a memory of so many.
+#[tactic(auto, using(crate::proofs::Claims::section_claims), unfolding(crate::specs::Section::actual_length))]
 pub fn actual_length(source: u64, memory: u64, section: Section) -> u64
     ensures value { result ≡ actual_length source memory section }
     ensures claims { SectionClaims }
 {
-    least(
-        bytes_in(source, section),
-        left_from(memory, section.destination),
-    )
+    bytes_in(source, section).min(memory.saturating_sub(section.destination))
 }
 
 // Each flag where it applies, independently of the others.
@@ -75,9 +44,9 @@ pub fn error_flags(source: u64, memory: u64, section: Section) -> u16
     ensures value { result ≡ error_flags source memory section }
     ensures claims { SectionClaims }
 {
-    let start = flag_if(source <= section.start, 16_384);
-    let length = flag_if(is_past(source, section.start, section.requested), 8192);
-    let destination = flag_if(memory <= section.destination, 4096);
-    let small = left_from(memory, section.destination) < bytes_in(source, section);
-    start + length + destination + flag_if(small, 2048)
+    let is_small = memory.saturating_sub(section.destination) < bytes_in(source, section);
+    16_384 * u16::from(source <= section.start)
+        + 8192 * u16::from(is_past(source, section.start, section.requested))
+        + 4096 * u16::from(memory <= section.destination)
+        + 2048 * u16::from(is_small)
 }

@@ -7,7 +7,7 @@ ghost use Rattle.calls.specs.Claims.Calls.{CallClaims};
 use crate::dump_call::configure_kernel_dump;
 use crate::properties_call::update_properties;
 use crate::work::Work;
-use calls::{Number, ReadingRecord, Request, Status, is_given, status_word};
+use calls::{Number, ReadingRecord, Request, Status, is_given};
 use dump::Registration;
 use inventory::{Edition, StartingNumber};
 use node_calls::update_nodes;
@@ -99,7 +99,7 @@ fn list_indices(
     let status = listed.status;
     let next = listed.next;
     let reading = index_calls::record_after(status, request, next, edition, reading);
-    if status_word(status) <= 1 {
+    if u32::from(status) <= 1 {
         next.store(args, 36);
     }
     Indexed { status, reading }
@@ -205,7 +205,7 @@ pub fn call_step(
     let status = work.status;
     let registration = work.registration;
     let reading = work.reading;
-    words::store_be32(args, 12 + 4 * inputs, status_word(status));
+    words::store_be32(args, 12 + 4 * inputs, u32::from(status));
     let answer = Answer {
         number,
         registration,

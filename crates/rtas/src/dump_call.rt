@@ -1,27 +1,16 @@
 // configure-kernel-dump on partition memory, which is only read.
 ghost use Rattle.std.specs.Prelude.{◌≡◌};
 ghost use Rattle.dump.specs.Registration.{registration_after};
-ghost use Rattle.calls.specs.ConfigureDump.{verdict_status, dump_status};
+ghost use Rattle.calls.specs.ConfigureDump.{dump_status};
 
 use calls::Status;
-use dump::{Registration, Verdict};
+use dump::Registration;
 
 // What a command gives: its status, and the registration afterwards.
 #[derive(Clone, Copy)]
 pub struct Configured {
     pub status: Status,
     pub registration: Registration,
-}
-
-fn verdict_status(verdict: Verdict) -> Status
-    ensures { result ≡ verdict_status verdict }
-{
-    match verdict {
-        Verdict::Done => Status::Done,
-        Verdict::Parameter => Status::Parameter,
-        Verdict::AlreadyRegistered => Status::AlreadyRegistered,
-        Verdict::DumpActive => Status::DumpActive,
-    }
 }
 
 // The call: the registration is the one thing that it changes.
@@ -35,11 +24,14 @@ pub fn configure_kernel_dump(
     ensures { (result.status ≡ dump_status memory.now command address len registration) ×
         (result.registration ≡ registration_after memory.now command address len registration) }
 {
-    let configured = registration.configure(memory, command, address, len);
-    let verdict = configured.verdict;
-    let next = configured.next;
-    Configured {
-        status: verdict_status(verdict),
-        registration: next,
+    match registration.configure(memory, command, address, len) {
+        Ok(next) => Configured {
+            status: Status::Done,
+            registration: next,
+        },
+        Err(refusal) => Configured {
+            status: Status::from(refusal),
+            registration,
+        },
     }
 }

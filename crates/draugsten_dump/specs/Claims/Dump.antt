@@ -1,10 +1,10 @@
 -- What is claimed of a run at the C boundary, and of runs and calls together, cited by the contract of `draugsten_run_dump` (document 02, M-104).
-use Rattle.std.specs.Prelude.{ℕ, ◌≤◌, ◌<◌, ◌≡◌, true, List, [], ◌⊎◌, take}
+use Rattle.std.specs.Prelude.{ℕ, ◌≤◌, ◌<◌, ◌≡◌, true, List, [], ◌⊎◌, take, Ok, Err}
 use Rattle.words.specs.Claims.Exactly.{Exactly}
 use Rattle.words.specs.Numbers.{Bytes, be32}
 use Rattle.dump.specs.declared.registration.Phase.TheVariants.{Unregistered}
 use Rattle.dump.specs.declared.registration.Registration.{Registration}
-use Rattle.dump.specs.declared.registration.Verdict.TheVariants.{Done, DumpActive}
+use Rattle.dump.specs.declared.registration.Refusal.TheVariants.{DumpActive}
 use Rattle.dump.specs.Structure.{good_structure}
 use Rattle.calls.specs.Buffer.{Found, Left, call_of}
 use Rattle.calls.specs.Claims.Terms.{minus, Asks, HasStatus, status_of}
@@ -52,20 +52,20 @@ pub record CallAfterRun (f : Found) (x : Left) : Type 0 where
 
 abbrev pub RunThenCall : Type 0
 RunThenCall =
-    (platform memory : List ℕ) (r : Registration) → (run_of platform memory r).verdict ≡ Done
+    (platform memory : List ℕ) (r : Registration) → (run_of platform memory r).verdict ≡ Ok tt
     → (f : Found) → f.registration ≡ (run_of platform memory r).next → Asks 3 3 1 f.args → HasStatus (call_of f) → CallAfterRun f (call_of f)
 
 -- What command 1 registered can be run.
 abbrev pub CallThenRun : Type 0
 CallThenRun =
     (f : Found) → Asks 3 3 1 f.args → HasStatus (call_of f) → be32 f.args 12 ≡ 1 → status_of f.args (call_of f) ≡ 0
-    → (platform memory : List ℕ) → (run_of platform memory (call_of f).registration).verdict ≡ Done
+    → (platform memory : List ℕ) → (run_of platform memory (call_of f).registration).verdict ≡ Ok tt
 
 -- A dump is run once: until it is completed a second run gives -10.
 abbrev pub RunOnce : Type 0
 RunOnce =
-    (platform memory : List ℕ) (r : Registration) → (run_of platform memory r).verdict ≡ Done
-    → (p m : List ℕ) → (run_of p m (run_of platform memory r).next).verdict ≡ DumpActive
+    (platform memory : List ℕ) (r : Registration) → (run_of platform memory r).verdict ≡ Ok tt
+    → (p m : List ℕ) → (run_of p m (run_of platform memory r).next).verdict ≡ Err DumpActive
 
 -- what an answer's numbers stand for
 abbrev pub AnswerCrosses : Type 0

@@ -1,10 +1,10 @@
 -- What is claimed of the run of a dump, cited by the contract of `run_dump` (document 02, M-104).
-use Rattle.std.specs.Prelude.{ℕ, suc, ◌+◌, ◌*◌, ◌-◌, ◌<◌, ◌≤◌, min, ◌≡◌, true, List, ◌⊎◌, length, get_or, take}
+use Rattle.std.specs.Prelude.{ℕ, suc, ◌+◌, ◌*◌, ◌-◌, ◌<◌, ◌≤◌, min, ◌≡◌, true, List, ◌⊎◌, length, get_or, take, Ok, Err}
 use Rattle.words.specs.Claims.Exactly.{Exactly, Outside}
 use Rattle.words.specs.Numbers.{Bytes, be16, be32, be64}
 use Rattle.dump.specs.declared.registration.Phase.TheVariants.{Registered, Active}
 use Rattle.dump.specs.declared.registration.Registration.{Registration}
-use Rattle.dump.specs.declared.registration.Verdict.TheVariants.{Done, Parameter, DumpActive}
+use Rattle.dump.specs.declared.registration.Refusal.TheVariants.{Parameter, DumpActive}
 use Rattle.dump.specs.Structure.{good_structure}
 use Rattle.dumping.specs.declared.section.Section.{Section}
 use Rattle.dumping.specs.Running.{run_of}
@@ -98,14 +98,14 @@ pub record Ran (platform memory left copy after : List ℕ) : Type 0 where
 -- The verdict exactly when, and what a run leaves.
 pub record RunExactly (platform memory : List ℕ) (r : Registration) : Type 0 where
   -- "-10 when active"
-  pub active : Exactly ((run_of platform memory r).verdict ≡ DumpActive) (r.phase ≡ Active)
-  pub done : Exactly ((run_of platform memory r).verdict ≡ Done) ((r.phase ≡ Registered) × ((r.len ≤ 512) × (good_structure (take r.len r.copy) ≡ true)))
+  pub active : Exactly ((run_of platform memory r).verdict ≡ Err DumpActive) (r.phase ≡ Active)
+  pub done : Exactly ((run_of platform memory r).verdict ≡ Ok tt) ((r.phase ≡ Registered) × ((r.len ≤ 512) × (good_structure (take r.len r.copy) ≡ true)))
   -- "-3 when nothing is registered or the copy isn't a good structure"
-  pub otherwise : ((run_of platform memory r).verdict ≡ DumpActive → ⊥) → ((run_of platform memory r).verdict ≡ Done → ⊥)
-      → (run_of platform memory r).verdict ≡ Parameter
-  pub refused : ((run_of platform memory r).verdict ≡ Done → ⊥) → ((run_of platform memory r).memory ≡ memory) × ((run_of platform memory r).next ≡ r)
+  pub otherwise : ((run_of platform memory r).verdict ≡ Err DumpActive → ⊥) → ((run_of platform memory r).verdict ≡ Ok tt → ⊥)
+      → (run_of platform memory r).verdict ≡ Err Parameter
+  pub refused : ((run_of platform memory r).verdict ≡ Ok tt → ⊥) → ((run_of platform memory r).memory ≡ memory) × ((run_of platform memory r).next ≡ r)
   -- "and the registration becomes active"
-  pub becomes_active : (run_of platform memory r).verdict ≡ Done
+  pub becomes_active : (run_of platform memory r).verdict ≡ Ok tt
       → ((run_of platform memory r).next.phase ≡ Active) × ((run_of platform memory r).next.len ≡ r.len)
 
 abbrev pub EachVerdict : Type 0
@@ -113,7 +113,7 @@ EachVerdict = (platform memory : List ℕ) (r : Registration) → RunExactly pla
 
 abbrev pub EachSection : Type 0
 EachSection =
-    (platform memory : List ℕ) (r : Registration) → Bytes r.copy → (run_of platform memory r).verdict ≡ Done
+    (platform memory : List ℕ) (r : Registration) → Bytes r.copy → (run_of platform memory r).verdict ≡ Ok tt
     → Ran platform memory (run_of platform memory r).memory r.copy (run_of platform memory r).next.copy
 
 pub record RunClaims : Type 0 where

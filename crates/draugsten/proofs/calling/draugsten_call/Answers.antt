@@ -13,4 +13,4 @@ pub returns : goal.returns
 unfolding flat_call_of
 returns c =
     let is = sym c.is_registration.ensures ∙ c.if-not-is_registration.false in
-    rw (is, ← c.registration_of.ensures.value, ← c.reading_of.ensures.value, ← c.call_step-stepped.ensures.reading_after, c.number_of.ensures, c.flat_of.ensures, c.flat_reading_of.ensures) (record { reading_after = refl; promise = call_promise })
+    rw (is, ← c.registration_of.ensures.value, ← c.reading_of.ensures.value, ← c.call_step-stepped.ensures.reading_after, c.from.ensures, c.flat_of.ensures, c.flat_reading_of.ensures) (record { reading_after = refl; promise = call_promise })

@@ -5,4 +5,4 @@ use Rattle.draugsten_tallies.proofs.forecasting.draugsten_forecast.Goals as goal
 
 pub returns : goal.returns
 returns c =
-    record { status_value = rw (c.status_word.ensures, c.forecast_from-told.ensures.value, c.into.ensures) (refl, refl); promise = forecast_promise }
+    record { status_value = rw (c.from.ensures, c.forecast_from-told.ensures.value, c.into.ensures) (refl, refl); promise = forecast_promise }

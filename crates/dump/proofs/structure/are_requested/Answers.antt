@@ -1,24 +1,18 @@
-use mathlib.Core.Path.{refl, sym, ◌∙◌}
+-- `structure::are_requested` meets its contract.
+use mathlib.Core.Path.{◌∙◌, refl}
+use Prim.Native.Nat.{◌+◌, ◌*◌}
+use native.Mathlib.Omega.{arith}
 use borrow.Author.Rules.{rules}
-use borrow.Author.Tests.{eq-eqb, ne_eqb}
-use Rattle.dump.specs.Structure.{requested}
-use Rattle.dump.proofs.StructureLaws.{each_none, each_bad, each_good}
+use borrow.Author.Tests.{tests}
+use Rattle.std.proofs.lemmas.Iterator.{YieldsList-from_range}
+use Rattle.std.proofs.lemmas.Iterator.Search.{all_from_yields_List}
+use Rattle.dump.specs.Structure.{section_size, requested}
+use Rattle.dump.proofs.StructureLaws.{each_numbered}
 use Rattle.dump.proofs.structure.are_requested.Goals as goal
 
-pub loop-left-init : goal.loop-left-init
-loop-left-init c =
-    (search rules, refl)
-
-pub returns-then-read_be32-ne1 : goal.returns-then-read_be32-ne1
-unfolding requested
-returns-then-read_be32-ne1 c =
-    sym (c.loop-left.invariant.1 ∙ each_bad (requested c.args.s.now) c.loop-left.left c.loop-left.at c.loop-left-test.true (rw (← c.read_be32.ensures) (ne_eqb _ 1 c.if-read_be32-ne1.true)))
-
-pub loop-left-preserved : goal.loop-left-preserved
-unfolding requested
-loop-left-preserved c =
-    (search rules, c.loop-left.invariant.1 ∙ each_good (requested c.args.s.now) c.loop-left.left c.loop-left.at c.loop-left-test.true (rw (← c.read_be32.ensures) (eq-eqb _ 1 c.if-read_be32-ne1.false)))
-
 pub returns : goal.returns
+unfolding requested
 returns c =
-    sym (c.loop-left.invariant.1 ∙ each_none (requested c.args.s.now) c.loop-left.left c.loop-left.at c.loop-left-test.false)
+    let test = requested c.args.s.now in
+    all_from_yields_List (λ k. test (c.args.first + section_size * k)) _ _ _ c.all.ensures.ran (YieldsList-from_range 0 c.args.count c.args.count refl (omega arith)) (λ x b q k. search (rules, tests))
+    ∙ each_numbered test c.args.first c.args.count

@@ -1,5 +1,5 @@
 -- `running::copy_section` meets its contract.
-use mathlib.Core.Path.{◌≡◌, sym, ◌∙◌}
+use mathlib.Core.Path.{refl}
 use borrow.Author.Tests.{eq-eqb, ne_eqb}
 use Rattle.dumping.specs.Running.{source_of}
 use Rattle.dumping.proofs.Runs.{not_asked, asked}
@@ -11,18 +11,8 @@ returns-then-section-ne1 c =
     let t = not_asked a.platform.now a.memory.now a.section (ne_eqb _ 1 c.if-section-ne1.true) in
     record { errors_value = (t.flags, t.bytes); memory_after = t.left }
 
-pub returns-then-is_platform : goal.returns-then-is_platform
-unfolding source_of
-returns-then-is_platform c =
-    let a = c.args in
-    let source : source_of a.platform.now a.memory.now a.section ≡ a.platform.now = rw (sym c.is_platform.ensures ∙ c.if-is_platform.true) in
-    let t = asked a.platform.now a.memory.now a.section a.platform.now _ _ _ (eq-eqb _ 1 c.if-section-ne1.false) source c.load_section.ensures.errors_value.0 c.load_section.ensures.errors_value.1 c.load_section.ensures.memory_after in
-    record { errors_value = (t.flags, t.bytes); memory_after = t.left }
-
 pub returns : goal.returns
-unfolding source_of
 returns c =
     let a = c.args in
-    let source : source_of a.platform.now a.memory.now a.section ≡ a.memory.now = rw (sym c.is_platform.ensures ∙ c.if-is_platform.false) in
-    let t = asked a.platform.now a.memory.now a.section a.memory.now _ _ _ (eq-eqb _ 1 c.if-section-ne1.false) source c.move_section.ensures.errors_value.0 c.move_section.ensures.errors_value.1 c.move_section.ensures.memory_after in
+    let t = asked a.platform.now a.memory.now a.section (source_of a.platform.now a.memory.now a.section) _ _ _ (eq-eqb _ 1 c.if-section-ne1.false) refl (rw c.source_length-source.ensures at c.error_flags-errors.ensures.value) (rw c.source_length-source.ensures at c.actual_length-actual.ensures.value) c.store_section.ensures in
     record { errors_value = (t.flags, t.bytes); memory_after = t.left }

@@ -1,5 +1,5 @@
 -- `running::run_registered` meets its contract.
-use mathlib.Core.Path.{◌≡◌, refl, sym, ◌∙◌}
+use mathlib.Core.Path.{◌≡◌, sym, ◌∙◌}
 use mathlib.Core.Bool.{true}
 use Rattle.dumping.specs.Running.{good_copy}
 use Rattle.dumping.proofs.Runs.{good_room, run_refused, run_done, verdict_good, verdict_bad}
@@ -9,7 +9,7 @@ pub returns-then-not-is_good_copy : goal.returns-then-not-is_good_copy
 returns-then-not-is_good_copy c =
     let a = c.args in
     let bad = sym c.is_good_copy.ensures ∙ c.if-not-is_good_copy.true in
-    run_refused a.platform.now a.memory.now a.registration _ _ refl (verdict_bad a.registration c.requires bad) c.refused.ensures
+    run_refused a.platform.now a.memory.now a.registration _ (verdict_bad a.registration c.requires bad)
 
 pub run_structure-requires : goal.run_structure-requires
 run_structure-requires c =

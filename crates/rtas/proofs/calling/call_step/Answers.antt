@@ -57,4 +57,4 @@ returns c =
     given_number _ (sym c.is_given.ensures ∙ c.if-not-is_given.false) in
     let start = entry in
     let place : 12 + 4 * c.read_be32-inputs.result ≡ status_at start.args = omega (arith, c.read_be32-inputs.ensures) in
-    record { reading_after = call_leaves start _ _ _ _ _ _ _ _ _ (yes) (number_is) c.dispatch-work.ensures place c.status_word.ensures c.store_be32.ensures; claims = call_claims }
+    record { reading_after = call_leaves start _ _ _ _ _ _ _ _ _ (yes) (number_is) c.dispatch-work.ensures place c.from.ensures c.store_be32.ensures; claims = call_claims }
