@@ -64,7 +64,9 @@ pub fn four_headers(j: &[u8], at: usize, size: usize, header: u64) -> bool
     a == header && (b == header && (c == header && d == header))
 }
 
-// Past the records of a known header, four at a time, up to a limit.
+// Past the records of a known header, four at a time, up to a limit. It stands as a function of its own in the object code: within the scan the loop
+// has too few registers, and is slower.
+#[inline(never)]
 fn past_same(j: &[u8], row: &[u8; 17], units: Units, from: Mark, same: Same, limit: usize) -> Mark
     requires { Reached (asking row.now units) j.now from × Known (asking row.now units) j.now same × (limit ≤ length j.now) ×
         (length j.now ≤ size_limit) }
