@@ -2,11 +2,11 @@
 ghost use Rattle.std.specs.Prelude.{◌≡◌, ◌+◌, ◌-◌, ◌<◌, ◌≤◌, length, drop, MatchOption};
 ghost use Rattle.words.specs.Numbers.{be32, words};
 ghost use Rattle.node_area.specs.Head.{area_size, head_size};
-ghost use Rattle.node_area.specs.Reading.{refusal_number, fault_of, last_after, verdict, operations_at, single, read_by, reading, check_of};
+ghost use Rattle.node_area.specs.Reading.{refusal_number, opcode_in, count_in, fault_of, last_after, verdict, operations_at, single, read_by, reading, check_of};
 ghost use Rattle.node_area.specs.Inner.Terms.{operations_in};
 ghost use Rattle.node_area.specs.Claims.Reader.{NodeReaderExactly};
 ghost use Rattle.node_area.specs.Cases.Reading.{ReadingCases};
-ghost use Rattle.node_area.specs.Claims.Cursor.{step_at, next_of, StepsGive, start_of, EntriesInOrder};
+ghost use Rattle.node_area.specs.Claims.Cursor.{next_of, StepsGive, start_of, EntriesInOrder};
 
 use crate::head::{AREA_SIZE, HEAD_SIZE, is_reserved, reserved_from};
 use journal::Operation;
@@ -40,53 +40,70 @@ impl From<Refusal> for u32 {
     }
 }
 
-// The first fault of an operator, with `left` words behind it; `last` is the opcode of the last operator before it that has operands. One
-// with no operands has none.
-#[tactic(auto, using(std::proofs::lemmas::Bool::Decides::nat_tests), unfolding(crate::specs::Reading::fault_of))]
-fn fault_of(word: u32, last: u32, left: usize) -> Result<(), Refusal>
-    ensures { result ≡ fault_of word last left }
-{
-    let code = word / 0x0100_0000;
-    let count = word % 0x0100_0000;
-    if count == 0 {
-        return Ok(());
-    }
-    if code < 1 || 3 < code {
-        return Err(Refusal::Opcode);
-    }
-    if code == 3 && count % 2 == 1 {
-        return Err(Refusal::Odd);
-    }
-    if code < last {
-        return Err(Refusal::Order);
-    }
-    if left < count as usize {
-        return Err(Refusal::Past);
-    }
-    Ok(())
-}
+// The word of an operator: the opcode in the high byte, and the number of operand words in the low three.
+#[derive(Clone, Copy)]
+struct Operator(u32);
 
-// The opcode before the operator that follows this one, where `last` is the one before it. One with no operands does not count.
-#[tactic(auto, using(std::proofs::lemmas::Bool::Decides::nat_tests), unfolding(crate::specs::Reading::last_after))]
-fn last_after(last: u32, word: u32) -> u32
-    ensures { result ≡ last_after last word }
-{
-    if word % 0x0100_0000 == 0 {
-        return last;
+impl Operator {
+    fn code(self) -> u32
+        ensures { result ≡ opcode_in self.0 }
+    {
+        self.0 / 0x0100_0000
     }
-    word / 0x0100_0000
-}
 
-// How many operations an operator has.
-#[tactic(auto, using(std::proofs::lemmas::Bool::Decides::nat_tests))]
-fn operations_in(word: u32) -> usize
-    ensures { result ≡ operations_in word }
-{
-    let count = (word % 0x0100_0000) as usize;
-    if word / 0x0100_0000 == 3 {
-        return count / 2;
+    fn count(self) -> usize
+        ensures { result ≡ count_in self.0 }
+    {
+        (self.0 % 0x0100_0000) as usize
     }
-    count
+
+    // Its first fault, with `left` words behind it; `last` is the opcode of the last operator before it that has operands. One with no
+    // operands has none.
+    #[tactic(auto, using(std::proofs::lemmas::Bool::Decides::nat_tests), unfolding(crate::specs::Reading::fault_of))]
+    fn fault(self, last: u32, left: usize) -> Result<(), Refusal>
+        ensures { result ≡ fault_of self.0 last left }
+    {
+        let code = self.code();
+        let count = self.count();
+        if count == 0 {
+            return Ok(());
+        }
+        if code < 1 || 3 < code {
+            return Err(Refusal::Opcode);
+        }
+        if code == 3 && count % 2 == 1 {
+            return Err(Refusal::Odd);
+        }
+        if code < last {
+            return Err(Refusal::Order);
+        }
+        if left < count {
+            return Err(Refusal::Past);
+        }
+        Ok(())
+    }
+
+    // The opcode before the operator that follows this one, where `last` is the one before it. One with no operands does not count.
+    #[tactic(auto, using(std::proofs::lemmas::Bool::Decides::nat_tests), unfolding(crate::specs::Reading::last_after))]
+    fn last_after(self, last: u32) -> u32
+        ensures { result ≡ last_after last self.0 }
+    {
+        if self.count() == 0 {
+            return last;
+        }
+        self.code()
+    }
+
+    // How many operations it has.
+    #[tactic(auto, using(std::proofs::lemmas::Bool::Decides::nat_tests))]
+    fn operations(self) -> usize
+        ensures { result ≡ operations_in self.0 }
+    {
+        if self.code() == 3 {
+            return self.count() / 2;
+        }
+        self.count()
+    }
 }
 
 // The operators of an area, which begin behind its head.
@@ -104,14 +121,17 @@ fn check_operators(area: &[u8]) -> Result<usize, Refused<Refusal>>
         if word == 0 {
             return Ok(entries);
         }
+        let operator = Operator(word);
         let behind = at + 4;
-        fault_of(word, last, (AREA_SIZE - behind) / 4).map_err(|refusal| Refused {
-            refusal,
-            offset: at,
-        })?;
-        entries += operations_in(word);
-        last = last_after(last, word);
-        at = behind + 4 * (word % 0x0100_0000) as usize;
+        operator
+            .fault(last, (AREA_SIZE - behind) / 4)
+            .map_err(|refusal| Refused {
+                refusal,
+                offset: at,
+            })?;
+        entries += operator.operations();
+        last = operator.last_after(last);
+        at = behind + 4 * operator.count();
     }
     Err(Refused {
         refusal: Refusal::Unterminated,
@@ -158,30 +178,6 @@ fn word_at(area: &[u8], at: usize) -> Option<u32>
     Some(words::read_be32(area, at))
 }
 
-// The operation whose operands stand at a place, of an opcode with operand words left.
-#[tactic(auto, using(crate::proofs::Steps::steps))]
-fn operation_at(area: &[u8], at: usize, code: u32, left: usize) -> Option<(Operation, Cursor)>
-    requires { 0 < left }
-    ensures { result ≡ step_at (words (drop at area.now)) at code left }
-{
-    let first = word_at(area, at)?;
-    if code != 3 {
-        let behind = Cursor {
-            at: at + 4,
-            code,
-            left: left - 1,
-        };
-        return Some((single_of(code, first), behind));
-    }
-    let second = word_at(area, at + 4)?;
-    let behind = Cursor {
-        at: at + 8,
-        code,
-        left: left.saturating_sub(2),
-    };
-    Some((Operation::Add(first, second), behind))
-}
-
 // The operation of one operand word.
 #[tactic(auto, using(std::proofs::lemmas::Bool::Decides::nat_tests))]
 fn single_of(code: u32, word: u32) -> Operation
@@ -213,18 +209,43 @@ impl Cursor {
         ensures value { result ≡ next_of area.now self }
         ensures steps { StepsGive }
     {
-        let mut at = self.at;
-        let mut code = self.code;
-        let mut left = self.left;
-        while left == 0 {
-            let word = word_at(area, at)?;
+        let mut cursor = self;
+        while cursor.left == 0 {
+            let word = word_at(area, cursor.at)?;
             if word == 0 {
                 return None;
             }
-            code = word / 0x0100_0000;
-            left = (word % 0x0100_0000) as usize;
-            at += 4;
+            let operator = Operator(word);
+            cursor = Cursor {
+                at: cursor.at + 4,
+                code: operator.code(),
+                left: operator.count(),
+            };
         }
-        operation_at(area, at, code, left)
+        cursor.operation(area)
+    }
+
+    // The operation whose operands are to come, with the cursor behind them.
+    #[tactic(auto, using(crate::proofs::Steps::steps), unfolding(crate::specs::Claims::Cursor::next_of))]
+    fn operation(self, area: &[u8]) -> Option<(Operation, Cursor)>
+        requires { 0 < self.left }
+        ensures { result ≡ next_of area.now self }
+    {
+        let first = word_at(area, self.at)?;
+        if self.code != 3 {
+            let behind = Cursor {
+                at: self.at + 4,
+                left: self.left - 1,
+                ..self
+            };
+            return Some((single_of(self.code, first), behind));
+        }
+        let second = word_at(area, self.at + 4)?;
+        let behind = Cursor {
+            at: self.at + 8,
+            left: self.left.saturating_sub(2),
+            ..self
+        };
+        Some((Operation::Add(first, second), behind))
     }
 }

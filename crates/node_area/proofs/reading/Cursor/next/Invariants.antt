@@ -1,13 +1,12 @@
 -- `reading::Cursor::next` meets its contract.
 use mathlib.Core.Path.{◌≡◌}
 use Prim.Native.Nat.{◌-◌}
-use lib.ListN.{length, drop}
-use Rattle.node_area.specs.Claims.Cursor.{step_at}
-use Rattle.words.specs.Numbers.{words}
+use lib.ListN.{length}
+use Rattle.node_area.specs.Claims.Cursor.{next_of}
 use Rattle.node_area.proofs.reading.Cursor.next.Given as goal
 
-abbrev pub invariant-loop-left : goal.invariant-loop-left
-invariant-loop-left l = step_at (words (drop l.initial.at l.area)) l.initial.at l.initial.code l.initial.left ≡ step_at (words (drop l.at l.area)) l.at l.code l.left
+abbrev pub invariant-loop-cursor : goal.invariant-loop-cursor
+invariant-loop-cursor l = next_of l.area l.initial.cursor ≡ next_of l.area l.cursor
 
-abbrev pub decreases-loop-left : goal.decreases-loop-left
-decreases-loop-left l = length l.area - l.at
+abbrev pub decreases-loop-cursor : goal.decreases-loop-cursor
+decreases-loop-cursor l = length l.area - l.cursor.at
