@@ -5,6 +5,8 @@ use Prim.Native.Nat.{ℕ, zero, suc, ◌+◌, ◌*◌, ◌-◌, ◌<◌, ◌≤�
 use native.Mathlib.Nat.{zero-add, suc-add}
 use native.Mathlib.Numerals.{add-one}
 use native.Mathlib.Omega.{arith}
+use Rattle.std.specs.Prelude.{sum}
+use Rattle.std.proofs.lemmas.List.Sums.{sum_by-cons}
 use lib.ListN.{length, get_or, take, drop, replicate, set, length-append}
 use lib.Seq.{length-take-le, take-suc, get_or-drop, append_snoc, set_at}
 use Rattle.counting.specs.declared.counts.Counts.{Counts}
@@ -25,6 +27,13 @@ module _ (rows : List ℕ) (at : ℕ) where
   unfolding sum_of
   sum_most most h zero = omega arith
   sum_most most h (suc n) = omega (arith, rw (add-one n) at (sum_next n), h (at + n), sum_most most h n)
+
+-- the numbers of a part together
+pub sum_part : (n : ℕ) (ns : List ℕ) → sum (take n ns) ≡ sum_of n ns
+unfolding sum_of
+sum_part zero ns = refl
+sum_part (suc n) [] = refl
+sum_part (suc n) (m ∷ ns) = sum_by-cons (λ (x : ℕ). x) m (take n ns) ∙ ap (λ (k : ℕ). m + k) (sum_part n ns)
 
 -- the first rows, with zeros behind them, and a store in the place of the first zero
 pub rows_next : (rows : List ℕ) (i : ℕ) → length rows ≡ 28 → i < 28 → set (take i rows ++ replicate (35 - i) 0) i (get_or rows i 0) ≡ take (i + 1) rows ++ replicate (35 - (i + 1)) 0

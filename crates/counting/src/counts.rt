@@ -1,5 +1,5 @@
 // The counts of a trace, by token and status.
-ghost use Rattle.std.specs.Prelude.{◌≡◌, ◌<◌};
+ghost use Rattle.std.specs.Prelude.{◌≡◌, ◌<◌, SomeIff};
 ghost use Rattle.calls.specs.declared.status.Number.TheVariants as Number;
 ghost use Rattle.calls.specs.Buffer.{number_for};
 ghost use Rattle.counting.specs.Counts.{no_counts, place_of, counted_in, handed_out, counted};
@@ -33,29 +33,20 @@ pub fn no_counts() -> Counts
     }
 }
 
-// The place of a status word among the seven; 7 where it is none of them.
-fn place_of(status: u32) -> usize
-    ensures { result ≡ place_of status }
+// The place of a status word among the seven, if it is one of them.
+fn place_of(status: u32) -> Option<usize>
+    ensures { SomeIff result (place_of status < 7) (place_of status) }
 {
-    if status <= 1 {
-        return status as usize;
+    match status {
+        0 => Some(0),
+        1 => Some(1),
+        0xffff_ffff => Some(2),
+        0xffff_fffd => Some(3),
+        0xffff_fffc => Some(4),
+        0xffff_fff7 => Some(5),
+        0xffff_fff6 => Some(6),
+        _ => None,
     }
-    if status == 0xffff_ffff {
-        return 2;
-    }
-    if status == 0xffff_fffd {
-        return 3;
-    }
-    if status == 0xffff_fffc {
-        return 4;
-    }
-    if status == 0xffff_fff7 {
-        return 5;
-    }
-    if status == 0xffff_fff6 {
-        return 6;
-    }
-    7
 }
 
 // One call more in its row, with what it handed out.
@@ -77,16 +68,10 @@ fn handed_out(status: u32, args: &[u8], memory: &[u8]) -> Tally
     requires { number_for args.now ≡ Number.Given }
     ensures { result ≡ handed_out status args.now memory.now }
 {
-    if words::read_be32(args, 0) != 1 {
-        return no_tally();
-    }
-    if words::read_be32(args, 4) != 2 {
-        return no_tally();
-    }
-    if words::read_be32(args, 8) != 1 {
-        return no_tally();
-    }
-    if 1 < status {
+    let token = words::read_be32(args, 0);
+    let inputs = words::read_be32(args, 4);
+    let outputs = words::read_be32(args, 8);
+    if token != 1 || inputs != 2 || outputs != 1 || 1 < status {
         return no_tally();
     }
     tally_at(
@@ -108,14 +93,10 @@ pub fn count_call(counts: Counts, number: Number, args: &[u8], memory: &[u8]) ->
     let token = words::read_be32(args, 0);
     let at = 12 + 4 * (words::read_be32(args, 4) as usize);
     let status = words::read_be32(args, at);
-    let place = place_of(status);
-    if token < 1 {
+    let Some(place) = place_of(status) else {
         return counts;
-    }
-    if 4 < token {
-        return counts;
-    }
-    if 7 <= place {
+    };
+    if token < 1 || 4 < token {
         return counts;
     }
     let row = 7 * (token as usize - 1) + place;

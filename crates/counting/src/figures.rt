@@ -1,24 +1,17 @@
 // The figures of a trace: what is added up over traces.
-ghost use Rattle.std.specs.Prelude.{◌≡◌, ◌+◌, ◌≤◌, ◌++◌, drop, replicate};
-ghost use Rattle.counting.specs.Figures.{sum_of, figures_of};
+ghost use Rattle.std.specs.Prelude.{◌≡◌, ◌<◌, ◌^◌, ◌++◌, replicate, sum};
+ghost use Rattle.counting.specs.Figures.{figures_of};
 ghost use Rattle.counting.specs.Claims.Terms.{Within};
-ghost use Rattle.counting.specs.Inner.Terms.{AllWithin};
 
 use crate::counts::{Counts, ROWS};
 use totals::{FIGURES, Totals};
 
-// The calls of so many rows from a place on.
-fn calls_from(rows: [u64; ROWS], at: usize, n: usize) -> u64
-    requires { (at + n ≤ 28) × AllWithin 4_294_967_295 rows }
-    ensures { result ≡ sum_of n (drop at rows) }
+// The calls of rows together.
+fn calls_in(rows: &[u64]) -> u64
+    requires { sum rows.now < 2 ^ 64 }
+    ensures { result ≡ sum rows.now }
 {
-    let mut sum: u64 = 0;
-    let mut i: usize = 0;
-    while i < n {
-        sum += rows[at + i];
-        i += 1;
-    }
-    sum
+    rows.iter().sum()
 }
 
 // The rows, and places for the further figures.
@@ -26,10 +19,8 @@ fn rows_first(rows: [u64; ROWS]) -> [u64; FIGURES]
     ensures { result ≡ rows ++ replicate 7 0 }
 {
     let mut figures = [0u64; FIGURES];
-    let mut i: usize = 0;
-    while i < ROWS {
+    for i in 0..ROWS {
         figures[i] = rows[i];
-        i += 1;
     }
     figures
 }
@@ -41,12 +32,12 @@ pub fn figures_of(counts: Counts) -> Totals
 {
     let rows = counts.rows;
     let mut figures = rows_first(rows);
-    figures[28] = calls_from(rows, 0, 7);
-    figures[29] = calls_from(rows, 7, 7);
-    figures[30] = calls_from(rows, 14, 7);
-    figures[31] = calls_from(rows, 21, 7);
+    figures[28] = calls_in(&rows[..7]);
+    figures[29] = calls_in(&rows[7..14]);
+    figures[30] = calls_in(&rows[14..21]);
+    figures[31] = calls_in(&rows[21..]);
     figures[32] = counts.operations;
     figures[33] = counts.used;
-    figures[34] = 1019 * calls_from(rows, 0, 2);
+    figures[34] = 1019 * calls_in(&rows[..2]);
     Totals { figures }
 }

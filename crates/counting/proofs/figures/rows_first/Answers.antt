@@ -7,13 +7,13 @@ use Rattle.counting.proofs.figures.rows_first.Goals as goal
 
 pub loop-i-init : goal.loop-i-init
 loop-i-init c =
-    (search rules, refl)
+    refl
 
 pub loop-i-preserved : goal.loop-i-preserved
 loop-i-preserved c =
-    (search rules, rw c.loop-i.invariant.1 (rows_next c.args.rows c.loop-i.i (search rules) (search rules)))
+    rw c.loop-i.invariant (rows_next c.args.rows c.loop-i.i (search rules) (search rules))
 
 pub returns : goal.returns
 returns c =
-    let whole : c.loop-i.i ≡ 28 = omega (arith, c.loop-i.invariant.0) in
-    rw (whole, take_all 28 c.args.rows (search rules)) at c.loop-i.invariant.1
+    let whole : c.loop-i.i ≡ 28 = search rules in
+    rw (whole, take_all 28 c.args.rows (search rules)) at c.loop-i.invariant
