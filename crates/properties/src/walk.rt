@@ -17,6 +17,7 @@ pub struct Extent {
 }
 
 // What a value leaves behind it: the room of the area in which it ends, and whether an area ended in it at the state.
+// Kept: the room stands whether or not an area ended at the state, so no Option holds the two.
 #[derive(Clone, Copy)]
 pub struct Gone {
     pub room: usize,
