@@ -1,0 +1,25 @@
+use borrow.Author.Rules.{rules}
+use native.Mathlib.Omega.{arith}
+use Rattle.readers.proofs.NodeWords.{partly_first, partly_length, partly_all, singles_next}
+use Rattle.readers.proofs.reading_nodes.store_singles.Goals as goal
+
+pub loop-i-init : goal.loop-i-init
+loop-i-init c =
+    partly_first _ _ _ _ _ _ _ _
+
+pub store_words-requires : goal.store_words-requires
+store_words-requires c =
+    omega (arith, partly_length c.loop-i.invariant)
+
+pub loop-i-preserved : goal.loop-i-preserved
+loop-i-preserved c =
+    let code = c.requires.2 (omega arith) in
+    singles_next c.loop-i.invariant _ _ code.0 code.1 (search rules) c.requires.0 c.read_be32-operand.ensures c.store_words.ensures
+
+pub shape_of-out : goal.shape_of-out
+shape_of-out c =
+    partly_length c.loop-i.invariant
+
+pub returns : goal.returns
+returns c =
+    partly_all c.loop-i.invariant (search rules)
