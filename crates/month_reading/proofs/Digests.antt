@@ -7,10 +7,9 @@ use native.Mathlib.Numerals.{add-one}
 use native.Mathlib.Omega.{arith}
 use lib.Dec.{ltb}
 use lib.ListN.{length, take, drop, get_or, set, length-append, length-set}
-use lib.Seq.{take-suc, take_all, take-suc-set, get_or-drop, drop-drop}
+use lib.Seq.{take-suc, take_all, take-suc-set, get_or-drop, drop-drop, sets, length-sets}
 use Rattle.words.proofs.Choice.{choose}
-use Rattle.printing.specs.Put.{Fits, Put}
-use Rattle.printing.proofs.Puts.{put_length, put_none, put_then}
+use Rattle.words.proofs.Stores.{sets_append}
 use Rattle.month_table.specs.Table.{session_row}
 use Rattle.month_table.specs.Reading.{digit_value, bytes_in, digest_in, is_session}
 use Rattle.month_reading.specs.Inner.Terms.{digests_in}
@@ -97,17 +96,19 @@ digests_after_lem (suc n) t at e =
 
 -- The digests of k rows are stored.
 pub record Stored (l m t : List ℕ) (k : ℕ) : Type 0 where
-  pub put : Put l m 0 (32 * k) (digests_in k t)
+  pub same : m ≡ sets l 0 (digests_in k t)
 
 module _ {l m t : List ℕ} {k : ℕ} (p : Stored l m t k) where
-  pub stored_row : {n : List ℕ} {b : ℕ} → Put m n (32 * k) b (digest_in (drop (75 * k) t)) → Stored l n t (k + 1)
-  stored_row {n} q =
-      let end : 32 * (k + 1) ≡ 32 * k + length (digest_in (drop (75 * k) t)) = omega (arith, digest_whole (drop (75 * k) t)) in
-      let one : Put m n (32 * k) (32 * (k + 1)) (digest_in (drop (75 * k) t)) = record { place = end; stored = q.stored } in
-      record { put = rw (digests_after_lem k t (75 * k) refl) (put_then p.put one) }
+  pub stored_length : length m ≡ length l
+  stored_length = rw p.same (length-sets l 0 (digests_in k t))
 
-  pub stored_fits : (count : ℕ) → k < count → 32 * count ≤ length l → Fits m (32 * k) (digest_in (drop (75 * k) t))
-  stored_fits count h room = omega (arith, digest_whole (drop (75 * k) t), put_length p.put)
+  pub stored_row : {n : List ℕ} → n ≡ sets m (32 * k) (digest_in (drop (75 * k) t)) → Stored l n t (k + 1)
+  stored_row {n} q =
+      let place : 32 * k ≡ 0 + length (digests_in k t) = omega (arith, length_digests_in k t) in
+      record { same = q ∙ rw (p.same, place, digests_after_lem k t (75 * k) refl) (sym (sets_append l 0 (digests_in k t) (digest_in (drop (75 * k) t)))) }
+
+  pub stored_fits : (count : ℕ) → k < count → 32 * count ≤ length l → 32 * k + length (digest_in (drop (75 * k) t)) ≤ length m
+  stored_fits count h room = omega (arith, digest_whole (drop (75 * k) t), stored_length)
 
 pub stored_none : (l t : List ℕ) → Stored l l t 0
-stored_none l t = record { put = rw digests_none (put_none l 0) }
+stored_none l t = record { same = rw digests_none }

@@ -1,7 +1,7 @@
 -- What reading answers, in each case.
 use mathlib.Core.Path.{◌≡◌}
 use mathlib.Core.List.{List}
-use Prim.Native.Nat.{ℕ, ◌+◌, ◌*◌, ◌/◌, ◌≤◌, ◌<◌}
+use Prim.Native.Nat.{ℕ, ◌*◌, ◌/◌, ◌≤◌, ◌<◌}
 use native.Mathlib.Omega.{arith}
 use lib.ListN.{length, drop}
 use lib.Seq.{sets}
@@ -13,9 +13,9 @@ use Rattle.month_reading.specs.Answers.{no_table, read_of, digests_after}
 use Rattle.month_reading.specs.Inner.Terms.{count_of, digests_in, TableTaken}
 use Rattle.month_reading.proofs.Digests.{length_digests_in}
 
-pub count_label : (p : ℕ) (t : List ℕ) (k : ℕ) → k ≡ 0 + length (label p) → count_of (value_from 0 (drop k (line t))) ≡ count_of (count_in p t)
+pub count_label : (p : ℕ) (t : List ℕ) (k : ℕ) → k ≡ length (label p) → count_of (value_from 0 (drop k (line t))) ≡ count_of (count_in p t)
 unfolding count_in
-count_label p t k e = let here : k ≡ length (label p) = omega arith in rw here
+count_label p t k e = rw e
 
 module _ (t : List ℕ) (line : ℕ) (is_wrong : reading t ≡ wrong line) where
   pub wrong_answer : (room : ℕ) → no_table 61 line 0 ≡ read_of (reading t) room

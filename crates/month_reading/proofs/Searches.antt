@@ -1,18 +1,17 @@
 -- Searches byte by byte: whether a text begins with given bytes, where its first line ends, and what digits stand for.
 use mathlib.Core.Path.{◌≡◌, refl, sym, ap, ◌∙◌}
-use mathlib.Core.Bool.{Bool, true, false, cond, ◌&&◌}
+use mathlib.Core.Bool.{Bool, true, false, ◌&&◌}
 use mathlib.Core.List.{List, [], ◌∷◌}
 use Prim.Native.Nat.{ℕ, ◌+◌, ◌-◌, ◌*◌, ◌<◌, ◌≤◌}
 use native.Mathlib.Numerals.{add-one}
 use native.Mathlib.Omega.{arith}
-use lib.Dec.{eqb, ltb}
+use lib.Dec.{eqb}
 use lib.ListN.{length, take, drop, get_or, length-append, drop_of_length-le}
 use lib.Seq.{drop-cons}
-use borrow.Author.Tests.{lt-ltb, le-ltb, ltb-false}
-use Rattle.std.specs.Option.{unwrap_or}
-use Rattle.std.specs.List.{position_or_len}
+use borrow.Author.Tests.{eq-eqb, ne_eqb, lt-ltb, le-ltb}
 use Rattle.std.specs.Prelude.{Some, None}
 use Rattle.std.specs.Cmp.Lexicographic.{pointwise}
+use native.Mathlib.Nat.{add-zero}
 use Rattle.words.proofs.Choice.{decide}
 use Rattle.month_table.specs.Reading.{begins, line, value_from}
 use Rattle.month_reading.specs.Inner.Terms.{count_of}
@@ -49,16 +48,23 @@ line_front (b ∷ bs) = decide (eqb b 10) (λ e. rw e) (λ e. rw e (ap (λ (l : 
 pub line_part : (t : List ℕ) (k e : ℕ) → e ≡ length (line t) → k ≤ e → take (e - k) (drop k t) ≡ drop k (line t)
 line_part t k e q h = middle_part k e t h ∙ ap (drop k) (rw q (sym (line_front t)))
 
-pub line_is : (t : List ℕ) → position_or_len (λ b. eqb b 10) t ≡ length (line t)
-unfolding line
-line_is [] = refl
-line_is (b ∷ bs) = decide (eqb b 10) (λ e. rw e) (λ e. rw e (omega (arith, line_is bs)))
+-- There is no newline before byte i.
+pub record Lined (t : List ℕ) (i : ℕ) : Type 0 where
+  pub inside : i ≤ length t
+  pub same : length (line t) ≡ i + length (line (drop i t))
 
--- what std says of the newline that is found
-pub line_found : (t : List ℕ) → unwrap_or (cond (ltb (position_or_len (λ b. eqb b 10) t) (length t)) (Some (position_or_len (λ b. eqb b 10) t)) None) (length t) ≡ length (line t)
-line_found t = decide (ltb (position_or_len (λ b. eqb b 10) t) (length t))
-    (λ h. rw h (line_is t))
-    (λ h. rw h (omega (arith, ltb-false (position_or_len (λ b. eqb b 10) t) (length t) h, line_is t, line_within t)))
+module _ {t : List ℕ} {i : ℕ} (k : Lined t i) where
+  pub line_next : i < length t → (get_or t i 0 ≡ 10 → ⊥) → Lined t (i + 1)
+  unfolding line
+  line_next h e = record { inside = omega arith; same = k.same ∙ rw (drop-cons t i 0 h, ne_eqb (get_or t i 0) 10 e, add-one i) (omega arith) }
+
+  pub line_here : i < length t → get_or t i 0 ≡ 10 → i ≡ length (line t)
+  unfolding line
+  line_here h e = sym (k.same ∙ rw (drop-cons t i 0 h, eq-eqb (get_or t i 0) 10 e, add-zero i))
+
+  pub line_end : length t ≤ i → i ≡ length (line t)
+  unfolding line
+  line_end h = sym (k.same ∙ rw (drop_of_length-le t h, add-zero i))
 
 -- ---- a count
 

@@ -1,9 +1,11 @@
 // The rows that begin a text.
 ghost use Rattle.std.specs.Prelude.{◌≡◌, ◌+◌, ◌-◌, ◌*◌, ◌%◌, ◌<◌, ◌≤◌, length, drop, get_or};
+ghost use Rattle.month_table.specs.Table.{label};
 ghost use Rattle.month_table.specs.Reading.{line, value_from, digit_value, digest_in, is_session};
 ghost use Rattle.month_reading.specs.Inner.Terms.{count_of, row_in};
 
 use month_table::{put_label, put_row, put_session};
+use printing::Text;
 
 // A row that begins a text: its count and its length.
 #[derive(Clone, Copy)]
@@ -16,7 +18,13 @@ pub struct Row {
 fn line_length(text: &[u8]) -> usize
     ensures { result ≡ length (line text.now) }
 {
-    text.iter().position(|b| *b == b'\n').unwrap_or(text.len())
+    // Kept: `position` stands on a call that gives a pointer in a pair, a form that the modules of the archives may not have.
+    for i in 0..text.len() {
+        if text[i] == b'\n' {
+            return i;
+        }
+    }
+    text.len()
 }
 
 fn digit(b: u8) -> u64
@@ -47,17 +55,30 @@ fn count_after(text: &[u8], skip: usize) -> Option<u64>
     value_of(&text[skip..end])
 }
 
+fn label_length(p: usize) -> usize
+    requires { p < 39 }
+    ensures { result ≡ length (label p) }
+{
+    let mut room = [0u8; 64];
+    let mut label = Text::new(&mut room);
+    put_label(p, &mut label);
+    label.length
+}
+
 // Row p at the front of a text: made for the count that stands there, and compared.
 pub fn read_row(p: usize, text: &[u8]) -> Option<Row>
     requires { p < 39 }
     ensures { result ≡ row_in p text.now }
 {
+    let count = count_after(text, label_length(p))?;
     let mut room = [0u8; 64];
-    let skip = put_label(p, &mut room, 0);
-    let count = count_after(text, skip)?;
-    let length = put_row(p, count, &mut room, 0);
-    if text.starts_with(&room[..length]) {
-        return Some(Row { count, length });
+    let mut row = Text::new(&mut room);
+    put_row(p, count, &mut row);
+    if text.starts_with(row.bytes()) {
+        return Some(Row {
+            count,
+            length: row.length,
+        });
     }
     None
 }
@@ -100,6 +121,7 @@ pub fn is_session(text: &[u8]) -> bool
     }
     let digest = digest_in(text);
     let mut room = [0u8; 75];
-    let end = put_session(&digest, &mut room, 0);
-    text.starts_with(&room[..end])
+    let mut row = Text::new(&mut room);
+    put_session(&digest, &mut row);
+    text.starts_with(row.bytes())
 }

@@ -9,7 +9,6 @@ ghost use Rattle.month_reading.specs.Claims.Answers.{AnswerClaims};
 use crate::finding::digest_in;
 use crate::judging::judge;
 use month_table::{FIGURES, Table};
-use printing::put_bytes;
 
 // What reading gives: 0, the number of sessions and the figures; 61 and the line that is not written so; or 60 and the number of sessions,
 // whose digests the buffer cannot hold.
@@ -42,7 +41,7 @@ fn store_digests(rows: &[u8], count: usize, digests: &mut [u8])
 {
     for k in 0..count {
         let digest = digest_in(&rows[75 * k..]);
-        put_bytes(&digest, digests, 32 * k);
+        words::store(digests, 32 * k, &digest);
     }
 }
 

@@ -9,6 +9,7 @@ use lib.ListN.{length, take, drop, get_or, length-append}
 use lib.Seq.{sets-eq, take_at, drop-drop, length-take-le}
 use borrow.Author.Tests.{leb-true}
 use Rattle.printing.specs.Text.{numbered, ended}
+use Rattle.printing.specs.declared.put.Text.{Text}
 use Rattle.printing.specs.Put.{Put}
 use Rattle.printing.proofs.Puts.{put_length}
 use Rattle.printing.proofs.Sizes.{length_ended}
@@ -17,16 +18,16 @@ use Rattle.month_table.proofs.Places.{each_below, below}
 use Rattle.month_table.proofs.Sessions.{length_sessions}
 
 -- what was put at the front of a buffer stands there
-pub put_front : {l m bytes : List ℕ} {r : ℕ} → Put l m 0 r bytes → length bytes ≤ length l → take r m ≡ bytes
-put_front {l} {m} {bytes} {r} p h =
-    rw (p.stored, sets-eq bytes l 0 (omega arith)) (take_at bytes (drop (0 + length bytes) l) r (omega (arith, p.place)))
+module _ {a b : Text} {bytes : List ℕ} (p : Put a b bytes) (e : a.length ≡ 0) (h : length bytes ≤ length a.buffer.now) where
+  pub put_front : take b.length b.buffer.now ≡ bytes
+  put_front =
+      rw (p.stored, e, sets-eq bytes a.buffer.now 0 (omega arith)) (take_at bytes (drop (0 + length bytes) a.buffer.now) b.length (omega (arith, p.place, e)))
 
-module _ {l m bytes : List ℕ} {r : ℕ} (p : Put l m 0 r bytes) (h : length bytes ≤ length l) where
-  pub put_inside : r ≤ length m
-  put_inside = omega (arith, p.place, put_length p)
+  pub put_inside : b.length ≤ length b.buffer.now
+  put_inside = omega (arith, p.place, e, put_length p)
 
-  pub put_count : r ≡ length (take r m)
-  put_count = sym (length-take-le r m put_inside)
+  pub put_count : b.length ≡ length (take b.length b.buffer.now)
+  put_count = sym (length-take-le b.length b.buffer.now put_inside)
 
 -- ---- rows
 
@@ -97,15 +98,16 @@ sessions_more : (n : ℕ) (ds : List ℕ) → session_rows (suc n) ds ≡ sessio
 unfolding session_rows
 sessions_more n ds = refl
 
-pub sessions_end : (ds : List ℕ) (from : ℕ) → length ds - from < 32 → session_rows ((length ds - from) / 32) (drop from ds) ≡ []
+pub sessions_end : (ds : List ℕ) → session_rows 0 ds ≡ []
 unfolding session_rows
-sessions_end ds from h = let none : (length ds - from) / 32 ≡ 0 = omega arith in rw none
+sessions_end ds = refl
 
-pub sessions_step : (ds : List ℕ) (from : ℕ) → 32 ≤ length ds - from
-    → session_rows ((length ds - from) / 32) (drop from ds) ≡ session_row (take 32 (drop from ds)) ++ session_rows ((length ds - (from + 32)) / 32) (drop (from + 32) ds)
-sessions_step ds from h =
-    let count : (length ds - from) / 32 ≡ suc ((length ds - (from + 32)) / 32) = omega arith in
-    rw (count, sessions_more ((length ds - (from + 32)) / 32) (drop from ds), drop-drop 32 from ds)
+pub sessions_step : (ds : List ℕ) (n k : ℕ) → k < n
+    → session_rows (n - k) (drop (32 * k) ds) ≡ session_row (take 32 (drop (32 * k) ds)) ++ session_rows (n - (k + 1)) (drop (32 * (k + 1)) ds)
+sessions_step ds n k h =
+    let count : n - k ≡ suc (n - (k + 1)) = omega arith in
+    let next : 32 * (k + 1) ≡ 32 * k + 32 = omega arith in
+    rw (count, next, sessions_more (n - (k + 1)) (drop (32 * k) ds), drop-drop 32 (32 * k) ds)
 
 -- ---- the whole text
 

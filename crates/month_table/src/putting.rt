@@ -1,11 +1,10 @@
 // Putting the rows of a table into a buffer.
-ghost use Rattle.std.specs.Prelude.{◌≡◌, ◌<◌, ◌≤◌, length};
-ghost use Rattle.std.proofs.Math.Seq.{slice};
+ghost use Rattle.std.specs.Prelude.{◌≡◌, ◌<◌};
 ghost use Rattle.printing.specs.Put.{Fits, Put};
 ghost use Rattle.month_table.specs.Table.{label, place, row, rows_from, session_row};
 ghost use Rattle.month_table.specs.Inner.Terms.{word};
 
-use printing::{put_bytes, put_ended, put_value_bytes};
+use printing::Text;
 
 // How many figures a table has: those of totals, then sessions added, refused and unread, and calls that agreed.
 pub const FIGURES: usize = 39;
@@ -16,54 +15,51 @@ pub struct Table {
     pub figures: [u64; FIGURES],
 }
 
-// Where each word of the labels begins, and the last ends.
-const STARTS: [usize; 16] = [0, 2, 4, 7, 10, 13, 16, 20, 24, 36, 42, 53, 68, 85, 101, 114];
-
-// The bytes from one place to another.
-fn put_part(bytes: &[u8], from: usize, to: usize, out: &mut [u8], at: usize) -> usize
-    requires from_le_to { (from ≤ to) × (to ≤ length bytes.now) }
-    requires fits { Fits out.old at (slice from to bytes.now) }
-    ensures { Put out.old out.new at result (slice from to bytes.now) }
-{
-    put_bytes(&bytes[from..to], out, at)
-}
-
 // The words of the statuses, then those of the last rows.
-fn put_word(k: usize, out: &mut [u8], at: usize) -> usize
-    requires k_bound { k < 15 }
-    requires fits { Fits out.old at (word k) }
-    ensures { Put out.old out.new at result (word k) }
+#[tactic(auto, unfolding(crate::specs::Inner::Terms::word, crate::specs::Table::status_word, crate::specs::Table::last_word))]
+fn word(k: usize) -> &'static [u8]
+    requires { k < 15 }
+    ensures { result.now ≡ word k }
 {
-    put_part(
-        b"0,1,-1,-3,-4,-9,-10,all,operations,,used,,available,,sessions,added,sessions,refused,sessions,unread,calls,agreed,",
-        STARTS[k],
-        STARTS[k + 1],
-        out,
-        at,
-    )
+    match k {
+        0 => b"0,",
+        1 => b"1,",
+        2 => b"-1,",
+        3 => b"-3,",
+        4 => b"-4,",
+        5 => b"-9,",
+        6 => b"-10,",
+        7 => b"all,",
+        8 => b"operations,,",
+        9 => b"used,,",
+        10 => b"available,,",
+        11 => b"sessions,added,",
+        12 => b"sessions,refused,",
+        13 => b"sessions,unread,",
+        _ => b"calls,agreed,",
+    }
 }
 
 // The row of a figure without its count.
-pub fn put_label(p: usize, out: &mut [u8], at: usize) -> usize
+pub fn put_label(p: usize, out: &mut Text)
     requires p_bound { p < 39 }
-    requires fits { Fits out.old at (label p) }
-    ensures { Put out.old out.new at result (label p) }
+    requires fits { Fits out.old (label p) }
+    ensures { Put out.old out.new (label p) }
 {
     if 32 <= p {
-        return put_word(p - 24, out, at);
+        return out.push(word(p - 24));
     }
-    let token = [b'1' + (p / 8) as u8, b','];
-    let to = put_bytes(&token, out, at);
-    put_word(p % 8, out, to)
+    out.push(&[b'1' + (p / 8) as u8, b',']);
+    out.push(word(p % 8));
 }
 
-pub fn put_row(p: usize, v: u64, out: &mut [u8], at: usize) -> usize
+pub fn put_row(p: usize, v: u64, out: &mut Text)
     requires p_bound { p < 39 }
-    requires fits { Fits out.old at (row p v) }
-    ensures { Put out.old out.new at result (row p v) }
+    requires fits { Fits out.old (row p v) }
+    ensures { Put out.old out.new (row p v) }
 {
-    let to = put_label(p, out, at);
-    put_ended(b"", v, out, to)
+    put_label(p, out);
+    out.push_ended(b"", v);
 }
 
 // Where the figure of a row stands.
@@ -79,26 +75,21 @@ pub fn place_of(p: usize) -> usize
     7 * (p / 8) + p % 8
 }
 
-pub fn put_rows(figures: [u64; FIGURES], out: &mut [u8], at: usize) -> usize
-    requires { Fits out.old at (rows_from 39 0 figures) }
-    ensures { Put out.old out.new at result (rows_from 39 0 figures) }
+pub fn put_rows(figures: [u64; FIGURES], out: &mut Text)
+    requires { Fits out.old (rows_from 39 0 figures) }
+    ensures { Put out.old out.new (rows_from 39 0 figures) }
 {
-    let mut to = at;
-    let mut p: usize = 0;
-    while p < FIGURES {
-        let place = place_of(p);
-        to = put_row(p, figures[place], out, to);
-        p += 1;
+    for p in 0..FIGURES {
+        put_row(p, figures[place_of(p)], out);
     }
-    to
 }
 
 // `session,DIGEST,1`
-pub fn put_session(digest: &[u8], out: &mut [u8], at: usize) -> usize
-    requires { Fits out.old at (session_row digest.now) }
-    ensures { Put out.old out.new at result (session_row digest.now) }
+pub fn put_session(digest: &[u8], out: &mut Text)
+    requires { Fits out.old (session_row digest.now) }
+    ensures { Put out.old out.new (session_row digest.now) }
 {
-    let word = put_bytes(b"session,", out, at);
-    let digits = put_value_bytes(digest, out, word);
-    put_bytes(b",1\n", out, digits)
+    out.push(b"session,");
+    out.push_value(digest);
+    out.push(b",1\n");
 }

@@ -1,11 +1,11 @@
 // The text of a table in a buffer that is lent.
-ghost use Rattle.std.specs.Prelude.{◌≡◌, ◌<◌, ◌/◌, length};
+ghost use Rattle.std.specs.Prelude.{◌≡◌, ◌+◌, ◌*◌, ◌/◌, ◌^◌, ◌<◌, length, SomeIff};
 ghost use Rattle.printing.specs.Put.{Fits, Put};
 ghost use Rattle.month_table.specs.Table.{row, rows_from, session_rows, text};
 ghost use Rattle.month_table.specs.Writing.{written_to, buffer_after};
 
 use crate::putting::{FIGURES, Table, place_of, put_row, put_rows, put_session};
-use printing::put_bytes;
+use printing::Text;
 
 // What writing gives: 0 and the length of the text, or the number of the refusal; 60 gives the length that is needed.
 #[repr(C)]
@@ -20,44 +20,47 @@ fn row_length(p: usize, v: u64) -> usize
     ensures { result ≡ length (row p v) }
 {
     let mut room = [0u8; 64];
-    put_row(p, v, &mut room, 0)
+    let mut row = Text::new(&mut room);
+    put_row(p, v, &mut row);
+    row.length
 }
 
 fn rows_length(figures: [u64; FIGURES]) -> usize
     ensures { result ≡ length (rows_from 39 0 figures) }
 {
     let mut length: usize = 0;
-    let mut p: usize = 0;
-    while p < FIGURES {
-        let place = place_of(p);
-        length += row_length(p, figures[place]);
-        p += 1;
+    for p in 0..FIGURES {
+        length += row_length(p, figures[place_of(p)]);
     }
     length
 }
 
 // A row for each whole digest.
-fn put_sessions(digests: &[u8], out: &mut [u8], at: usize) -> usize
-    requires { Fits out.old at (session_rows (length digests.now / 32) digests.now) }
-    ensures { Put out.old out.new at result (session_rows (length digests.now / 32) digests.now) }
+fn put_sessions(digests: &[u8], out: &mut Text)
+    requires { Fits out.old (session_rows (length digests.now / 32) digests.now) }
+    ensures { Put out.old out.new (session_rows (length digests.now / 32) digests.now) }
 {
-    let mut from: usize = 0;
-    let mut to = at;
-    while 32 <= digests.len() - from {
-        let end = from + 32;
-        to = put_session(&digests[from..end], out, to);
-        from = end;
+    for k in 0..digests.len() / 32 {
+        put_session(&digests[32 * k..32 * k + 32], out);
     }
-    to
 }
 
-fn put_text(figures: [u64; FIGURES], digests: &[u8], out: &mut [u8]) -> usize
-    requires { Fits out.old 0 (text figures digests.now) }
-    ensures { Put out.old out.new 0 result (text figures digests.now) }
+fn put_text(figures: [u64; FIGURES], digests: &[u8], out: &mut Text)
+    requires { Fits out.old (text figures digests.now) }
+    ensures { Put out.old out.new (text figures digests.now) }
 {
-    let first = put_bytes(b"token,status,count\n", out, 0);
-    let last = put_rows(figures, out, first);
-    put_sessions(digests, out, last)
+    out.push(b"token,status,count\n");
+    put_rows(figures, out);
+    put_sessions(digests, out);
+}
+
+// The length of the text of so many sessions, if it is below 2^64.
+fn text_length(figures: [u64; FIGURES], sessions: usize) -> Option<usize>
+    ensures { SomeIff result (19 + length (rows_from 39 0 figures) + 75 * sessions < 2 ^ 64) (19 + length (rows_from 39 0 figures) + 75 * sessions) }
+{
+    sessions
+        .checked_mul(75)?
+        .checked_add(19 + rows_length(figures))
 }
 
 // Writes the text of a table and of the digests of its sessions, 32 bytes each.
@@ -72,20 +75,19 @@ pub fn write_table(table: Table, digests: &[u8], out: &mut [u8]) -> Written
         };
     }
     let figures = table.figures;
-    let sessions = digests.len() / 32;
-    let rows = 19 + rows_length(figures);
-    if (0xffff_ffff_ffff_ffff - rows) / 75 < sessions {
+    let Some(length) = text_length(figures, digests.len() / 32) else {
         return Written {
             number: 60,
-            length: 18446744073709551615,
+            length: usize::MAX,
         };
-    }
-    let length = rows + 75 * sessions;
+    };
     if out.len() < length {
         return Written { number: 60, length };
     }
+    let mut text = Text::new(out);
+    put_text(figures, digests, &mut text);
     Written {
         number: 0,
-        length: put_text(figures, digests, out),
+        length: text.length,
     }
 }

@@ -16,6 +16,7 @@ use Rattle.indices.specs.declared.reading.Next.TheVariants.{Found, End}
 use Rattle.indices.specs.Reading.{length_at, field_at}
 use Rattle.indices.specs.Cursor.{entry_in, remaining, next_of}
 use Rattle.indices.proofs.IndexLaws.{steps_give}
+use Rattle.printing.specs.declared.put.Text.{Text}
 use Rattle.printing.specs.Put.{Put}
 use Rattle.printing.specs.Text.{space, named}
 use Rattle.print_indices.specs.Text.{line, lines}
@@ -78,6 +79,6 @@ module _ (area : List ℕ) (s : Set) where
   pub code_fits : {room : ℕ} (at : ℕ) → at + length (named space (entry_in area s).code) ≤ room → at + length (named space cut_out) ≤ room
   code_fits {room} at h = subst (λ (code : List ℕ). at + length (named space code) ≤ room) (sym same) h
 
-  pub code_put : {before after : List ℕ} {at end : ℕ} → Put before after at end (named space cut_out)
-      → Put before after at end (named space (entry_in area s).code)
-  code_put {before} {after} {at} {end} h = subst (λ (code : List ℕ). Put before after at end (named space code)) same h
+  pub code_put : {before after : Text} → Put before after (named space cut_out)
+      → Put before after (named space (entry_in area s).code)
+  code_put {before} {after} h = subst (λ (code : List ℕ). Put before after (named space code)) same h

@@ -17,7 +17,6 @@ use Rattle.indices.specs.Reading.{length_at, entry_at, reading, refusal_number, 
 use Rattle.indices.specs.Cursor.{entries_from, remaining, start_of}
 use Rattle.indices.proofs.IndexLaws.{entries_in_order}
 use Rattle.indices.proofs.ReaderClaims.{index_reader_exactly}
-use Rattle.printing.specs.Put.{Fits}
 use Rattle.printing.specs.Text.{space, end-, numbered, ended, operand, refusal_line}
 use Rattle.printing.proofs.Bytes.{length_named}
 use Rattle.printing.proofs.Digits.{digits_exactly}
@@ -86,10 +85,10 @@ module _ (input : List ℕ) where
       let start = start_of input in
       rw (← (entries_in_order input es e)) (omega (arith, length-lines start.left input start.at))
 
-  pub text_fits : (out : List ℕ) → 4 * length input + 53 ≤ length out → Fits out 0 (text input)
+  pub text_fits : (out : List ℕ) → 4 * length input + 53 ≤ length out → length (text input) ≤ length out
   text_fits out room = go (reading input) refl
     where
-      go : (r : Reading Entry Refusal) → reading input ≡ r → Fits out 0 (text input)
+      go : (r : Reading Entry Refusal) → reading input ≡ r → length (text input) ≤ length out
       go (read es) g =
           let last = ended end- (length es) in
           rw (text_read es g) (omega (arith, lines_fit es g, length-append (lines es) last, length_ended end- (length es)))
@@ -105,10 +104,10 @@ module _ (input : List ℕ) where
   unfolding printed
   printed_none h = rw (lt-leb (length input) input_limit h)
 
-  printed_fits : (out : List ℕ) → length out ≡ 4_194_400 → Fits out 0 (printed input)
+  printed_fits : (out : List ℕ) → length out ≡ 4_194_400 → length (printed input) ≤ length out
   unfolding printed
   printed_fits out room =
-      choose (leb (length input) input_limit) (λ (t : List ℕ). Fits out 0 t)
+      choose (leb (length input) input_limit) (λ (t : List ℕ). length t ≤ length out)
       (λ e. text_fits out (omega (arith, leb-true (length input) input_limit e)))
       (λ _. omega arith)
 

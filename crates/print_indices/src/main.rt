@@ -6,7 +6,6 @@ ghost use Rattle.std.specs.Prelude.{◌≡◌, length};
 
 mod text;
 
-use printing::Input;
 use text::INPUT_LIMIT;
 
 // One byte more than the longest input whose text is printed.
@@ -25,8 +24,7 @@ fn text_buffer() -> [u8; 4_194_400]
 
 fn main(rt: HostRuntime) {
     let mut input = input_buffer();
-    let found = printing::read_input(rt, b"print_indices", &mut input);
-    let Input::Bytes(n) = found else {
+    let Some(n) = printing::read_input(rt, b"print_indices", &mut input) else {
         return;
     };
     if INPUT_LIMIT < n {

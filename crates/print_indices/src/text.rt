@@ -9,38 +9,34 @@ ghost use Rattle.print_indices.specs.Text.{line, lines, text, printed};
 ghost use Rattle.print_indices.specs.Claims.PrintIndices.{PrintIndicesPromise};
 
 use indices::{Check, Cursor, Next, Refusal, Set};
-use printing::{put_bytes, put_ended, put_named, put_operand, put_refusal};
+use printing::Text;
 
 // The longest input whose text is printed.
 pub const INPUT_LIMIT: usize = 1_048_580;
 
-fn put_line(input: &[u8], s: Set, out: &mut [u8], at: usize) -> usize
+fn put_line(input: &[u8], s: Set, out: &mut Text)
     requires length_in_bounds { s.start + s.length ≤ length input.now }
-    requires fits { Fits out.old at (line (entry_in input.now s)) }
-    ensures { Put out.old out.new at result (line (entry_in input.now s)) }
+    requires fits { Fits out.old (line (entry_in input.now s)) }
+    ensures { Put out.old out.new (line (entry_in input.now s)) }
 {
     let from = s.start;
     let to = from + s.length;
-    let code = put_operand(b"index ", s.index, out, at);
-    let end = put_named(b" ", &input[from..to], out, code);
-    put_bytes(b"\n", out, end)
+    out.push_operand(b"index ", s.index);
+    out.push_named(b" ", &input[from..to]);
+    out.push(b"\n");
 }
 
 // A line for each entry of an area.
-fn put_lines(input: &[u8], out: &mut [u8], at: usize) -> usize
-    requires { Fits out.old at (lines (remaining input.now (start_of input.now))) }
-    ensures { Put out.old out.new at result (lines (remaining input.now (start_of input.now))) }
+fn put_lines(input: &[u8], out: &mut Text)
+    requires { Fits out.old (lines (remaining input.now (start_of input.now))) }
+    ensures { Put out.old out.new (lines (remaining input.now (start_of input.now))) }
 {
     let mut cursor = Cursor::start(input);
-    let mut to = at;
     loop {
-        let step = cursor.next(input);
-        match step {
-            Next::End => {
-                return to;
-            }
+        match cursor.next(input) {
+            Next::End => return,
             Next::Found(s, after) => {
-                to = put_line(input, s, out, to);
+                put_line(input, s, out);
                 cursor = after;
             }
         }
@@ -48,12 +44,13 @@ fn put_lines(input: &[u8], out: &mut [u8], at: usize) -> usize
 }
 
 // An area that has so many entries.
-fn put_area(input: &[u8], count: usize, out: &mut [u8]) -> usize
-    requires { (4 * length input.now + 53 ≤ length out.old) × (check_of (reading input.now) ≡ Entries count) }
-    ensures { Put out.old out.new 0 result (text input.now) }
+fn put_area(input: &[u8], count: usize, out: &mut Text)
+    requires fits { Fits out.old (text input.now) }
+    requires counted { check_of (reading input.now) ≡ Entries count }
+    ensures { Put out.old out.new (text input.now) }
 {
-    let last = put_lines(input, out, 0);
-    put_ended(b"end ", count as u64, out, last)
+    put_lines(input, out);
+    out.push_ended(b"end ", count as u64);
 }
 
 fn refusal_number(r: Refusal) -> u64
@@ -67,6 +64,18 @@ fn refusal_number(r: Refusal) -> u64
     }
 }
 
+// What is printed of an input that is not too long.
+fn put_text(input: &[u8], out: &mut Text)
+    requires { Fits out.old (text input.now) }
+    ensures { Put out.old out.new (text input.now) }
+{
+    let found = indices::check_area(input);
+    match found {
+        Check::Refused(reason, offset) => out.push_refusal(refusal_number(reason), offset),
+        Check::Entries(count) => put_area(input, count, out),
+    }
+}
+
 // Puts what is printed of an input at the front of a buffer and gives its length; the rest of the buffer stays.
 pub fn print_area(input: &[u8], out: &mut [u8; 4_194_400]) -> usize
     ensures value { result ≡ length (printed input.now) }
@@ -76,9 +85,7 @@ pub fn print_area(input: &[u8], out: &mut [u8; 4_194_400]) -> usize
     if INPUT_LIMIT < input.len() {
         return 0;
     }
-    let found = indices::check_area(input);
-    match found {
-        Check::Refused(reason, offset) => put_refusal(refusal_number(reason), offset, out),
-        Check::Entries(count) => put_area(input, count, out),
-    }
+    let mut text = Text::new(out);
+    put_text(input, &mut text);
+    text.length
 }

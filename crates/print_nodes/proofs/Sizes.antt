@@ -22,7 +22,6 @@ use Rattle.node_area.specs.Reading.{Verdict, good, bad, verdict, reading, read_b
 use Rattle.node_area.specs.Head.{area_size, head_size, state_in, unit_in, reserved_from, is_reserved}
 use Rattle.node_area.specs.Claims.Cursor.{remaining, start_of}
 use Rattle.node_area.proofs.Verdicts.{entries_in_order}
-use Rattle.printing.specs.Put.{Fits}
 use Rattle.printing.specs.Text.{hex_digits, newline, state-, delete-, end-, numbered, ended, operand, refusal_line}
 use Rattle.words.proofs.Claims.{numbers_exactly, zeros_exactly}
 use Rattle.node_area.proofs.ReaderClaims.{node_reader_exactly}
@@ -116,10 +115,10 @@ module _ (scope : ℕ) (input : List ℕ) where
       (λ _. omega (arith, length-append (unit- ++ hex_digits 16 (unit_in input)) newline, length-append unit- (hex_digits 16 (unit_in input)), length_hex_digits 16 (unit_in input)))
       (λ _. omega arith)
 
-  pub text_fits : (out : List ℕ) → 32_768 ≤ length out → Fits out 0 (text scope input)
+  pub text_fits : (out : List ℕ) → 32_768 ≤ length out → length (text scope input) ≤ length out
   text_fits out room = go (reading scope input) refl
     where
-      go : (r : Reading Operation Refusal) → reading scope input ≡ r → Fits out 0 (text scope input)
+      go : (r : Reading Operation Refusal) → reading scope input ≡ r → length (text scope input) ≤ length out
       go (read os) g =
           let first = ended state- (state_in input) in
           let unit = unit_line scope input in

@@ -5,13 +5,10 @@
 mod scope;
 mod text;
 
-use printing::Input;
-
 fn main(rt: HostRuntime) {
     let scope = scope::given(rt);
     let mut input = [0u8; 4097];
-    let found = printing::read_input(rt, b"print_nodes", &mut input);
-    let Input::Bytes(n) = found else {
+    let Some(n) = printing::read_input(rt, b"print_nodes", &mut input) else {
         return;
     };
     let mut out = [0u8; 32_768];

@@ -9,15 +9,11 @@ use std::rt::HostRuntime;
 const ASSUMED: u32 = 1;
 
 // The scope of an argument of so many bytes that begins with this one.
+#[tactic(auto, unfolding(crate::specs::Text::scope_of))]
 fn scope_of(n: usize, byte: u8) -> u32
     ensures { result ≡ scope_of n byte }
 {
-    if n == 1 {
-        if byte == b'3' {
-            return 3;
-        }
-    }
-    ASSUMED
+    if n == 1 && byte == b'3' { 3 } else { ASSUMED }
 }
 
 // One that is not there, or has more than one byte, counts as one of no bytes.
@@ -25,9 +21,6 @@ pub fn given(rt: HostRuntime) -> u32
     ensures { (result ≡ 1) ⊎ (result ≡ 3) }
 {
     let mut argument = [0u8; 1];
-    let n = match rt.arg(1, &mut argument) {
-        Ok(n) => n,
-        Err(_) => 0,
-    };
+    let n = rt.arg(1, &mut argument).unwrap_or(0);
     scope_of(n, argument[0])
 }

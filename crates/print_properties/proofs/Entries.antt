@@ -11,6 +11,7 @@ use Rattle.words.proofs.Choice.{choose}
 use Rattle.property_area.specs.Piece.{Piece, deletion}
 use Rattle.property_area.specs.declared.reading.Located.{Located}
 use Rattle.property_area.specs.Reading.{piece_in}
+use Rattle.printing.specs.declared.put.Text.{Text}
 use Rattle.printing.specs.Put.{Put}
 use Rattle.printing.specs.Text.{newline, space, delete-, numbered, each, hex_byte, named}
 use Rattle.printing.proofs.Sizes.{length_hex_digits, length-numbered}
@@ -57,8 +58,8 @@ module _ (area : List ℕ) (l : Located) where
   pub located_fits : {room : ℕ} (at : ℕ) → at + length (entry (piece_in area l)) ≤ room → at + length (entry cut_out) ≤ room
   located_fits {room} at h = subst (λ (p : Piece). at + length (entry p) ≤ room) (sym same) h
 
-  pub located_put : {before after : List ℕ} {at end : ℕ} → Put before after at end (entry cut_out) → Put before after at end (entry (piece_in area l))
-  located_put {before} {after} {at} {end} h = subst (λ (p : Piece). Put before after at end (entry p)) same h
+  pub located_put : {before after : Text} → Put before after (entry cut_out) → Put before after (entry (piece_in area l))
+  located_put {before} {after} h = subst (λ (p : Piece). Put before after (entry p)) same h
 
 -- ---- how long a line is
 

@@ -20,7 +20,6 @@ use Rattle.property_area.specs.Reading.{end_of, located_at, judged_at, piece_in,
 use Rattle.property_area.specs.Claims.Cursor.{fine_or, pieces_from, remaining, start_of}
 use Rattle.property_area.proofs.Judging.{fine_told}
 use Rattle.property_area.proofs.PropertyLaws.{properties_in_order}
-use Rattle.printing.specs.Put.{Fits}
 use Rattle.printing.specs.Text.{newline, state-, end-, decimal, digits, numbered, ended, operand, refusal_line}
 use Rattle.words.proofs.Claims.{numbers_exactly, nul_exactly}
 use Rattle.property_area.proofs.ReaderClaims.{property_reader_exactly}
@@ -96,11 +95,11 @@ lines_fit input ps e =
     let all : pieces_from (count_in input) input first_at ≡ ps = rw long at (properties_in_order input ps e) in
     rw (← all) (omega (arith, length-lines (count_in input) input first_at (omega arith)))
 
-pub text_fits : (input out : List ℕ) → 32_768 ≤ length out → Fits out 0 (text input)
+pub text_fits : (input out : List ℕ) → 32_768 ≤ length out → length (text input) ≤ length out
 unfolding text
 text_fits input out room = go (reading input) refl
   where
-    go : (r : Reading Piece Refusal) → reading input ≡ r → Fits out 0 (text_of (phandle_in input) (state_in input) (reading input))
+    go : (r : Reading Piece Refusal) → reading input ≡ r → length (text_of (phandle_in input) (state_in input) (reading input)) ≤ length out
     go (read ps) g =
         let first = operand phandle- (phandle_in input) in
         let second = ended state- (state_in input) in

@@ -4,12 +4,9 @@
 
 mod text;
 
-use printing::Input;
-
 fn main(rt: HostRuntime) {
     let mut input = [0u8; 4097];
-    let found = printing::read_input(rt, b"print_properties", &mut input);
-    let Input::Bytes(n) = found else {
+    let Some(n) = printing::read_input(rt, b"print_properties", &mut input) else {
         return;
     };
     let mut out = [0u8; 32_768];

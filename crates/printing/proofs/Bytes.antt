@@ -8,6 +8,7 @@ use native.Mathlib.Omega.{arith}
 use lib.ListN.{length, drop, get_or, length-append, drop_of_length-le}
 use lib.Seq.{drop-cons}
 use Rattle.words.proofs.Choice.{choose}
+use Rattle.printing.specs.declared.put.Text.{Text}
 use Rattle.printing.specs.Put.{Fits, Put}
 use Rattle.printing.proofs.Puts.{fits-first, Ahead, ahead_then, ahead_none}
 use Rattle.printing.proofs.Sizes.{length_hex_digits}
@@ -30,21 +31,21 @@ module _ (b : ℕ) where
 
 -- ---- the bytes one by one: all is the whole text
 
-module _ (f : ℕ → List ℕ) (bytes : List ℕ) {all l m : List ℕ} {at i to : ℕ} (a : Ahead all l at m to (each f (drop i bytes))) where
+module _ (f : ℕ → List ℕ) (bytes : List ℕ) {all : List ℕ} {a b : Text} {i : ℕ} (p : Ahead all a b (each f (drop i bytes))) where
   module _ (h : i < length bytes) where
     next : each f (drop i bytes) ≡ f (get_or bytes i 0) ++ each f (drop (i + 1) bytes)
     unfolding each
     next = rw (drop-cons bytes i 0 h, add-one i)
 
-    pub next_fits : Fits m to (f (get_or bytes i 0))
-    next_fits = fits-first to (f (get_or bytes i 0)) (each f (drop (i + 1) bytes)) (rw next at a.fits)
+    pub next_fits : Fits b (f (get_or bytes i 0))
+    next_fits = fits-first b.length (f (get_or bytes i 0)) (each f (drop (i + 1) bytes)) (rw next at p.fits)
 
-    pub next_put : {n : List ℕ} {b : ℕ} → Put m n to b (f (get_or bytes i 0)) → Ahead all l at n b (each f (drop (i + 1) bytes))
-    next_put p = ahead_then (each f (drop (i + 1) bytes)) (rw next at a) p
+    pub next_put : {c : Text} → Put b c (f (get_or bytes i 0)) → Ahead all a c (each f (drop (i + 1) bytes))
+    next_put q = ahead_then (each f (drop (i + 1) bytes)) (rw next at p) q
 
-  pub all_put : length bytes ≤ i → Put l m at to all
+  pub all_put : length bytes ≤ i → Put a b all
   unfolding each
-  all_put h = ahead_none (rw (drop_of_length-le bytes h) at a)
+  all_put h = ahead_none (rw (drop_of_length-le bytes h) at p)
 
 -- a byte for which at most four are written
 pub length_each : (f : ℕ → List ℕ) → ((b : ℕ) → length (f b) ≤ 4) → (bytes : List ℕ) → length (each f bytes) ≤ 4 * length bytes

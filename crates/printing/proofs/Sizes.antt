@@ -7,7 +7,6 @@ use lib.Dec.{ltb}
 use lib.ListN.{length, length-append}
 use lib.Seq.{sets, length-sets}
 use Rattle.words.proofs.Choice.{choose}
-use Rattle.printing.specs.Put.{Fits}
 use Rattle.printing.specs.Text.{digits, decimal, hex_digits, newline, refused-, -at-, numbered, ended, operand, refusal_line}
 
 length_digits : (n v : ℕ) → length (digits n v) ≤ n
@@ -37,5 +36,5 @@ pub length_refusal : (n at : ℕ) → length (refusal_line n at) ≤ 53
 length_refusal n at = omega (arith, length-append (numbered refused- n) (ended -at- at), length-numbered refused- n, length_ended -at- at)
 
 -- a text that fits stays inside its buffer
-pub inside_buffer : (t l m : List ℕ) (r : ℕ) → Fits l 0 t → r ≡ length t → m ≡ sets l 0 t → r ≤ length m
+pub inside_buffer : (t l m : List ℕ) (r : ℕ) → length t ≤ length l → r ≡ length t → m ≡ sets l 0 t → r ≤ length m
 inside_buffer t l m r fits e s = rw (s, length-sets l 0 t) (omega arith)

@@ -1,19 +1,14 @@
--- Terms of the contracts of functions that put a text into its buffer; the promises of the programs do not cite them.
+-- Terms of the contracts of functions that put a text together; the promises of the programs do not cite them.
 use Rattle.std.specs.Prelude.{◌≡◌, List, ℕ, ◌+◌, ◌≤◌, length}
 use Rattle.std.proofs.lemmas.List.Edits.{sets}
-use Rattle.printing.specs.declared.channel.Input.{Input}
-use Rattle.printing.specs.declared.channel.Input.TheVariants.{Bytes, Unread}
+use Rattle.printing.specs.declared.put.Text.{Text}
 
--- bytes fit a buffer from a place on
-abbrev pub Fits : List ℕ → ℕ → List ℕ → Type 0
-Fits out at bytes = at + length bytes ≤ length out
+-- the buffer has room for bytes behind the text
+abbrev pub Fits : Text → List ℕ → Type 0
+Fits text bytes = text.length + length bytes ≤ length text.buffer.now
 
--- bytes were put into a buffer from a place on, and every other byte stays; `end` is the place after them
-pub record Put (before after : List ℕ) (at end : ℕ) (bytes : List ℕ) : Type 0 where
-  pub place : end ≡ at + length bytes
-  pub stored : after ≡ sets before at bytes
-
--- what reading an input gives counts bytes of the buffer
-abbrev pub Given : Input → List ℕ → Type 0
-Given (Bytes n) buffer = n ≤ length buffer
-Given Unread buffer = Unit {0}
+-- bytes were put behind a text, and every other byte of its buffer stays
+pub record Put (before after : Text) (bytes : List ℕ) : Type 0 where
+  pub same : after.buffer.ghost_name ≡ before.buffer.ghost_name
+  pub place : after.length ≡ before.length + length bytes
+  pub stored : after.buffer.now ≡ sets before.buffer.now before.length bytes

@@ -1,16 +1,8 @@
 // Standard input and output of a printing program. If one fails, a line on standard error says so.
-ghost use Rattle.std.specs.Prelude.{◌≤◌, length};
-ghost use Rattle.printing.specs.Put.{Given};
+ghost use Rattle.std.specs.Prelude.{◌≤◌, length, IfSome};
 
 use std::io::{Read, Write};
 use std::rt::{HostRuntime, Stdin};
-
-// What reading gives: so many bytes, or an input that could not be read.
-#[derive(Clone, Copy)]
-pub enum Input {
-    Bytes(usize),
-    Unread,
-}
 
 // Writes a line of a program on standard error. Where that fails, nothing is left to say so on.
 pub fn say(rt: HostRuntime, program: &[u8], line: &[u8]) {
@@ -23,10 +15,7 @@ pub fn say(rt: HostRuntime, program: &[u8], line: &[u8]) {
 fn read_some(stdin: &mut Stdin, buffer: &mut [u8]) -> usize
     ensures { result ≤ length buffer.new }
 {
-    match stdin.read(buffer) {
-        Ok(n) => n,
-        Err(_) => 0,
-    }
+    stdin.read(buffer).unwrap_or(0)
 }
 
 // Reads until a buffer is full, or a read gives nothing.
@@ -47,10 +36,7 @@ fn read_full(stdin: &mut Stdin, buffer: &mut [u8]) -> usize
 // Whether standard input is at its end. A read that fails is not the end, and neither is one that gives more.
 fn is_at_end(stdin: &mut Stdin) -> bool {
     let mut next = [0u8; 1];
-    match stdin.read(&mut next) {
-        Ok(n) => n == 0,
-        Err(_) => false,
-    }
+    matches!(stdin.read(&mut next), Ok(0))
 }
 
 // Whether an input of so many bytes filled its buffer, or was read to its end.
@@ -58,21 +44,21 @@ fn is_read(stdin: &mut Stdin, n: usize, size: usize) -> bool {
     n == size || is_at_end(stdin)
 }
 
-// Reads an input into a buffer that has one byte more than the longest input whose text is printed.
-pub fn read_input(rt: HostRuntime, program: &[u8], input: &mut [u8]) -> Input
-    ensures { Given result input.new }
+// Reads an input into a buffer that has one byte more than the longest input whose text is printed, and tells how many bytes it has.
+pub fn read_input(rt: HostRuntime, program: &[u8], input: &mut [u8]) -> Option<usize>
+    ensures { IfSome result (λ n. n ≤ length input.new) }
 {
     let mut stdin = rt.stdin();
     let n = read_full(&mut stdin, input);
     if is_read(&mut stdin, n, input.len()) {
-        return Input::Bytes(n);
+        return Some(n);
     }
     say(
         rt,
         program,
         b": standard input cannot be read to its end; give it a file or a pipe\n",
     );
-    Input::Unread
+    None
 }
 
 // Writes all of a text on standard output. No contract can say what is written.

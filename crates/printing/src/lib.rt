@@ -1,10 +1,10 @@
-// What the printing programs share: the input, putting text into a buffer, and the output.
+// What the printing programs share: the input, putting a text together in a buffer, and the output.
+// Kept: numbers and names are put in by hand and not by `write!`, which std tells of a String alone; there is no heap here.
 #![tactic(auto)]
 
 mod channel;
 mod names;
 mod put;
 
-pub use channel::{Input, read_input, say, write_text};
-pub use names::{put_named, put_value_bytes};
-pub use put::{put_bytes, put_ended, put_hex, put_number, put_operand, put_refusal};
+pub use channel::{read_input, say, write_text};
+pub use put::Text;

@@ -1,67 +1,87 @@
-// Putting text into the buffer of a printing program: each function gives the place after what it puts.
-ghost use Rattle.std.specs.Prelude.{◌^◌, ◌≤◌, ◌<◌};
+// Putting a text together in a buffer that is lent.
+ghost use Rattle.std.specs.Prelude.{◌≡◌, ◌^◌, ◌≤◌, ◌<◌, length, take};
 ghost use Rattle.printing.specs.Text.{hex_digits, numbered, ended, operand, refusal_line};
 ghost use Rattle.printing.specs.Put.{Fits, Put};
 
-pub fn put_bytes(bytes: &[u8], out: &mut [u8], at: usize) -> usize
-    requires { Fits out.old at bytes.now }
-    ensures { Put out.old out.new at result bytes.now }
-{
-    let mut i = 0;
-    let mut to = at;
-    while i < bytes.len() {
-        out[to] = bytes[i];
-        to += 1;
-        i += 1;
+// A text that is put together: the buffer, and how many of its first bytes are the text so far.
+#[derive(Drop)]
+pub struct Text<'a> {
+    pub buffer: &'a mut [u8],
+    pub length: usize,
+}
+
+impl<'a> Text<'a> {
+    // No byte yet.
+    pub fn new(buffer: &'a mut [u8]) -> Text<'a>
+        ensures same_buffer { result.buffer.ghost_name ≡ buffer.entry.ghost_name }
+        ensures held { result.buffer.now ≡ buffer.old }
+        ensures empty { result.length ≡ 0 }
+    {
+        Text { buffer, length: 0 }
     }
-    to
-}
 
-// A word, and a number in decimal digits.
-pub fn put_number(word: &[u8], v: u64, out: &mut [u8], at: usize) -> usize
-    requires { Fits out.old at (numbered word.now v) }
-    ensures { Put out.old out.new at result (numbered word.now v) }
-{
-    let mut digits = [0u8; 20];
-    let n = io::decimal(v, &mut digits);
-    let to = put_bytes(word, out, at);
-    put_bytes(&digits[..n], out, to)
-}
+    // The text so far.
+    pub fn bytes(&self) -> &[u8]
+        requires { self.now.length ≤ length self.now.buffer.now }
+        ensures { result.now ≡ take self.now.length self.now.buffer.now }
+    {
+        &self.buffer[..self.length]
+    }
 
-// The same at the end of a line.
-pub fn put_ended(word: &[u8], v: u64, out: &mut [u8], at: usize) -> usize
-    requires { Fits out.old at (ended word.now v) }
-    ensures { Put out.old out.new at result (ended word.now v) }
-{
-    let to = put_number(word, v, out, at);
-    put_bytes(b"\n", out, to)
-}
+    pub fn push(&mut self, bytes: &[u8])
+        requires { Fits self.old bytes.now }
+        ensures { Put self.old self.new bytes.now }
+    {
+        words::store(self.buffer, self.length, bytes);
+        self.length += bytes.len();
+    }
 
-// A number that has no more than so many hexadecimal digits, in all of them.
-pub fn put_hex(v: u64, width: usize, out: &mut [u8], at: usize) -> usize
-    requires le_width { (1 ≤ width) × (width ≤ 16) × (v < 16 ^ width) }
-    requires fits { Fits out.old at (hex_digits width v) }
-    ensures { Put out.old out.new at result (hex_digits width v) }
-{
-    let mut digits = [0u8; 16];
-    let n = io::hex(v, width, &mut digits);
-    put_bytes(&digits[..n], out, at)
-}
+    // A word, and a number in decimal digits.
+    pub fn push_number(&mut self, word: &[u8], v: u64)
+        requires { Fits self.old (numbered word.now v) }
+        ensures { Put self.old self.new (numbered word.now v) }
+    {
+        let mut digits = [0u8; 20];
+        let n = io::decimal(v, &mut digits);
+        self.push(word);
+        self.push(&digits[..n]);
+    }
 
-// A word, and an operand in eight hexadecimal digits.
-pub fn put_operand(word: &[u8], v: u32, out: &mut [u8], at: usize) -> usize
-    requires { Fits out.old at (operand word.now v) }
-    ensures { Put out.old out.new at result (operand word.now v) }
-{
-    let to = put_bytes(word, out, at);
-    put_hex(v as u64, 8, out, to)
-}
+    // The same at the end of a line.
+    pub fn push_ended(&mut self, word: &[u8], v: u64)
+        requires { Fits self.old (ended word.now v) }
+        ensures { Put self.old self.new (ended word.now v) }
+    {
+        self.push_number(word, v);
+        self.push(b"\n");
+    }
 
-// The line of a refusal, at the front of the buffer.
-pub fn put_refusal(number: u64, offset: usize, out: &mut [u8]) -> usize
-    requires { Fits out.old 0 (refusal_line number offset) }
-    ensures { Put out.old out.new 0 result (refusal_line number offset) }
-{
-    let to = put_number(b"refused ", number, out, 0);
-    put_ended(b" at ", offset as u64, out, to)
+    // A number that has no more than so many hexadecimal digits, in all of them.
+    pub fn push_hex(&mut self, v: u64, width: usize)
+        requires le_width { (1 ≤ width) × (width ≤ 16) × (v < 16 ^ width) }
+        requires fits { Fits self.old (hex_digits width v) }
+        ensures { Put self.old self.new (hex_digits width v) }
+    {
+        let mut digits = [0u8; 16];
+        let n = io::hex(v, width, &mut digits);
+        self.push(&digits[..n]);
+    }
+
+    // A word, and an operand in eight hexadecimal digits.
+    pub fn push_operand(&mut self, word: &[u8], v: u32)
+        requires { Fits self.old (operand word.now v) }
+        ensures { Put self.old self.new (operand word.now v) }
+    {
+        self.push(word);
+        self.push_hex(u64::from(v), 8);
+    }
+
+    // The line of a refusal.
+    pub fn push_refusal(&mut self, number: u64, offset: usize)
+        requires { Fits self.old (refusal_line number offset) }
+        ensures { Put self.old self.new (refusal_line number offset) }
+    {
+        self.push_number(b"refused ", number);
+        self.push_ended(b" at ", offset as u64);
+    }
 }

@@ -6,11 +6,7 @@ use lib.Seq.{length-take-le}
 use Rattle.print_indices.proofs.Sizes.{printed_room}
 use Rattle.print_indices.proofs.main.Goals as goal
 
--- the bytes that were read are inside their buffer, and so is the text
-pub slice_bounds-input-end : goal.slice_bounds-input-end
-slice_bounds-input-end c =
-    rw c.in-Bytes.is at c.read_input-found.ensures
-
+-- the text is inside its buffer
 pub slice_bounds-out-end : goal.slice_bounds-out-end
 slice_bounds-out-end c =
     printed_room _ _ _ _ (sym c.text_buffer-out.ensures) c.print_area-count.ensures.value c.print_area-count.ensures.out_after

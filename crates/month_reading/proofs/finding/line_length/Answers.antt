@@ -1,17 +1,22 @@
-use mathlib.Core.Path.{ap, ◌∙◌}
-use Prim.Native.Nat.{ℕ}
-use lib.Dec.{eqb}
+use mathlib.Core.Path.{◌≡◌}
+use native.Mathlib.Omega.{arith}
 use lib.ListN.{length}
-use Rattle.std.proofs.Common.{Option, rules, tests}
-use Rattle.std.specs.Option.{unwrap_or}
-use Rattle.std.proofs.lemmas.Iterator.{YieldsList-from_slice}
-use Rattle.std.proofs.lemmas.Iterator.Search.{position_from_yields_List}
-use Rattle.month_reading.proofs.Searches.{line_found}
+use Rattle.month_reading.proofs.Searches.{line_next, line_here, line_end}
 use Rattle.month_reading.proofs.finding.line_length.Goals as goal
+
+pub loop-i-init : goal.loop-i-init
+loop-i-init c =
+    record { inside = omega arith; same = omega arith }
+
+pub returns-then-text-i-eq10 : goal.returns-then-text-i-eq10
+returns-then-text-i-eq10 c =
+    line_here c.loop-i.invariant c.loop-i-test.true c.if-text-i-eq10.true
+
+pub loop-i-preserved : goal.loop-i-preserved
+loop-i-preserved c =
+    line_next c.loop-i.invariant c.loop-i-test.true c.if-text-i-eq10.false
 
 pub returns : goal.returns
 returns c =
-    c.unwrap_or.ensures
-    ∙ ap (λ (r : Option ℕ). unwrap_or r (length c.args.text.now))
-    (position_from_yields_List (λ b. eqb b 10) _ _ c.position.result c.position.ensures.ran (YieldsList-from_slice _ c.iter.ensures.rest) (λ x b q k. search (rules, tests)))
-    ∙ line_found c.args.text.now
+    let all : c.loop-i.i ≡ length c.args.text.now = omega arith in
+    rw (← all) (line_end c.loop-i.invariant (omega arith))

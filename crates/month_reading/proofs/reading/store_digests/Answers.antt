@@ -2,10 +2,9 @@ use mathlib.Core.Path.{◌≡◌}
 use Prim.Native.Nat.{◌*◌}
 use native.Mathlib.Omega.{arith}
 use lib.ListN.{drop, length-drop}
-use Rattle.printing.proofs.Puts.{put_length}
 use Rattle.month_table.specs.Reading.{digest_in}
 use Rattle.month_table.proofs.Parts.{rest_part}
-use Rattle.month_reading.proofs.Digests.{stored_none, stored_fits, stored_row}
+use Rattle.month_reading.proofs.Digests.{stored_none, stored_length, stored_fits, stored_row}
 use Rattle.month_reading.proofs.reading.store_digests.Goals as goal
 
 pub loop-k-init : goal.loop-k-init
@@ -20,8 +19,8 @@ pub digest_in-digest-requires : goal.digest_in-digest-requires
 digest_in-digest-requires c =
     rw (rest_part (75 * c.loop-k.k) c.args.rows.now, length-drop) (omega (arith, c.requires.0, c.loop-k-test.true))
 
-pub put_bytes-requires : goal.put_bytes-requires
-put_bytes-requires c =
+pub store-requires : goal.store-requires
+store-requires c =
     let made : c.digest_in-digest.result ≡ digest_in (drop (75 * c.loop-k.k) c.args.rows.now) =
     rw (rest_part (75 * c.loop-k.k) c.args.rows.now) at c.digest_in-digest.ensures in
     rw (made) (stored_fits c.loop-k.invariant _ c.loop-k-test.true c.requires.1)
@@ -30,13 +29,13 @@ pub loop-k-preserved : goal.loop-k-preserved
 loop-k-preserved c =
     let made : c.digest_in-digest.result ≡ digest_in (drop (75 * c.loop-k.k) c.args.rows.now) =
     rw (rest_part (75 * c.loop-k.k) c.args.rows.now) at c.digest_in-digest.ensures in
-    stored_row c.loop-k.invariant (rw (made) at c.put_bytes.ensures)
+    stored_row c.loop-k.invariant (rw (made) at c.store.ensures)
 
 pub shape_of-digests : goal.shape_of-digests
 shape_of-digests c =
-    put_length c.loop-k.invariant.put
+    stored_length c.loop-k.invariant
 
 pub returns : goal.returns
 returns c =
     let all : c.loop-k.k ≡ c.args.count = omega arith in
-    rw (← all) c.loop-k.invariant.put.stored
+    rw (← all) c.loop-k.invariant.same

@@ -1,40 +1,29 @@
 -- `putting::put_label` meets its contract.
-use native.Mathlib.Omega.{arith}
 use mathlib.Core.List.{[], ◌∷◌}
 use Prim.Native.Nat.{◌+◌, ◌/◌, ◌%◌}
-use Rattle.printing.proofs.Puts.{put_length, fits-first, fits_then, put_then}
+use Rattle.printing.proofs.Puts.{fits-first, fits_then, put_then}
 use Rattle.month_table.specs.Inner.Terms.{word}
 use Rattle.month_table.proofs.Words.{label_token, label_last}
 use Rattle.month_table.proofs.putting.put_label.Goals as goal
 
-pub put_word-requires : goal.put_word-requires
-put_word-requires c =
-    record { k_bound = omega arith; fits = rw (label_last _ c.if-p-ge32.true) at c.requires.fits }
+pub push-requires : goal.push-requires
+push-requires c =
+    rw (c.word.ensures, ← label_last c.args.p c.if-p-ge32.true) c.requires.fits
 
 pub returns-then-p-ge32 : goal.returns-then-p-ge32
 returns-then-p-ge32 c =
-    rw (label_last _ c.if-p-ge32.true) c.put_word.ensures
+    rw (label_last c.args.p c.if-p-ge32.true, ← c.word.ensures) c.push.ensures
 
-pub put_bytes-to-requires : goal.put_bytes-to-requires
-put_bytes-to-requires c =
-    let p = c.args.p in fits-first _ ((49 + p / 8) ∷ 44 ∷ []) (word (p % 8)) (rw (label_token _ c.if-p-ge32.false) at c.requires.fits)
+pub push-requires-2 : goal.push-requires-2
+push-requires-2 c =
+    let p = c.args.p in
+    fits-first _ ((49 + p / 8) ∷ 44 ∷ []) (word (p % 8)) (rw (label_token _ c.if-p-ge32.false) at c.requires.fits)
 
-pub put_word-requires-2 : goal.put_word-requires-2
-put_word-requires-2 c =
-    let p = c.args.p in record {
-      k_bound = omega arith;
-      fits = fits_then (word (p % 8)) (rw (label_token _ c.if-p-ge32.false) at c.requires.fits)
-          c.put_bytes-to.ensures;
-    }
+pub push-requires-3 : goal.push-requires-3
+push-requires-3 c =
+    let p = c.args.p in
+    rw c.word-2.ensures (fits_then (word (p % 8)) (rw (label_token _ c.if-p-ge32.false) at c.requires.fits) c.push-2.ensures)
 
 pub returns : goal.returns
 returns c =
-    rw (label_token _ c.if-p-ge32.false) (put_then c.put_bytes-to.ensures c.put_word-2.ensures)
-
-pub shape_of-out-then-p-ge32 : goal.shape_of-out-then-p-ge32
-shape_of-out-then-p-ge32 c =
-    put_length (returns-then-p-ge32 c)
-
-pub shape_of-out : goal.shape_of-out
-shape_of-out c =
-    put_length (returns c)
+    rw (label_token _ c.if-p-ge32.false) (put_then c.push-2.ensures (rw c.word-2.ensures at c.push-3.ensures))

@@ -12,22 +12,22 @@ session- = 115 ∷ 101 ∷ 115 ∷ 115 ∷ 105 ∷ 111 ∷ 110 ∷ 44 ∷ []
 abbrev end- : List ℕ
 end- = 44 ∷ 49 ∷ 10 ∷ []
 
-pub put_bytes-word-requires : goal.put_bytes-word-requires
+pub push-requires : goal.push-requires
 unfolding session_row
-put_bytes-word-requires c =
+push-requires c =
     fits-first _ session- (each hex_byte c.args.digest.now ++ end-) c.requires
 
-pub put_value_bytes-digits-requires : goal.put_value_bytes-digits-requires
+pub push_value-requires : goal.push_value-requires
 unfolding session_row
-put_value_bytes-digits-requires c =
-    fits-first _ (each hex_byte c.args.digest.now) end- (fits_then (each hex_byte c.args.digest.now ++ end-) c.requires c.put_bytes-word.ensures)
+push_value-requires c =
+    fits-first _ (each hex_byte c.args.digest.now) end- (fits_then (each hex_byte c.args.digest.now ++ end-) c.requires c.push.ensures)
 
-pub put_bytes-requires : goal.put_bytes-requires
+pub push-requires-2 : goal.push-requires-2
 unfolding session_row
-put_bytes-requires c =
-    fits_then end- (fits_then (each hex_byte c.args.digest.now ++ end-) c.requires c.put_bytes-word.ensures) c.put_value_bytes-digits.ensures
+push-requires-2 c =
+    fits_then end- (fits_then (each hex_byte c.args.digest.now ++ end-) c.requires c.push.ensures) c.push_value.ensures
 
 pub returns : goal.returns
 unfolding session_row
 returns c =
-    put_then c.put_bytes-word.ensures (put_then c.put_value_bytes-digits.ensures c.put_bytes.ensures)
+    put_then c.push.ensures (put_then c.push_value.ensures c.push-2.ensures)

@@ -14,34 +14,34 @@ use Rattle.print_indices.proofs.text.put_line.Goals as goal
 abbrev front : List ℕ → Set → List ℕ
 front input s = operand index- s.index ++ named space (entry_in input s).code
 
-pub put_operand-code-requires : goal.put_operand-code-requires
+pub push_operand-requires : goal.push_operand-requires
 unfolding line
-put_operand-code-requires c =
-    let whole : Fits c.args.out.now c.args.at (front c.args.input.now c.args.s ++ newline) =
+push_operand-requires c =
+    let whole : Fits c.args.out.now (front c.args.input.now c.args.s ++ newline) =
     c.requires.fits in
-    let fits : Fits c.args.out.now c.args.at (front c.args.input.now c.args.s) =
+    let fits : Fits c.args.out.now (front c.args.input.now c.args.s) =
     fits-first _ (front c.args.input.now c.args.s) newline (whole) in
     fits-first _ (operand index- _) (named space _) (fits)
 
-pub put_named-end-requires : goal.put_named-end-requires
+pub push_named-requires : goal.push_named-requires
 unfolding line
-put_named-end-requires c =
-    let whole : Fits c.args.out.now c.args.at (front c.args.input.now c.args.s ++ newline) =
+push_named-requires c =
+    let whole : Fits c.args.out.now (front c.args.input.now c.args.s ++ newline) =
     c.requires.fits in
-    let fits : Fits c.args.out.now c.args.at (front c.args.input.now c.args.s) =
+    let fits : Fits c.args.out.now (front c.args.input.now c.args.s) =
     fits-first _ (front c.args.input.now c.args.s) newline (whole) in
-    code_fits c.args.input.now c.args.s _ (fits_then (named space _) (fits) c.put_operand-code.ensures)
+    code_fits c.args.input.now c.args.s _ (fits_then (named space _) (fits) c.push_operand.ensures)
 
-pub put_bytes-requires : goal.put_bytes-requires
+pub push-requires : goal.push-requires
 unfolding line
-put_bytes-requires c =
-    let whole : Fits c.args.out.now c.args.at (front c.args.input.now c.args.s ++ newline) =
+push-requires c =
+    let whole : Fits c.args.out.now (front c.args.input.now c.args.s ++ newline) =
     c.requires.fits in
-    let code = code_put c.args.input.now c.args.s c.put_named-end.ensures in
-    fits_then newline (whole) (put_then c.put_operand-code.ensures code)
+    let code = code_put c.args.input.now c.args.s c.push_named.ensures in
+    fits_then newline (whole) (put_then c.push_operand.ensures code)
 
 pub returns : goal.returns
 unfolding line
 returns c =
-    let code = code_put c.args.input.now c.args.s c.put_named-end.ensures in
-    put_then (put_then c.put_operand-code.ensures code) c.put_bytes.ensures
+    let code = code_put c.args.input.now c.args.s c.push_named.ensures in
+    put_then (put_then c.push_operand.ensures code) c.push.ensures

@@ -6,7 +6,7 @@ use Rattle.print_indices.specs.Text.{lines}
 use Rattle.print_indices.proofs.text.put_lines.Given as goal
 
 abbrev pub invariant-loop-s : goal.invariant-loop-s
-invariant-loop-s l = Ahead (lines (remaining l.input (start_of l.input))) l.initial.out l.at l.out l.to (lines (remaining l.input l.cursor))
+invariant-loop-s l = Ahead (lines (remaining l.input (start_of l.input))) l.initial.out l.out (lines (remaining l.input l.cursor))
 
 abbrev pub decreases-loop-s : goal.decreases-loop-s
 decreases-loop-s l = length (remaining l.input l.cursor)

@@ -8,11 +8,11 @@ use Rattle.print_nodes.proofs.text.put_lines.Goals as goal
 
 pub loop-operation-init : goal.loop-operation-init
 loop-operation-init c =
-    rw c.start-cursor.ensures.value (ahead_first _ _ _ c.requires)
+    rw c.start-cursor.ensures.value (ahead_first _ _ c.requires)
 
-pub put_line-to-requires : goal.put_line-to-requires
-put_line-to-requires c =
-    let entry : let input = c.args.input.now in Ahead (lines (remaining input start_of)) c.args.out.now c.args.at c.loop-operation.out c.loop-operation.to
+pub put_line-requires : goal.put_line-requires
+put_line-requires c =
+    let entry : let input = c.args.input.now in Ahead (lines (remaining input start_of)) c.args.out.now c.loop-operation.out
     (line c.in-Some.operation ++ lines (remaining input c.in-Some.behind)) =
     rw (lines_entry _ _ _ _ (sym c.next.ensures.value ∙ c.in-Some.is)) at c.loop-operation.invariant in
     fits-first _ (line _) _ entry.fits
@@ -23,10 +23,10 @@ loop-operation-smaller c =
 
 pub loop-operation-preserved : goal.loop-operation-preserved
 loop-operation-preserved c =
-    let entry : let input = c.args.input.now in Ahead (lines (remaining input start_of)) c.args.out.now c.args.at c.loop-operation.out c.loop-operation.to
+    let entry : let input = c.args.input.now in Ahead (lines (remaining input start_of)) c.args.out.now c.loop-operation.out
     (line c.in-Some.operation ++ lines (remaining input c.in-Some.behind)) =
     rw (lines_entry _ _ _ _ (sym c.next.ensures.value ∙ c.in-Some.is)) at c.loop-operation.invariant in
-    ahead_then _ (entry) c.put_line-to.ensures
+    ahead_then _ (entry) c.put_line.ensures
 
 pub returns : goal.returns
 returns c =

@@ -8,7 +8,7 @@ use Rattle.printing.specs.Put.{Fits}
 use Rattle.printing.specs.Text.{state-, end-, ended}
 use Rattle.printing.proofs.Puts.{fits-first, fits_then, put_then}
 use Rattle.print_properties.specs.Text.{lines, phandle_line, text}
-use Rattle.print_properties.proofs.Sizes.{area_text, text_fits}
+use Rattle.print_properties.proofs.Sizes.{area_text}
 use Rattle.print_properties.proofs.text.put_area.Goals as goal
 
 -- the text by its parts: what stands after the state, and all
@@ -20,56 +20,56 @@ parts phandle state input count = phandle_line phandle ++ (ended state- state ++
 
 pub read_phandle-phandle-requires : goal.read_phandle-phandle-requires
 read_phandle-phandle-requires c =
-    omega (arith, (area_text _ _ _ _ c.requires.1 refl refl).0)
+    omega (arith, (area_text _ _ _ _ c.requires.counted refl refl).0)
 
 pub read_state-state-requires : goal.read_state-state-requires
 read_state-state-requires c =
-    omega (arith, (area_text _ _ _ _ c.requires.1 refl refl).0)
+    omega (arith, (area_text _ _ _ _ c.requires.counted refl refl).0)
 
-pub put_phandle-second-requires : goal.put_phandle-second-requires
-put_phandle-second-requires c =
+pub put_phandle-requires : goal.put_phandle-requires
+put_phandle-requires c =
     let in_parts : text c.args.input.now ≡ parts c.read_phandle-phandle.result c.read_state-state.result c.args.input.now c.args.count =
-    (area_text _ _ _ _ c.requires.1 c.read_phandle-phandle.ensures c.read_state-state.ensures).1 in
-    let whole : Fits c.args.out.now 0 (parts c.read_phandle-phandle.result c.read_state-state.result c.args.input.now c.args.count) =
-    rw (in_parts) at (text_fits c.args.input.now c.args.out.now c.requires.0) in
-    fits-first 0 (phandle_line _) _ (whole)
+    (area_text _ _ _ _ c.requires.counted c.read_phandle-phandle.ensures c.read_state-state.ensures).1 in
+    let whole : Fits c.args.out.now (parts c.read_phandle-phandle.result c.read_state-state.result c.args.input.now c.args.count) =
+    rw (in_parts) at c.requires.fits in
+    fits-first _ (phandle_line _) _ (whole)
 
-pub put_ended-first-requires : goal.put_ended-first-requires
-put_ended-first-requires c =
-    let in_parts : text c.args.input.now ≡ parts c.read_phandle-phandle.result c.read_state-state.result c.args.input.now c.args.count =
-    (area_text _ _ _ _ c.requires.1 c.read_phandle-phandle.ensures c.read_state-state.ensures).1 in
-    let whole : Fits c.args.out.now 0 (parts c.read_phandle-phandle.result c.read_state-state.result c.args.input.now c.args.count) =
-    rw (in_parts) at (text_fits c.args.input.now c.args.out.now c.requires.0) in
+pub push_ended-requires : goal.push_ended-requires
+push_ended-requires c =
+    let in_parts : text c.args.input.now ≡ parts c.read_phandle-phandle.result c.from.result c.args.input.now c.args.count =
+    rw c.from.ensures (area_text _ _ _ _ c.requires.counted c.read_phandle-phandle.ensures c.read_state-state.ensures).1 in
+    let whole : Fits c.args.out.now (parts c.read_phandle-phandle.result c.from.result c.args.input.now c.args.count) =
+    rw (in_parts) at c.requires.fits in
     fits-first _ (ended state- _) _
-    (fits_then _ (whole) c.put_phandle-second.ensures)
+    (fits_then _ (whole) c.put_phandle.ensures)
 
-pub put_lines-last-requires : goal.put_lines-last-requires
-put_lines-last-requires c =
-    let in_parts : text c.args.input.now ≡ parts c.read_phandle-phandle.result c.read_state-state.result c.args.input.now c.args.count =
-    (area_text _ _ _ _ c.requires.1 c.read_phandle-phandle.ensures c.read_state-state.ensures).1 in
-    let whole : Fits c.args.out.now 0 (parts c.read_phandle-phandle.result c.read_state-state.result c.args.input.now c.args.count) =
-    rw (in_parts) at (text_fits c.args.input.now c.args.out.now c.requires.0) in
-    let after : Fits c.put_ended-first.new.out c.put_ended-first.result (rest c.args.input.now c.args.count) =
+pub put_lines-requires : goal.put_lines-requires
+put_lines-requires c =
+    let in_parts : text c.args.input.now ≡ parts c.read_phandle-phandle.result c.from.result c.args.input.now c.args.count =
+    rw c.from.ensures (area_text _ _ _ _ c.requires.counted c.read_phandle-phandle.ensures c.read_state-state.ensures).1 in
+    let whole : Fits c.args.out.now (parts c.read_phandle-phandle.result c.from.result c.args.input.now c.args.count) =
+    rw (in_parts) at c.requires.fits in
+    let after : Fits c.push_ended.new.self (rest c.args.input.now c.args.count) =
     fits_then _
-    (fits_then _ (whole) c.put_phandle-second.ensures)
-    c.put_ended-first.ensures in
+    (fits_then _ (whole) c.put_phandle.ensures)
+    c.push_ended.ensures in
     fits-first _ (lines _) _ (after)
 
-pub put_ended-requires : goal.put_ended-requires
-put_ended-requires c =
-    let in_parts : text c.args.input.now ≡ parts c.read_phandle-phandle.result c.read_state-state.result c.args.input.now c.args.count =
-    (area_text _ _ _ _ c.requires.1 c.read_phandle-phandle.ensures c.read_state-state.ensures).1 in
-    let whole : Fits c.args.out.now 0 (parts c.read_phandle-phandle.result c.read_state-state.result c.args.input.now c.args.count) =
-    rw (in_parts) at (text_fits c.args.input.now c.args.out.now c.requires.0) in
-    let after : Fits c.put_ended-first.new.out c.put_ended-first.result (rest c.args.input.now c.args.count) =
+pub push_ended-requires-2 : goal.push_ended-requires-2
+push_ended-requires-2 c =
+    let in_parts : text c.args.input.now ≡ parts c.read_phandle-phandle.result c.from.result c.args.input.now c.args.count =
+    rw c.from.ensures (area_text _ _ _ _ c.requires.counted c.read_phandle-phandle.ensures c.read_state-state.ensures).1 in
+    let whole : Fits c.args.out.now (parts c.read_phandle-phandle.result c.from.result c.args.input.now c.args.count) =
+    rw (in_parts) at c.requires.fits in
+    let after : Fits c.push_ended.new.self (rest c.args.input.now c.args.count) =
     fits_then _
-    (fits_then _ (whole) c.put_phandle-second.ensures)
-    c.put_ended-first.ensures in
-    fits_then (ended end- _) (after) c.put_lines-last.ensures
+    (fits_then _ (whole) c.put_phandle.ensures)
+    c.push_ended.ensures in
+    fits_then (ended end- _) (after) c.put_lines.ensures
 
 pub returns : goal.returns
 returns c =
-    let in_parts : text c.args.input.now ≡ parts c.read_phandle-phandle.result c.read_state-state.result c.args.input.now c.args.count =
-    (area_text _ _ _ _ c.requires.1 c.read_phandle-phandle.ensures c.read_state-state.ensures).1 in
-    let last = put_then c.put_lines-last.ensures c.put_ended.ensures in
-    rw (in_parts) (put_then c.put_phandle-second.ensures (put_then c.put_ended-first.ensures last))
+    let in_parts : text c.args.input.now ≡ parts c.read_phandle-phandle.result c.from.result c.args.input.now c.args.count =
+    rw c.from.ensures (area_text _ _ _ _ c.requires.counted c.read_phandle-phandle.ensures c.read_state-state.ensures).1 in
+    let last = put_then c.put_lines.ensures c.push_ended-2.ensures in
+    rw (in_parts) (put_then c.put_phandle.ensures (put_then c.push_ended.ensures last))

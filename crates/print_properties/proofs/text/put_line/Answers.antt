@@ -6,19 +6,19 @@ use Rattle.print_properties.specs.Text.{entry, line}
 use Rattle.print_properties.proofs.Entries.{located_fits, located_put}
 use Rattle.print_properties.proofs.text.put_line.Goals as goal
 
-pub put_entry-to-requires : goal.put_entry-to-requires
+pub put_entry-requires : goal.put_entry-requires
 unfolding line
-put_entry-to-requires c =
+put_entry-requires c =
     let input = c.args.input.now in
     located_fits input c.args.l _ (fits-first _ (entry (piece_in input c.args.l)) newline c.requires.fits)
 
-pub put_bytes-requires : goal.put_bytes-requires
+pub push-requires : goal.push-requires
 unfolding line
-put_bytes-requires c =
-    fits_then newline c.requires.fits (located_put c.args.input.now c.args.l c.put_entry-to.ensures)
+push-requires c =
+    fits_then newline c.requires.fits (located_put c.args.input.now c.args.l c.put_entry.ensures)
 
 pub returns : goal.returns
 unfolding line
 returns c =
-    put_then (located_put c.args.input.now c.args.l c.put_entry-to.ensures)
-    c.put_bytes.ensures
+    put_then (located_put c.args.input.now c.args.l c.put_entry.ensures)
+    c.push.ensures

@@ -8,10 +8,10 @@ use Rattle.print_properties.proofs.text.put_lines.Goals as goal
 
 pub loop-found-init : goal.loop-found-init
 loop-found-init c =
-    rw c.start-cursor.ensures.value (ahead_first _ _ _ c.requires)
+    rw c.start-cursor.ensures.value (ahead_first _ _ c.requires)
 
-pub put_line-to-requires : goal.put_line-to-requires
-put_line-to-requires c =
+pub put_line-requires : goal.put_line-requires
+put_line-requires c =
     let found : next_of c.args.input.now c.loop-found.cursor ≡ Some (c.in-Some.found, c.in-Some.behind) =
     sym c.next.ensures.value ∙ c.in-Some.is in
     record { inside = found_inside _ _ _ _ (found); fits = fits-first _ (line _) _ (rw (lines_found _ _ _ _ (found)) at c.loop-found.invariant).fits }
@@ -26,7 +26,7 @@ pub loop-found-preserved : goal.loop-found-preserved
 loop-found-preserved c =
     let found : next_of c.args.input.now c.loop-found.cursor ≡ Some (c.in-Some.found, c.in-Some.behind) =
     sym c.next.ensures.value ∙ c.in-Some.is in
-    ahead_then _ (rw (lines_found _ _ _ _ (found)) at c.loop-found.invariant) c.put_line-to.ensures
+    ahead_then _ (rw (lines_found _ _ _ _ (found)) at c.loop-found.invariant) c.put_line.ensures
 
 pub returns : goal.returns
 returns c =

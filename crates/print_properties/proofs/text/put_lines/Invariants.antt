@@ -6,7 +6,7 @@ use Rattle.print_properties.specs.Text.{lines}
 use Rattle.print_properties.proofs.text.put_lines.Given as goal
 
 abbrev pub invariant-loop-found : goal.invariant-loop-found
-invariant-loop-found l = Ahead (lines (remaining l.input (start_of l.input))) l.initial.out l.at l.out l.to (lines (remaining l.input l.cursor))
+invariant-loop-found l = Ahead (lines (remaining l.input (start_of l.input))) l.initial.out l.out (lines (remaining l.input l.cursor))
 
 abbrev pub decreases-loop-found : goal.decreases-loop-found
 decreases-loop-found l = length (remaining l.input l.cursor)
