@@ -7,14 +7,18 @@ ghost use Rattle.inventory.specs.Claims.Scanning.{GoodFrom};
 ghost use Rattle.bench.specs.Inner.Bench.{reported_of, listed_of, last_index};
 
 use inventory::{StartingNumber, Wanted};
+use journal::Selection;
 
 // How many operations a scope reports of a journal, in scope 3 of a unit; the highest number for a malformed journal.
 #[unsafe(no_mangle)]
 pub extern "C" fn draugsten_bench_scan(journal: &[u8], scope: u32, unit: u64) -> u64
     ensures { result ≡ reported_of scope unit journal.now }
 {
-    let row = journal::scope_row(scope).unwrap_or([0; 17]);
-    let (counted, _) = scanning::scan(journal, &row, journal::units_of(scope, unit));
+    let selection = Selection {
+        sets: journal::scope_row(scope).unwrap_or([0; 17]),
+        units: journal::units_of(scope, unit),
+    };
+    let (counted, _) = scanning::scan(journal, &selection);
     match counted {
         None => u64::MAX,
         Some(c) => (c.deletes + c.updates + c.additions) as u64,

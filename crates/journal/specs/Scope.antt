@@ -1,5 +1,6 @@
 -- The table of the scopes (document 01, "What each scope reports"). A scope is a 32-bit word.
 use Rattle.std.specs.Prelude.{ℕ, ◌-◌, ◌/◌, ◌%◌, ◌^◌, Bool, cond, ◌||◌, Option, Some, None, List, [], ◌∷◌, leb, eqb}
+use Rattle.journal.specs.declared.scope.Selection as declared
 use Rattle.journal.specs.declared.scope.Units.{Units}
 use Rattle.journal.specs.declared.scope.Units.TheVariants.{All, One}
 use Rattle.journal.specs.Journal.{within}
@@ -62,9 +63,8 @@ row_of scope =
     (by_type no_row))))
 
 -- What a scope asks for: the set of opcodes of each node type, and of which units.
-pub record Selection : Type 0 where
-  pub sets : List ℕ
-  pub units : Units
+abbrev pub Selection : Type 0
+Selection = declared.Selection
 
 abbrev pub asking : List ℕ → Units → Selection
 asking row units = record { sets = row; units = units }

@@ -15,6 +15,6 @@ pub use judging::{Shape, judge, node_size};
 pub use marks::{COUNT_LIMIT, LARGEST_WEIGHT, Mark, Marks, Place, count_of};
 pub use operation::{Opcode, Operation};
 pub use property::{NAME_LIMIT, PropertyRecord, VALUE_LIMIT, held_at, is_change, read_property};
-pub use scope::{Units, scope_row, units_of};
+pub use scope::{Selection, Units, scope_row, units_of};
 pub use units::{asked_here, read_unit, same_unit, tally, wanted_unit};
 pub use walking::{Visited, find, read_operand, visit};

@@ -15,10 +15,18 @@ const ROWS: [[u8; 17]; 4] = [
 ];
 
 // The units that a selection asks for: all of them, or the one of this address.
+// Kept: no Option, since its names say which units are asked for, where None would say that none are.
 #[derive(Clone, Copy)]
 pub enum Units {
     All,
     One(u64),
+}
+
+// What a scope asks for: its row, the set of opcodes of each node type, and of which units.
+#[derive(Clone, Copy)]
+pub struct Selection {
+    pub sets: [u8; 17],
+    pub units: Units,
 }
 
 // The units that a scope asks for: in scope 3 the one of this address, in all others all of them.

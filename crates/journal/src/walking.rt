@@ -11,7 +11,7 @@ ghost use Rattle.journal.specs.Marks.{Resumes, Marked};
 use crate::judging::read_type;
 use crate::marks::Marks;
 use crate::operation::Opcode;
-use crate::scope::Units;
+use crate::scope::{Selection, Units};
 use crate::units::asked_here;
 
 // 1 where a set holds an opcode, else 0.
@@ -75,6 +75,7 @@ fn reported_here(
 }
 
 // The record at a place from which the records are good. One of a property is not reported.
+// Kept: the row and the units apart, so that the writer of operands can name its units and each way to ask for them gets a loop of its own.
 pub fn visit(j: &[u8], row: &[u8; 17], units: Units, opcode: Opcode, at: usize) -> Visited
     requires { (at < length j.now) × (all_good good_record (records (drop at j.now)) ≡ true) }
     ensures { (result.size ≡ size_of (drop at j.now)) ×
@@ -90,23 +91,16 @@ pub fn visit(j: &[u8], row: &[u8; 17], units: Units, opcode: Opcode, at: usize) 
 }
 
 // A place from which the list of an opcode is what it is of the whole journal from operation number k on, by the marks of a scan.
-pub fn find(
-    j: &[u8],
-    row: &[u8; 17],
-    units: Units,
-    marks: &Marks,
-    opcode: Opcode,
-    k: usize,
-) -> usize
-    requires { (well_formed j.now ≡ true) × Marked (asking row.now units) j.now marks.now ×
-        (k < length (chosen (asking row.now units) (number opcode) (entries j.now))) }
-    ensures { Resumes (asking row.now units) j.now (number opcode) k result 0 }
+pub fn find(j: &[u8], selection: &Selection, marks: &Marks, opcode: Opcode, k: usize) -> usize
+    requires { (well_formed j.now ≡ true) × Marked selection.now j.now marks.now ×
+        (k < length (chosen selection.now (number opcode) (entries j.now))) }
+    ensures { Resumes selection.now j.now (number opcode) k result 0 }
 {
     let place = marks.seek(opcode, k);
     let mut at = place.at;
     let mut skip = place.skip;
     while 0 < skip {
-        let p = visit(j, row, units, opcode, at);
+        let p = visit(j, &selection.sets, selection.units, opcode, at);
         at += p.size;
         skip -= p.reported;
     }

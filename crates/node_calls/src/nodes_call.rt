@@ -6,7 +6,7 @@ ghost use Rattle.nodes.specs.Inner.Source.{Source};
 ghost use Rattle.calls.specs.UpdateNodes.{placed, area_status, area_after, nodes_status, nodes_memory};
 
 use calls::Status;
-use journal::{Counts, Marks, Units};
+use journal::{Counts, Marks, Selection, Units};
 use node_area::StateVariable;
 use nodes::Progress;
 
@@ -30,14 +30,14 @@ fn units_in(area: &[u8], scope: u32) -> Units
 fn answer_counted(
     area: &mut [u8],
     j: &[u8],
-    row: &[u8; 17],
+    selection: &Selection,
     scope: u32,
     marks: &Marks,
     counts: Counts,
 ) -> Status
-    requires { (length area.old ≡ area_size) × Source (asking row.now (units_of scope (unit_in area.old))) j.now counts marks.now }
-    ensures value { result ≡ area_status scope (asking row.now (units_of scope (unit_in area.old))) j.now area.old }
-    ensures area_after { area.new ≡ area_after scope (asking row.now (units_of scope (unit_in area.old))) j.now
+    requires { (length area.old ≡ area_size) × Source selection.now j.now counts marks.now }
+    ensures value { result ≡ area_status scope selection.now j.now area.old }
+    ensures area_after { area.new ≡ area_after scope selection.now j.now
         area.old }
 {
     if !node_area::is_reserved(scope, area) {
@@ -47,9 +47,8 @@ fn answer_counted(
     if !state.is_within(counts) {
         return Status::Parameter;
     }
-    let units = units_in(area, scope);
     let progress = Progress { counts, state };
-    if nodes::write_answer(area, j, row, units, marks, progress) {
+    if nodes::write_answer(area, j, selection, marks, progress) {
         Status::Again
     } else {
         Status::Done
@@ -63,11 +62,15 @@ fn answer_area(area: &mut [u8], j: &[u8], row: &[u8; 17], scope: u32) -> Status
     ensures area_after { area.new ≡ area_after scope (asking row.now (units_of scope (unit_in area.old))) j.now
         area.old }
 {
+    let selection = Selection {
+        sets: *row,
+        units: units_in(area, scope),
+    };
     let mut marks = Marks::none();
-    let Some(counts) = scanning::scan_noting(j, row, units_in(area, scope), &mut marks) else {
+    let Some(counts) = scanning::scan_noting(j, &selection, &mut marks) else {
         return Status::Malformed;
     };
-    answer_counted(area, j, row, scope, &marks, counts)
+    answer_counted(area, j, &selection, scope, &marks, counts)
 }
 
 // The call: only the work area is handed down to be written.

@@ -16,7 +16,7 @@ ghost use Rattle.nodes.specs.Inner.Source.{Source};
 ghost use Rattle.nodes.specs.Inner.Writing.{width, Due, due_words, part_from, Handed, body_from};
 
 use crate::run::longest_run;
-use journal::{Counts, Marks, Opcode, Units};
+use journal::{Counts, Marks, Opcode, Selection, Units};
 use node_area::{HEAD_SIZE, StateVariable, write_head};
 
 // The operand words of one operation of an opcode.
@@ -76,33 +76,26 @@ fn write_each(area: &mut [u8], j: &[u8], row: &[u8; 17], units: Units, part: Par
 
 // The same, with the two ways to ask for units apart: a loop that asks for all of them reads no unit.
 // Kept: the two arms name their units, so that the compiler makes two loops; one arm for both would test the units at each record.
-fn write_operands(area: &mut [u8], j: &[u8], row: &[u8; 17], units: Units, part: Part, from: usize)
-    requires { Due (asking row.now units) j.now (number part.opcode) from part.count ×
+fn write_operands(area: &mut [u8], j: &[u8], selection: &Selection, part: Part, from: usize)
+    requires { Due selection.now j.now (number part.opcode) from part.count ×
         (part.to + 4 + 4 * (width (number part.opcode) * part.count) ≤ length area.old) }
     ensures { area.new ≡ sets area.old (part.to + 4)
-        (word_bytes (due_words (asking row.now units) j.now (number part.opcode) from part.count)) }
+        (word_bytes (due_words selection.now j.now (number part.opcode) from part.count)) }
 {
-    match units {
-        Units::All => write_each(area, j, row, Units::All, part, from),
-        Units::One(unit) => write_each(area, j, row, Units::One(unit), part, from),
+    match selection.units {
+        Units::All => write_each(area, j, &selection.sets, Units::All, part, from),
+        Units::One(unit) => write_each(area, j, &selection.sets, Units::One(unit), part, from),
     }
 }
 
 // One opcode's part of the area: the operator and its operands, or nothing without operations. Gives the place after it.
-fn write_part(
-    area: &mut [u8],
-    j: &[u8],
-    row: &[u8; 17],
-    units: Units,
-    marks: &Marks,
-    part: Part,
-) -> usize
-    requires { (well_formed j.now ≡ true) × Marked (asking row.now units) j.now marks.now ×
-        (part.count ≤ length (chosen (asking row.now units) (number part.opcode)
+fn write_part(area: &mut [u8], j: &[u8], selection: &Selection, marks: &Marks, part: Part) -> usize
+    requires { (well_formed j.now ≡ true) × Marked selection.now j.now marks.now ×
+        (part.count ≤ length (chosen selection.now (number part.opcode)
         (entries j.now)) - part.first) × (part.count ≤ area_words) × (part.to + 4 * part_words (width (number part.opcode) * part.count) ≤ length area.old) }
     ensures value { result ≡ part.to + 4 * part_words (width (number part.opcode) * part.count) }
     ensures area_after { area.new ≡ sets area.old part.to
-        (word_bytes (part_from (asking row.now units) j.now (number part.opcode) part.first part.count)) }
+        (word_bytes (part_from selection.now j.now (number part.opcode) part.first part.count)) }
 {
     let opcode = part.opcode;
     let first = part.first;
@@ -111,11 +104,11 @@ fn write_part(
     if count == 0 {
         return to;
     }
-    let from = journal::find(j, row, units, marks, opcode, first);
+    let from = journal::find(j, selection, marks, opcode, first);
     let operands = width_of(opcode) * count;
     let code = opcode.number();
     words::store_be32(area, to, (code * 0x0100_0000 + operands) as u32);
-    write_operands(area, j, row, units, part, from);
+    write_operands(area, j, selection, part, from);
     to + 4 * (1 + operands)
 }
 
@@ -127,18 +120,11 @@ struct Handing {
 }
 
 // The three parts of a run and the terminator, behind the head.
-fn write_body(
-    area: &mut [u8],
-    j: &[u8],
-    row: &[u8; 17],
-    units: Units,
-    marks: &Marks,
-    handing: Handing,
-)
-    requires { (length area.old ≡ area_size) × (well_formed j.now ≡ true) × Marked (asking row.now units) j.now marks.now × Handed
-        (asking row.now units) j.now handing.passed handing.run }
+fn write_body(area: &mut [u8], j: &[u8], selection: &Selection, marks: &Marks, handing: Handing)
+    requires { (length area.old ≡ area_size) × (well_formed j.now ≡ true) × Marked selection.now j.now marks.now × Handed
+        selection.now j.now handing.passed handing.run }
     ensures { area.new ≡ sets area.old head_size
-        (word_bytes (body_from (asking row.now units) j.now handing.passed handing.run)) }
+        (word_bytes (body_from selection.now j.now handing.passed handing.run)) }
 {
     let passed = handing.passed;
     let run = handing.run;
@@ -148,21 +134,21 @@ fn write_body(
         count: run.deletes,
         to: HEAD_SIZE,
     };
-    let second = write_part(area, j, row, units, marks, deletes);
+    let second = write_part(area, j, selection, marks, deletes);
     let updates = Part {
         opcode: Opcode::Update,
         first: passed.updates,
         count: run.updates,
         to: second,
     };
-    let third = write_part(area, j, row, units, marks, updates);
+    let third = write_part(area, j, selection, marks, updates);
     let additions = Part {
         opcode: Opcode::Add,
         first: passed.additions,
         count: run.additions,
         to: third,
     };
-    let end = write_part(area, j, row, units, marks, additions);
+    let end = write_part(area, j, selection, marks, additions);
     words::store_be32(area, end, 0);
 }
 
@@ -177,15 +163,14 @@ pub struct Progress {
 pub fn write_answer(
     area: &mut [u8],
     j: &[u8],
-    row: &[u8; 17],
-    units: Units,
+    selection: &Selection,
     marks: &Marks,
     progress: Progress,
 ) -> bool
-    requires { (length area.old ≡ area_size) × Source (asking row.now units) j.now progress.counts marks.now ×
+    requires { (length area.old ≡ area_size) × Source selection.now j.now progress.counts marks.now ×
         (progress.state.0 ≤ total progress.counts) }
-    ensures value { result ≡ remains (reportable (asking row.now units) j.now) progress.state.0 }
-    ensures area_after { area.new ≡ written units area.old (reportable (asking row.now units) j.now)
+    ensures value { result ≡ remains (reportable selection.now j.now) progress.state.0 }
+    ensures area_after { area.new ≡ written selection.now.units area.old (reportable selection.now j.now)
         progress.state.0 }
     ensures claims { AreaClaims }
 {
@@ -194,11 +179,11 @@ pub fn write_answer(
     let run = longest_run(state.remaining(counts));
     let after = state.after(run);
     let more = after.has_more(counts);
-    write_head(area, units, after.carried(more));
+    write_head(area, selection.units, after.carried(more));
     let handing = Handing {
         passed: state.passed(counts),
         run,
     };
-    write_body(area, j, row, units, marks, handing);
+    write_body(area, j, selection, marks, handing);
     more
 }

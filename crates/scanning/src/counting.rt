@@ -1,6 +1,5 @@
 // The scan: the whole journal judged and counted in one pass, with marks noted on the way.
 ghost use Rattle.std.specs.Prelude.{◌≡◌};
-ghost use Rattle.journal.specs.Scope.{asking};
 ghost use Rattle.journal.specs.Reportable.{judgement_of};
 ghost use Rattle.journal.specs.Marks.{Marked};
 ghost use Rattle.journal.specs.Claims.Journal.{JournalClaims};
@@ -9,7 +8,7 @@ ghost use Rattle.scanning.specs.Inner.Terms.{unpacked};
 use crate::noting::note;
 use crate::stride::stride;
 use crate::weights::{WeightTable, fill_weights};
-use journal::{Counts, Mark, Marks, Opcode, Units};
+use journal::{Counts, Mark, Marks, Opcode, Selection};
 
 // The three counts that were packed in one number.
 pub fn counts_of(packed: u64) -> Counts
@@ -22,10 +21,10 @@ pub fn counts_of(packed: u64) -> Counts
     }
 }
 
-// The journal judged, and the operations counted that the row reports of the units asked for, with marks noted into a lent table; nothing where
+// The journal judged, and the operations counted that are reported of what the selection asks for, with marks noted into a lent table; nothing where
 // the journal is malformed. Which marks were noted is left free; each is true.
-pub fn scan_noting(j: &[u8], row: &[u8; 17], units: Units, marks: &mut Marks) -> Option<Counts>
-    ensures judgement_value { (result ≡ judgement_of (asking row.now units) j.now) × Marked (asking row.now units) j.now marks.new }
+pub fn scan_noting(j: &[u8], selection: &Selection, marks: &mut Marks) -> Option<Counts>
+    ensures judgement_value { (result ≡ judgement_of selection.now j.now) × Marked selection.now j.now marks.new }
     ensures rules { JournalClaims }
 {
     marks.noted = 0;
@@ -33,13 +32,13 @@ pub fn scan_noting(j: &[u8], row: &[u8; 17], units: Units, marks: &mut Marks) ->
         return None;
     }
     let mut weights: WeightTable = [0; 160];
-    fill_weights(row, &mut weights);
+    fill_weights(&selection.sets, &mut weights);
     let mut at: usize = 0;
     let mut counts: u64 = 0;
     while at < j.len() {
         let from = Mark { at, counts };
         note(marks, from);
-        let p = stride(j, row, units, &weights, from)?;
+        let p = stride(j, selection, &weights, from)?;
         at = p.at;
         counts = p.counts;
     }
@@ -47,11 +46,11 @@ pub fn scan_noting(j: &[u8], row: &[u8; 17], units: Units, marks: &mut Marks) ->
 }
 
 // The same, with a table of its own. Which marks were noted is left free; each is true.
-pub fn scan(j: &[u8], row: &[u8; 17], units: Units) -> (Option<Counts>, Marks)
-    ensures judgement_value { (result.0 ≡ judgement_of (asking row.now units) j.now) × Marked (asking row.now units) j.now result.1 }
+pub fn scan(j: &[u8], selection: &Selection) -> (Option<Counts>, Marks)
+    ensures judgement_value { (result.0 ≡ judgement_of selection.now j.now) × Marked selection.now j.now result.1 }
     ensures rules { JournalClaims }
 {
     let mut marks = Marks::none();
-    let counted = scan_noting(j, row, units, &mut marks);
+    let counted = scan_noting(j, selection, &mut marks);
     (counted, marks)
 }

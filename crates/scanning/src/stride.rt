@@ -3,13 +3,12 @@
 ghost use Rattle.std.specs.Prelude.{◌≡◌, ◌+◌, ◌*◌, ◌<◌, ◌≤◌, true, length, slice_index};
 ghost use Rattle.words.specs.Numbers.{le};
 ghost use Rattle.records.specs.Records.{size_limit};
-ghost use Rattle.journal.specs.Scope.{asking};
 ghost use Rattle.journal.specs.Journal.{largest_type};
 ghost use Rattle.journal.specs.Terms.{node_here, shape_at, asked};
 ghost use Rattle.scanning.specs.Inner.Terms.{four_headed, UnitHere, Reached, Passed, Known, Advanced, Weights};
 
 use crate::noting::MARK_SPAN;
-use journal::{Mark, Shape, Units};
+use journal::{Mark, Selection, Shape, Units};
 
 // Records are passed one at a time for so many bytes; then a stride looks for equal headers again.
 const EACH_SPAN: usize = 4096;
@@ -67,10 +66,10 @@ pub fn four_headers(j: &[u8], at: usize, size: usize, header: u64) -> bool
 // Past the records of a known header, four at a time, up to a limit. It stands as a function of its own in the object code: within the scan the loop
 // has too few registers, and is slower.
 #[inline(never)]
-fn past_same(j: &[u8], row: &[u8; 17], units: Units, from: Mark, same: Same, limit: usize) -> Mark
-    requires { Reached (asking row.now units) j.now from × Known (asking row.now units) j.now same × (limit ≤ length j.now) ×
+fn past_same(j: &[u8], selection: &Selection, from: Mark, same: Same, limit: usize) -> Mark
+    requires { Reached selection.now j.now from × Known selection.now j.now same × (limit ≤ length j.now) ×
         (length j.now ≤ size_limit) }
-    ensures { Reached (asking row.now units) j.now result × (from.at ≤ result.at) }
+    ensures { Reached selection.now j.now result × (from.at ≤ result.at) }
 {
     let mut at = from.at;
     let mut counts = from.counts;
@@ -109,20 +108,19 @@ fn has_two_units(j: &[u8], at: usize) -> bool
 // Past records of kind 4, two at a time, up to a limit, where a row has the same for both of their node types.
 fn past_units(
     j: &[u8],
-    row: &[u8; 17],
-    units: Units,
+    selection: &Selection,
     weights: &[u64; 160],
     from: Mark,
     limit: usize,
 ) -> Mark
-    requires { Reached (asking row.now units) j.now from × Weights row.now weights.now × (limit ≤ length j.now) × (length j.now ≤ size_limit) }
-    ensures { Reached (asking row.now units) j.now result × (from.at ≤ result.at) }
+    requires { Reached selection.now j.now from × Weights selection.now.sets weights.now × (limit ≤ length j.now) × (length j.now ≤ size_limit) }
+    ensures { Reached selection.now j.now result × (from.at ≤ result.at) }
 {
     let weight = weights[143];
     if weights[144] != weight {
         return from;
     }
-    let wanted = journal::wanted_unit(units);
+    let wanted = journal::wanted_unit(selection.units);
     let mut at = from.at;
     let mut passed: usize = 0;
     let mut same: usize = 0;
@@ -135,7 +133,7 @@ fn past_units(
         passed += 2;
         at += 36;
     }
-    let asked = journal::tally(units, passed, same);
+    let asked = journal::tally(selection.units, passed, same);
     Mark {
         at,
         counts: from.counts + weight * (asked as u64),
@@ -146,16 +144,15 @@ fn past_units(
 // counts all three opcodes. The step comes first, since the next turn waits for it.
 fn past_each(
     j: &[u8],
-    row: &[u8; 17],
-    units: Units,
+    selection: &Selection,
     weights: &[u64; 160],
     from: Mark,
     end: usize,
     most: u16,
 ) -> Mark
-    requires { Reached (asking row.now units) j.now from × Weights row.now weights.now × (end ≤ length j.now) × (length j.now ≤ size_limit) ×
+    requires { Reached selection.now j.now from × Weights selection.now.sets weights.now × (end ≤ length j.now) × (length j.now ≤ size_limit) ×
         (most ≤ 4) }
-    ensures { Reached (asking row.now units) j.now result × (from.at ≤ result.at) }
+    ensures { Reached selection.now j.now result × (from.at ≤ result.at) }
 {
     let mut at = from.at;
     let mut counts = from.counts;
@@ -165,7 +162,7 @@ fn past_each(
         };
         let here = at;
         at += shape.size;
-        counts += weigh(j, here, units, weights, shape);
+        counts += weigh(j, here, selection.units, weights, shape);
     }
     Mark { at, counts }
 }
@@ -173,31 +170,30 @@ fn past_each(
 // Behind a record without a unit: past those of the same header, then past others without a unit.
 fn behind_plain(
     j: &[u8],
-    row: &[u8; 17],
-    units: Units,
+    selection: &Selection,
     weights: &[u64; 160],
     from: Mark,
     same: Same,
 ) -> Mark
-    requires { Reached (asking row.now units) j.now from × Weights row.now weights.now × Known (asking row.now units) j.now same ×
+    requires { Reached selection.now j.now from × Weights selection.now.sets weights.now × Known selection.now j.now same ×
         (length j.now ≤ size_limit) }
-    ensures { Reached (asking row.now units) j.now result × (from.at ≤ result.at) }
+    ensures { Reached selection.now j.now result × (from.at ≤ result.at) }
 {
     let limit = j.len().min(from.at + MARK_SPAN);
-    let past = past_same(j, row, units, from, same, limit);
+    let past = past_same(j, selection, from, same, limit);
     let end = j.len().min(from.at + EACH_SPAN);
-    past_each(j, row, units, weights, past, end, 3)
+    past_each(j, selection, weights, past, end, 3)
 }
 
 // Behind a record of kind 4: past more of that kind, then past any.
-fn behind_unit(j: &[u8], row: &[u8; 17], units: Units, weights: &[u64; 160], from: Mark) -> Mark
-    requires { Reached (asking row.now units) j.now from × Weights row.now weights.now × (length j.now ≤ size_limit) }
-    ensures { Reached (asking row.now units) j.now result × (from.at ≤ result.at) }
+fn behind_unit(j: &[u8], selection: &Selection, weights: &[u64; 160], from: Mark) -> Mark
+    requires { Reached selection.now j.now from × Weights selection.now.sets weights.now × (length j.now ≤ size_limit) }
+    ensures { Reached selection.now j.now result × (from.at ≤ result.at) }
 {
     let limit = j.len().min(from.at + MARK_SPAN);
-    let past = past_units(j, row, units, weights, from, limit);
+    let past = past_units(j, selection, weights, from, limit);
     let end = j.len().min(from.at + EACH_SPAN);
-    past_each(j, row, units, weights, past, end, 4)
+    past_each(j, selection, weights, past, end, 4)
 }
 
 // The place past records of properties, up to another record. None of them is reported.
@@ -216,16 +212,10 @@ fn past_properties(j: &[u8], from: usize) -> usize
 }
 
 // Past a record and more behind it, where a good one stands there.
-pub fn stride(
-    j: &[u8],
-    row: &[u8; 17],
-    units: Units,
-    weights: &[u64; 160],
-    from: Mark,
-) -> Option<Mark>
-    requires { Reached (asking row.now units) j.now from × Weights row.now weights.now × (from.at < length j.now) ×
+pub fn stride(j: &[u8], selection: &Selection, weights: &[u64; 160], from: Mark) -> Option<Mark>
+    requires { Reached selection.now j.now from × Weights selection.now.sets weights.now × (from.at < length j.now) ×
         (length j.now ≤ size_limit) }
-    ensures { Advanced (asking row.now units) j.now (from.at + 1) result }
+    ensures { Advanced selection.now j.now (from.at + 1) result }
 {
     let at = from.at;
     let Some(shape) = journal::judge(j, at, 4) else {
@@ -240,15 +230,15 @@ pub fn stride(
     };
     let first = Mark {
         at: at + shape.size,
-        counts: from.counts + weigh(j, at, units, weights, shape),
+        counts: from.counts + weigh(j, at, selection.units, weights, shape),
     };
     if shape.kind == 4 {
-        return Some(behind_unit(j, row, units, weights, first));
+        return Some(behind_unit(j, selection, weights, first));
     }
     let same = Same {
         header: header_at(j, at),
         size: shape.size,
         weight: weight_of(weights, shape),
     };
-    Some(behind_plain(j, row, units, weights, first, same))
+    Some(behind_plain(j, selection, weights, first, same))
 }

@@ -3,7 +3,6 @@ use mathlib.Core.Path.{◌≡◌, ap, ◌∙◌}
 use Prim.Native.Nat.{ℕ, ◌+◌, ◌≤◌}
 use native.Mathlib.Omega.{arith}
 use lib.Seq.{sets}
-use Rattle.journal.specs.Scope.{asking}
 use Rattle.nodes.proofs.Answers.{counts_small, handed, answer_stored}
 use Rattle.nodes.proofs.Claims.{area_claims}
 use Rattle.nodes.proofs.Listed.{few, remains_is, next-is}
@@ -17,7 +16,7 @@ after-after-requires c =
     let fitting : let a = c.args in c.longest_run-run.result ≡ cut (remaining_of a.progress.counts a.progress.state.0) =
     c.longest_run-run.ensures.value ∙ ap cut c.remaining.ensures in
     let sums : let a = c.args in (a.progress.state.0 + total c.longest_run-run.result ≤ total a.progress.counts) × (total a.progress.counts ≤ 3_145_728) =
-    let selection = asking c.args.row.now c.args.units in
+    let selection = c.args.selection.now in
     let j = c.args.j.now in
     (few selection j c.args.progress.counts c.args.progress.state.0 c.requires.1.counted c.requires.2 _ (fitting), counts_small selection j _ c.requires.1.good c.requires.1.counted) in
     omega (arith, sums)
@@ -27,7 +26,7 @@ has_more-more-requires c =
     let fitting : let a = c.args in c.longest_run-run.result ≡ cut (remaining_of a.progress.counts a.progress.state.0) =
     c.longest_run-run.ensures.value ∙ ap cut c.remaining.ensures in
     let sums : let a = c.args in (a.progress.state.0 + total c.longest_run-run.result ≤ total a.progress.counts) × (total a.progress.counts ≤ 3_145_728) =
-    let selection = asking c.args.row.now c.args.units in
+    let selection = c.args.selection.now in
     let j = c.args.j.now in
     (few selection j c.args.progress.counts c.args.progress.state.0 c.requires.1.counted c.requires.2 _ (fitting), counts_small selection j _ c.requires.1.good c.requires.1.counted) in
     omega (arith, sums)
@@ -37,7 +36,7 @@ write_body-requires c =
     let fitting : let a = c.args in c.longest_run-run.result ≡ cut (remaining_of a.progress.counts a.progress.state.0) =
     c.longest_run-run.ensures.value ∙ ap cut c.remaining.ensures in
     let f = fitting in
-    let h = handed (asking c.args.row.now c.args.units) c.args.j.now c.args.progress.counts c.args.progress.state.0 c.requires.1.counted c.requires.2 _ f in
+    let h = handed c.args.selection.now c.args.j.now c.args.progress.counts c.args.progress.state.0 c.requires.1.counted c.requires.2 _ f in
     (c.write_head.auto.area ∙ c.requires.0, c.requires.1.good, c.requires.1.marked, rw c.passed.ensures h)
 
 pub returns : goal.returns
@@ -45,13 +44,13 @@ returns c =
     let fitting : let a = c.args in c.longest_run-run.result ≡ cut (remaining_of a.progress.counts a.progress.state.0) =
     c.longest_run-run.ensures.value ∙ ap cut c.remaining.ensures in
     let a = c.args in
-    let selection = asking a.row.now a.units in
+    let selection = a.selection.now in
     let j = a.j.now in
     let k = a.progress.state.0 in
     let f = fitting in
     let state = next-is selection j a.progress.counts k c.requires.1.counted c.requires.2 _ f c.after-after.result.0 c.carried.result.0 c.has_more-more.result c.after-after.ensures c.has_more-more.ensures c.carried.ensures in record {
       value = c.has_more-more.ensures ∙ remains_is selection j a.progress.counts k c.requires.1.counted c.requires.2 _ f _ c.after-after.ensures;
-      area_after = answer_stored selection j a.progress.counts k c.requires.1.counted c.requires.2 _ f a.units a.area.now c.write_head.new.area c.write_body.new.area c.requires.0
-          (c.write_head.ensures ∙ ap (λ (n : ℕ). sets a.area.now 0 (carried_head a.units n)) state) (rw c.passed.ensures at c.write_body.ensures);
+      area_after = answer_stored selection j a.progress.counts k c.requires.1.counted c.requires.2 _ f a.selection.now.units a.area.now c.write_head.new.area c.write_body.new.area c.requires.0
+          (c.write_head.ensures ∙ ap (λ (n : ℕ). sets a.area.now 0 (carried_head a.selection.now.units n)) state) (rw c.passed.ensures at c.write_body.ensures);
       claims = area_claims;
     }

@@ -1,7 +1,6 @@
 -- `writing::write_body` meets its contract.
 use mathlib.Core.Path.{◌∙◌}
 use native.Mathlib.Omega.{arith}
-use Rattle.journal.specs.Scope.{asking}
 use Rattle.nodes.proofs.Answers.{body_stored}
 use Rattle.nodes.proofs.Writes.{part_length}
 use Rattle.journal.proofs.Opcodes.{code_1, code_2, code_3}
@@ -32,7 +31,7 @@ unfolding body_from
 returns c =
     let a = c.args in
     let h = c.requires.3 in
-    let selection = asking a.row.now a.units in
+    let selection = a.selection.now in
     let j = a.j.now in
     body_stored a.area.now c.write_part-second.new.area c.write_part-third.new.area c.write_part-end.new.area c.store_be32.new.s
     (part_from selection j 1 a.handing.passed.deletes a.handing.run.deletes) (part_from selection j 2 a.handing.passed.updates a.handing.run.updates) (part_from selection j 3 a.handing.passed.additions a.handing.run.additions)

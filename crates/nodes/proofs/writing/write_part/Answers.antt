@@ -4,7 +4,6 @@ use mathlib.Core.Path.{sym, ap, ◌∙◌}
 use Prim.Native.Nat.{ℕ, ◌+◌, ◌*◌, ◌≤◌}
 use native.Mathlib.Omega.{arith}
 use lib.ListN.{length, take, drop}
-use Rattle.journal.specs.Scope.{asking}
 use Rattle.journal.specs.Journal.{entries, number}
 use Rattle.journal.proofs.Opcodes.{number_is}
 use Rattle.journal.specs.Reportable.{chosen}
@@ -17,7 +16,7 @@ use Rattle.nodes.proofs.writing.write_part.Goals as goal
 pub returns-then-count-eq0 : goal.returns-then-count-eq0
 returns-then-count-eq0 c =
     let a = c.args in
-    let both = no_part a.area.now (asking a.row.now a.units) a.j.now (number a.part.opcode) a.part.first a.part.count a.part.to c.if-count-eq0.true in
+    let both = no_part a.area.now a.selection.now a.j.now (number a.part.opcode) a.part.first a.part.count a.part.to c.if-count-eq0.true in
     record { value = both.0; area_after = both.1 }
 
 pub find-from-requires : goal.find-from-requires
@@ -52,8 +51,8 @@ store_be32-requires c =
 
 pub write_operands-requires : goal.write_operands-requires
 write_operands-requires c =
-    let due : let a = c.args in Due (asking a.row.now a.units) a.j.now (number a.part.opcode) c.find-from.result a.part.count =
-    found_due (asking c.args.row.now c.args.units) c.args.j.now _ _ _ _ c.find-from.ensures c.requires.0 (number_is c.args.part.opcode) (omega (arith, c.requires.2, c.if-count-eq0.false)) in
+    let due : let a = c.args in Due a.selection.now a.j.now (number a.part.opcode) c.find-from.result a.part.count =
+    found_due c.args.selection.now c.args.j.now _ _ _ _ c.find-from.ensures c.requires.0 (number_is c.args.part.opcode) (omega (arith, c.requires.2, c.if-count-eq0.false)) in
     let sizes : let a = c.args in Sized (width (number a.part.opcode)) c.width_of.result a.part.count =
     sized (number c.args.part.opcode) _ _ c.width_of.ensures (omega (arith, c.if-count-eq0.false)) c.requires.3 in
     let room : let a = c.args in a.part.to + 4 * (1 + width (number a.part.opcode) * a.part.count) ≤ length a.area.now =
@@ -84,10 +83,10 @@ pub returns : goal.returns
 returns c =
     let sizes : let a = c.args in Sized (width (number a.part.opcode)) c.width_of.result a.part.count =
     sized (number c.args.part.opcode) _ _ c.width_of.ensures (omega (arith, c.if-count-eq0.false)) c.requires.3 in
-    let due : let a = c.args in Due (asking a.row.now a.units) a.j.now (number a.part.opcode) c.find-from.result a.part.count =
-    found_due (asking c.args.row.now c.args.units) c.args.j.now _ _ _ _ c.find-from.ensures c.requires.0 (number_is c.args.part.opcode) (omega (arith, c.requires.2, c.if-count-eq0.false)) in
+    let due : let a = c.args in Due a.selection.now a.j.now (number a.part.opcode) c.find-from.result a.part.count =
+    found_due c.args.selection.now c.args.j.now _ _ _ _ c.find-from.ensures c.requires.0 (number_is c.args.part.opcode) (omega (arith, c.requires.2, c.if-count-eq0.false)) in
     let a = c.args in
-    let selection = asking a.row.now a.units in
+    let selection = a.selection.now in
     let j = a.j.now in
     let n = sizes in
     let found = found_words selection j _ _ _ a.part.count c.find-from.ensures in record {

@@ -1,5 +1,4 @@
 use Rattle.std.proofs.Common.{◌≡◌, ◌+◌, ◌≤◌, true, length, arith}
-use Rattle.journal.specs.Scope.{asking}
 use Rattle.journal.specs.Terms.{node_here, shape_at}
 use Rattle.scanning.specs.Inner.Terms.{Reached}
 use Rattle.journal.proofs.RecordLaws.{given_good, good_size_lem, good_fits}
@@ -41,7 +40,7 @@ overflow_add-counts c =
     let good : let j = c.args.j.now in let at = c.loop-at.at in (node_here j at ≡ true) × (c.in-Some.shape ≡ shape_at j at) =
     given_good c.args.j.now c.loop-at.at
     c.args.most _ _ c.in-Some.is c.judge.ensures in
-    let turn : Reached (asking c.args.row.now c.args.units) c.args.j.now (position (c.loop-at.at + c.in-Some.shape.size) (c.loop-at.counts + c.weigh-counts.result)) =
+    let turn : Reached c.args.selection.now c.args.j.now (position (c.loop-at.at + c.in-Some.shape.size) (c.loop-at.counts + c.weigh-counts.result)) =
     reached_judged _ c.args.j.now c.args.weights.now c.loop-at.at c.loop-at.counts c.requires.3 c.requires.1 c.loop-at.invariant.0 _ _ (omega (arith, c.requires.2)) (good) c.weigh-counts.ensures in
     omega (arith, turn)
 
@@ -61,7 +60,7 @@ loop-at-preserved c =
     let good : let j = c.args.j.now in let at = c.loop-at.at in (node_here j at ≡ true) × (c.in-Some.shape ≡ shape_at j at) =
     given_good c.args.j.now c.loop-at.at
     c.args.most _ _ c.in-Some.is c.judge.ensures in
-    let turn : Reached (asking c.args.row.now c.args.units) c.args.j.now (position (c.loop-at.at + c.in-Some.shape.size) (c.loop-at.counts + c.weigh-counts.result)) =
+    let turn : Reached c.args.selection.now c.args.j.now (position (c.loop-at.at + c.in-Some.shape.size) (c.loop-at.counts + c.weigh-counts.result)) =
     reached_judged _ c.args.j.now c.args.weights.now c.loop-at.at c.loop-at.counts c.requires.3 c.requires.1 c.loop-at.invariant.0 _ _ (omega (arith, c.requires.2)) (good) c.weigh-counts.ensures in
     (turn, omega (arith, c.loop-at.invariant.1))
 

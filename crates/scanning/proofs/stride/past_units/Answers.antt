@@ -1,6 +1,5 @@
 use Rattle.std.proofs.Common.{◌+◌, ◌*◌, ◌≤◌, eqb, get_or, add-zero, mul-zero, arith}
 use Rattle.records.proofs.Choosing.{one_if_le}
-use Rattle.journal.specs.Scope.{asking}
 use Rattle.journal.specs.Terms.{tallied}
 use Rattle.scanning.specs.Inner.Terms.{Reached}
 use Rattle.journal.proofs.RecordLaws.{asked_same}
@@ -14,7 +13,7 @@ returns-then-weights-weight c =
 
 pub loop-at-init : goal.loop-at-init
 loop-at-init c =
-    (rw (asked_none c.args.units, mul-zero (get_or c.args.weights.now 143 0), add-zero c.args.from.counts) c.requires.0, omega arith, omega arith, omega arith)
+    (rw (asked_none c.args.selection.now.units, mul-zero (get_or c.args.weights.now 143 0), add-zero c.args.from.counts) c.requires.0, omega arith, omega arith, omega arith)
 
 pub overflow_add-at : goal.overflow_add-at
 overflow_add-at c =
@@ -83,8 +82,8 @@ loop-at-smaller c =
 
 pub loop-at-preserved : goal.loop-at-preserved
 loop-at-preserved c =
-    let turn : Reached (asking c.args.row.now c.args.units) c.args.j.now (position (c.loop-at.at + 36) (c.args.from.counts + get_or c.args.weights.now 143 0 * tallied c.args.units (c.loop-at.passed + 2) (c.loop-at.same + (c.same_unit.result + c.same_unit-in-loop-at.result)))) =
-    let units = c.args.units in
+    let turn : Reached c.args.selection.now c.args.j.now (position (c.loop-at.at + 36) (c.args.from.counts + get_or c.args.weights.now 143 0 * tallied c.args.selection.now.units (c.loop-at.passed + 2) (c.loop-at.same + (c.same_unit.result + c.same_unit-in-loop-at.result)))) =
+    let units = c.args.selection.now.units in
     let two = c.has_two_units.ensures (c.if-not-has_two_units.false) in
     rw (← tally_two units c.loop-at.passed c.loop-at.same c.same_unit.result c.same_unit-in-loop-at.result)
     (reached_units _ c.args.j.now c.args.weights.now c.requires.3 c.requires.1

@@ -1,7 +1,6 @@
 -- `stride::stride` meets its contract.
 use Rattle.std.proofs.Common.{◌≡◌, ◌+◌, ◌≤◌, true, length, ap, ◌∙◌, arith}
 use Rattle.journal.specs.declared.judging.Shape.{Shape}
-use Rattle.journal.specs.Scope.{asking}
 use Rattle.journal.specs.Terms.{node_here, shape_at}
 use Rattle.scanning.specs.Inner.Terms.{Reached}
 use Rattle.journal.proofs.RecordLaws.{given_bad, given_good, good_size_lem, good_fits}
@@ -17,7 +16,7 @@ pub returns-then-past-at : goal.returns-then-past-at
 returns-then-past-at c =
     let j = c.args.j.now in
     let none = given_bad j c.args.from.at _ c.in_default.is c.judge.ensures in
-    reached_bad (asking c.args.row.now c.args.units) j c.args.from.at c.args.from.counts c.requires.3 c.requires.0 c.requires.2
+    reached_bad c.args.selection.now j c.args.from.at c.args.from.counts c.requires.3 c.requires.0 c.requires.2
     (neither_good j c.args.from.at none (c.past_properties-past.ensures.none c.if-past-at.true))
 
 pub overflow_add-first : goal.overflow_add-first
@@ -38,7 +37,7 @@ pub overflow_add-first-2 : goal.overflow_add-first-2
 overflow_add-first-2 c =
     let good : (node_here c.args.j.now c.args.from.at ≡ true) × (c.in-Some.shape ≡ shape_at c.args.j.now c.args.from.at) =
     given_good c.args.j.now c.args.from.at 4 _ _ c.in-Some.is c.judge.ensures in
-    let first : Reached (asking c.args.row.now c.args.units) c.args.j.now (position (c.args.from.at + c.in-Some.shape.size) (c.args.from.counts + c.weigh.result)) =
+    let first : Reached c.args.selection.now c.args.j.now (position (c.args.from.at + c.in-Some.shape.size) (c.args.from.counts + c.weigh.result)) =
     reached_judged _ c.args.j.now c.args.weights.now c.args.from.at c.args.from.counts c.requires.3 c.requires.1 c.requires.0 _ _ c.requires.2
     (good) c.weigh.ensures in
     omega (arith, first)
@@ -47,7 +46,7 @@ pub behind_unit-requires : goal.behind_unit-requires
 behind_unit-requires c =
     let good : (node_here c.args.j.now c.args.from.at ≡ true) × (c.in-Some.shape ≡ shape_at c.args.j.now c.args.from.at) =
     given_good c.args.j.now c.args.from.at 4 _ _ c.in-Some.is c.judge.ensures in
-    let first : Reached (asking c.args.row.now c.args.units) c.args.j.now (position (c.args.from.at + c.in-Some.shape.size) (c.args.from.counts + c.weigh.result)) =
+    let first : Reached c.args.selection.now c.args.j.now (position (c.args.from.at + c.in-Some.shape.size) (c.args.from.counts + c.weigh.result)) =
     reached_judged _ c.args.j.now c.args.weights.now c.args.from.at c.args.from.counts c.requires.3 c.requires.1 c.requires.0 _ _ c.requires.2
     (good) c.weigh.ensures in (
       first,
@@ -81,16 +80,16 @@ pub behind_plain-requires : goal.behind_plain-requires
 behind_plain-requires c =
     let good : (node_here c.args.j.now c.args.from.at ≡ true) × (c.in-Some.shape ≡ shape_at c.args.j.now c.args.from.at) =
     given_good c.args.j.now c.args.from.at 4 _ _ c.in-Some.is c.judge.ensures in
-    let first : Reached (asking c.args.row.now c.args.units) c.args.j.now (position (c.args.from.at + c.in-Some.shape.size) (c.args.from.counts + c.weigh.result)) =
+    let first : Reached c.args.selection.now c.args.j.now (position (c.args.from.at + c.in-Some.shape.size) (c.args.from.counts + c.weigh.result)) =
     reached_judged _ c.args.j.now c.args.weights.now c.args.from.at c.args.from.counts c.requires.3 c.requires.1 c.requires.0 _ _ c.requires.2
     (good) c.weigh.ensures in
     let g = good in
     let kind = ap (λ (x : Shape). x.kind) g.1 in
-    let weight = c.weight_of.ensures ∙ shape_weight c.args.row.now c.args.j.now c.args.weights.now c.args.from.at _ c.requires.1 g.0 g.1 in
+    let weight = c.weight_of.ensures ∙ shape_weight c.args.selection.now.sets c.args.j.now c.args.weights.now c.args.from.at _ c.requires.1 g.0 g.1 in
     let bytes = c.shared_slice_known-1.given in (
       first,
       c.requires.1,
-      known (asking c.args.row.now c.args.units) c.args.j.now (λ i. omega (arith, bytes i)) c.args.from.at g.0
+      known c.args.selection.now c.args.j.now (λ i. omega (arith, bytes i)) c.args.from.at g.0
           (λ q. c.if-shape-eq4.false (kind ∙ q)) _ c.header_at.ensures (ap (λ (x : Shape). x.size) g.1) weight,
       c.requires.3,
     )
@@ -98,7 +97,7 @@ behind_plain-requires c =
 pub returns-in_default : goal.returns-in_default
 returns-in_default c =
     let p = c.past_properties-past.ensures in
-    (p.reached (asking c.args.row.now c.args.units) c.args.from.counts c.requires.0, omega (arith, p.onward, c.if-past-at.false))
+    (p.reached c.args.selection.now c.args.from.counts c.requires.0, omega (arith, p.onward, c.if-past-at.false))
 
 pub returns : goal.returns
 returns c =
