@@ -17,34 +17,36 @@ pub struct FlatLocation {
     pub length: usize,
 }
 
-fn flat_location(location: Location) -> FlatLocation
-    ensures { result ≡ flat_location location }
-{
-    match location {
-        Location::Refused(refusal, at) => FlatLocation {
-            number: readers::index_refusal(refusal),
-            buffer: 0,
-            offset: at,
-            length: 0,
-        },
-        Location::NotFound => FlatLocation {
-            number: 34,
-            buffer: 0,
-            offset: 0,
-            length: 0,
-        },
-        Location::InArea(part) => FlatLocation {
-            number: 0,
-            buffer: 1,
-            offset: part.start,
-            length: part.length,
-        },
-        Location::InFixed(part) => FlatLocation {
-            number: 0,
-            buffer: 2,
-            offset: part.start,
-            length: part.length,
-        },
+impl From<Location> for FlatLocation {
+    ghost from_gives = { λ l f. f ≡ flat_location l };
+
+    fn from(location: Location) -> FlatLocation {
+        match location {
+            Location::Refused(refusal, at) => FlatLocation {
+                number: u32::from(refusal),
+                buffer: 0,
+                offset: at,
+                length: 0,
+            },
+            Location::NotFound => FlatLocation {
+                number: 34,
+                buffer: 0,
+                offset: 0,
+                length: 0,
+            },
+            Location::InArea(part) => FlatLocation {
+                number: 0,
+                buffer: 1,
+                offset: part.start,
+                length: part.length,
+            },
+            Location::InFixed(part) => FlatLocation {
+                number: 0,
+                buffer: 2,
+                offset: part.start,
+                length: part.length,
+            },
+        }
     }
 }
 
@@ -54,5 +56,5 @@ pub extern "C" fn draugsten_lookup(area: &[u8], fixed: &[u8], index: u32) -> Fla
     ensures value { result ≡ flat_location (location_of area.now fixed.now index) }
     ensures promise { LookupPromise }
 {
-    flat_location(locations::locate(area, fixed, index))
+    FlatLocation::from(locations::locate(area, fixed, index))
 }

@@ -28,51 +28,56 @@ pub struct FlatStep {
     pub cursor: FlatCursor,
 }
 
-fn flat_cursor(c: Cursor) -> FlatCursor
-    ensures { result ≡ flat_cursor c }
-{
-    FlatCursor {
-        at: c.at,
-        left: c.left,
+impl From<Cursor> for FlatCursor {
+    ghost from_gives = { λ c f. f ≡ flat_cursor c };
+
+    fn from(c: Cursor) -> FlatCursor {
+        FlatCursor {
+            at: c.at,
+            left: c.left,
+        }
     }
 }
 
-fn cursor_from(f: FlatCursor) -> Cursor
-    ensures { result ≡ cursor_from f }
-{
-    Cursor {
-        at: f.at,
-        left: f.left,
+impl From<FlatCursor> for Cursor {
+    ghost from_gives = { λ f c. c ≡ cursor_from f };
+
+    fn from(f: FlatCursor) -> Cursor {
+        Cursor {
+            at: f.at,
+            left: f.left,
+        }
     }
 }
 
-fn flat_step(next: Advance) -> FlatStep
-    ensures { result ≡ flat_step next }
-{
-    let cursor = flat_cursor(next.cursor);
-    let given = next.given;
-    match given {
-        Given::Entry(index, part) => FlatStep {
-            number: 0,
-            index,
-            offset: part.start,
-            length: part.length,
-            cursor,
-        },
-        Given::End => FlatStep {
-            number: 35,
-            index: 0,
-            offset: 0,
-            length: 0,
-            cursor,
-        },
-        Given::Refused(refusal, at) => FlatStep {
-            number: readers::index_refusal(refusal),
-            index: 0,
-            offset: at,
-            length: 0,
-            cursor,
-        },
+impl From<Advance> for FlatStep {
+    ghost from_gives = { λ a f. f ≡ flat_step a };
+
+    fn from(next: Advance) -> FlatStep {
+        let cursor = FlatCursor::from(next.cursor);
+        match next.given {
+            Given::Entry(index, part) => FlatStep {
+                number: 0,
+                index,
+                offset: part.start,
+                length: part.length,
+                cursor,
+            },
+            Given::End => FlatStep {
+                number: 35,
+                index: 0,
+                offset: 0,
+                length: 0,
+                cursor,
+            },
+            Given::Refused(refusal, at) => FlatStep {
+                number: u32::from(refusal),
+                index: 0,
+                offset: at,
+                length: 0,
+                cursor,
+            },
+        }
     }
 }
 
@@ -82,7 +87,7 @@ pub extern "C" fn draugsten_view_start(area: &[u8]) -> FlatCursor
     ensures value { result ≡ flat_cursor (start_of area.now) }
     ensures promise { ViewPromise }
 {
-    flat_cursor(Cursor::start(area))
+    FlatCursor::from(Cursor::start(area))
 }
 
 // A step of a view, from any cursor.
@@ -91,5 +96,5 @@ pub extern "C" fn draugsten_view_step(area: &[u8], cursor: FlatCursor) -> FlatSt
     ensures value { result ≡ flat_step (advance_of area.now (cursor_from cursor)) }
     ensures promise { ViewPromise }
 {
-    flat_step(locations::advance_at(area, cursor_from(cursor)))
+    FlatStep::from(locations::advance_at(area, Cursor::from(cursor)))
 }

@@ -16,9 +16,8 @@ use Rattle.words.proofs.Choice.{choose, decide, and_left, and_right}
 use Rattle.words.proofs.Zeros.{zeros_byte}
 use Rattle.inventory.specs.Listing.{Entry}
 use Rattle.indices.specs.declared.reading.Refusal.{Refusal}
-use Rattle.indices.specs.declared.reading.Fault.{Fault}
-use Rattle.indices.specs.declared.reading.Fault.TheVariants.{Fine, Bad}
-use Rattle.indices.specs.declared.reading.Check.TheVariants.{Entries}
+use Rattle.std.specs.Prelude.{Result, Ok, Err}
+use Rattle.words.specs.declared.refused.Refused.{Refused}
 use Rattle.indices.specs.Area.{field_limit}
 use Rattle.indices.specs.Reading.{length_at, field_at, good_length, good_field, fault_at, entry_at, with_entry, judged_by, read_from, reading, check_of}
 use Rattle.indices.proofs.IndexLaws.{judged, fine_inside}
@@ -72,7 +71,7 @@ good_length_lem n e =
     let whole = eqb-true (n % 4) 0 (and_right (leb n field_limit) _ (and_right (leb 1 n) _ e)) in
     omega arith
 
-module _ (area : List ℕ) (at : ℕ) (fine : fault_at area at ≡ Fine) where
+module _ (area : List ℕ) (at : ℕ) (fine : fault_at area at ≡ Ok tt) where
   field : Good (field_at area at)
   field = good (field_at area at) (judged area at fine).2
 
@@ -106,18 +105,18 @@ module _ (area : List ℕ) (at : ℕ) (fine : fault_at area at ≡ Fine) where
 
 -- the next n sets from a place on have none
 abbrev pub Reads : ℕ → List ℕ → ℕ → Type 0
-Reads n area at = check_of (read_from n area at) ≡ Entries n
+Reads n area at = check_of (read_from n area at) ≡ Ok n
 
-counts_more : (e : Entry) (n : ℕ) (r : Reading Entry Refusal) → check_of r ≡ Entries n → check_of (with_entry e r) ≡ Entries (suc n)
+counts_more : (e : Entry) (n : ℕ) (r : Reading Entry Refusal) → check_of r ≡ Ok n → check_of (with_entry e r) ≡ Ok (suc n)
 counts_more e n (read es) h = let k : length es ≡ n = cc in rw k
 counts_more e n (refused b k) h = cc
 
-judged_next : (e : Entry) (at m : ℕ) (f : Fault) (r : Reading Entry Refusal) → check_of (judged_by f at (with_entry e r)) ≡ Entries m → (f ≡ Fine) × (m ≡ suc (m - 1)) × (check_of r ≡ Entries (m - 1))
-judged_next e at m (Bad b) r h = (cc, cc, cc)
-judged_next e at m Fine (read es) h = let k : suc (length es) ≡ m = cc in let l : length es ≡ m - 1 = omega arith in (refl, omega arith, ap Entries l)
-judged_next e at m Fine (refused b k) h = (refl, cc, cc)
+judged_next : (e : Entry) (at m : ℕ) (f : Result (Unit {0}) Refusal) (r : Reading Entry Refusal) → check_of (judged_by f at (with_entry e r)) ≡ Ok m → (f ≡ Ok tt) × (m ≡ suc (m - 1)) × (check_of r ≡ Ok (m - 1))
+judged_next e at m (Err b) r h = (cc, cc, cc)
+judged_next e at m (Ok u) (read es) h = let k : suc (length es) ≡ m = cc in let l : length es ≡ m - 1 = omega arith in (refl, omega arith, ap {B = Result ℕ (Refused Refusal)} Ok l)
+judged_next e at m (Ok u) (refused b k) h = (refl, cc, cc)
 
-pub reads_next : (n : ℕ) (area : List ℕ) (at : ℕ) → Reads (suc n) area at → (fault_at area at ≡ Fine) × Reads n area (at + (8 + length_at area at))
+pub reads_next : (n : ℕ) (area : List ℕ) (at : ℕ) → Reads (suc n) area at → (fault_at area at ≡ Ok tt) × Reads n area (at + (8 + length_at area at))
 unfolding read_from
 reads_next n area at h =
     let next = judged_next (entry_at area at) at (suc n) (fault_at area at) (read_from n area (at + (8 + length_at area at))) h in
@@ -132,7 +131,7 @@ reads_fewer (suc k) (suc n) area at h r =
     rw next.0 (counts_more (entry_at area at) k (read_from k area (at + (8 + length_at area at))) (reads_fewer k n area (at + (8 + length_at area at)) (omega arith) next.1))
 
 -- a check that passes n sets counts n
-reads_all : (n m : ℕ) (area : List ℕ) (at : ℕ) → check_of (read_from n area at) ≡ Entries m → n ≡ m
+reads_all : (n m : ℕ) (area : List ℕ) (at : ℕ) → check_of (read_from n area at) ≡ Ok m → n ≡ m
 unfolding read_from
 reads_all zero m area at h = cc
 reads_all (suc n) m area at h =
@@ -140,7 +139,7 @@ reads_all (suc n) m area at h =
     omega (arith, next.1, reads_all n (m - 1) area (at + (8 + length_at area at)) next.2)
 
 -- the first sets of an area that a check passes
-pub area_reads : (area : List ℕ) (n k : ℕ) → check_of (reading area) ≡ Entries n → k ≤ n → Reads k area 4
+pub area_reads : (area : List ℕ) (n k : ℕ) → check_of (reading area) ≡ Ok n → k ≤ n → Reads k area 4
 unfolding reading
 area_reads area n k h l = decide (ltb (length area) 4) (λ t. let e = rw t at h in cc)
     (λ t. let e = rw t at h in let same : be32 area 0 ≡ n = reads_all (be32 area 0) n area 4 e in reads_fewer k n area 4 l (rw same at e))

@@ -19,14 +19,11 @@ use Rattle.std.proofs.lemmas.Grind.{common_steps}
 use Rattle.inventory.specs.Listing.{Entry}
 use Rattle.indices.specs.declared.reading.Refusal.{Refusal}
 use Rattle.indices.specs.declared.reading.Refusal.TheVariants.{Past, Length, Code}
-use Rattle.indices.specs.declared.reading.Fault.{Fault}
-use Rattle.indices.specs.declared.reading.Fault.TheVariants.{Fine, Bad}
-use Rattle.indices.specs.declared.reading.Check.{Check}
-use Rattle.indices.specs.declared.reading.Check.TheVariants.{Entries, Refused}
+use Rattle.std.specs.Prelude.{None, Some, Result, Ok, Err}
+use Rattle.words.specs.declared.refused.Refused.{Refused}
 use Rattle.words.specs.Reading.{Reading, read, refused}
 use Rattle.indices.specs.Reading.{length_at, field_at, good_length, good_field, fault_at, entry_at, with_entry, judged_by, read_from, reading, check_of}
 use Rattle.indices.specs.declared.reading.Cursor.{Cursor}
-use Rattle.indices.specs.declared.reading.Next.TheVariants.{Found, End}
 use Rattle.indices.specs.Cursor.{entries_from, remaining, next_of}
 use Rattle.indices.specs.Claims.Cursor.{Gives, StepsGive, EntriesInOrder}
 
@@ -77,14 +74,17 @@ code_part area at =
 -- ---- the check of an area from a place on
 
 -- a set with no fault has a good length, is inside the area, and has a good field
-fine_judged : (a b c d : Bool) → cond a (Bad Past) (cond (not b) (Bad Length) (cond c (Bad Past) (cond (not d) (Bad Code) Fine))) ≡ Fine → (b ≡ true) × (c ≡ false) × (d ≡ true)
+abbrev first_fault : Bool → Bool → Bool → Bool → Result (Unit {0}) Refusal
+first_fault a b c d = cond a (Err Past) (cond (not b) (Err Length) (cond c (Err Past) (cond (not d) (Err Code) (Ok tt))))
+
+fine_judged : (a b c d : Bool) → first_fault a b c d ≡ Ok tt → (b ≡ true) × (c ≡ false) × (d ≡ true)
 fine_judged true b c d h = (cc, cc, cc)
 fine_judged false false c d h = (cc, cc, cc)
 fine_judged false true true d h = (refl, cc, cc)
 fine_judged false true false false h = (refl, refl, cc)
 fine_judged false true false true h = (refl, refl, refl)
 
-module _ (area : List ℕ) (at : ℕ) (fine : fault_at area at ≡ Fine) where
+module _ (area : List ℕ) (at : ℕ) (fine : fault_at area at ≡ Ok tt) where
   pub judged : (good_length (length_at area at) ≡ true) × (ltb (length area - at) (8 + length_at area at) ≡ false) × (good_field (field_at area at) ≡ true)
   unfolding fault_at
   judged = fine_judged (ltb (length area - at) 8) (good_length (length_at area at)) (ltb (length area - at) (8 + length_at area at)) (good_field (field_at area at)) fine
@@ -99,16 +99,16 @@ read_next zero area at h = absurd (omega arith)
 read_next (suc n) area at h = rw (sub-one (suc n))
 
 -- what a check tells that has passed so many sets
-abbrev counted : ℕ → Reading Entry Refusal → Check
-counted n (read es) = Entries (n + length es)
-counted n (refused r at) = Refused r at
+abbrev counted : ℕ → Reading Entry Refusal → Result ℕ (Refused Refusal)
+counted n (read es) = Ok (n + length es)
+counted n (refused r at) = Err (record { refusal = r; offset = at })
 
 counted_none : (r : Reading Entry Refusal) → check_of r ≡ counted 0 r
-counted_none (read es) = ap Entries (sym (zero-add (length es)))
+counted_none (read es) = ap {B = Result ℕ (Refused Refusal)} Ok (sym (zero-add (length es)))
 counted_none (refused r at) = refl
 
 counted_more : (n : ℕ) (e : Entry) (r : Reading Entry Refusal) → counted n (with_entry e r) ≡ counted (n + 1) r
-counted_more n e (read es) = let more : n + suc (length es) ≡ n + 1 + length es = omega arith in ap Entries more
+counted_more n e (read es) = let more : n + suc (length es) ≡ n + 1 + length es = omega arith in ap {B = Result ℕ (Refused Refusal)} Ok more
 counted_more n e (refused r at) = refl
 
 -- a check that stands at the place of a set: what it finds from there on is what the whole check finds
@@ -124,7 +124,7 @@ stands_first area count h e =
     record { inside = h; few = omega arith; finds = rw (le-ltb (length area) 4 h, all, e) (counted_none (read_from (be32 area 0) area 4)) }
 
 module _ (area : List ℕ) (count at passed : ℕ) (s : Stands area count at passed) where
-  pub stands_end : count ≤ passed → Entries count ≡ check_of (reading area)
+  pub stands_end : count ≤ passed → Ok count ≡ check_of (reading area)
   unfolding read_from
   stands_end h =
       let none : count - passed ≡ 0 = omega arith in
@@ -135,10 +135,10 @@ module _ (area : List ℕ) (count at passed : ℕ) (s : Stands area count at pas
     ahead : read_from (count - passed) area at ≡ judged_by (fault_at area at) at (with_entry (entry_at area at) (read_from (count - passed - 1) area (at + (8 + length_at area at))))
     ahead = read_next (count - passed) area at (omega arith)
 
-    pub stands_bad : (r : Refusal) → fault_at area at ≡ Bad r → Refused r at ≡ check_of (reading area)
+    pub stands_bad : (r : Refusal) → fault_at area at ≡ Err r → Err (record { refusal = r; offset = at }) ≡ check_of (reading area)
     stands_bad r e = rw (s.finds, ahead, e)
 
-    pub stands_fine : (n : ℕ) → n ≡ be32 area (at + 4) → fault_at area at ≡ Fine → Stands area count (at + 8 + n) (passed + 1)
+    pub stands_fine : (n : ℕ) → n ≡ be32 area (at + 4) → fault_at area at ≡ Ok tt → Stands area count (at + 8 + n) (passed + 1)
     unfolding length_at
     stands_fine n l e =
         let less : count - passed - 1 ≡ count - (passed + 1) = omega arith in
@@ -151,14 +151,14 @@ module _ (area : List ℕ) (count at passed : ℕ) (s : Stands area count at pas
 -- ---- the step of a cursor
 
 module _ (area : List ℕ) (c : Cursor) where
-  pub next_short : length area - c.at < 8 → End ≡ next_of area c
+  pub next_short : length area - c.at < 8 → None ≡ next_of area c
   unfolding next_of
   next_short h = rw (lt-ltb (length area - c.at) 8 h, or-true (eqb c.left 0))
 
   -- the code's way: the code ends at the first NUL of as much of the field as there is
   pub next_found : (n k long : ℕ) → (c.left ≡ 0 → ⊥) → 8 ≤ length area - c.at → n ≡ be32 area (c.at + 4) → k ≡ min n (length area - c.at - 8)
       → long ≡ length (until_nul (take (c.at + 8 + k - (c.at + 8)) (drop (c.at + 8) area)))
-      → Found (record { index = be32 area c.at; start = c.at + 8; length = long }) (record { at = c.at + (8 + n); left = c.left - 1 }) ≡ next_of area c
+      → Some (record { index = be32 area c.at; start = c.at + 8; length = long }, record { at = c.at + (8 + n); left = c.left - 1 }) ≡ next_of area c
   unfolding next_of length_at
   next_found n k long some room size there e =
       rw (ne_eqb c.left 0 some, le-ltb (length area - c.at) 8 room, e, field-there area c.at n k size there, size)
@@ -181,11 +181,11 @@ in_order zero area at es e = cc
 in_order (suc n) area at es e =
     go (fault_at area at) refl (read_from n area (at + (8 + length_at area at))) (in_order n area (at + (8 + length_at area at))) e
   where
-    go : (f : Fault) → fault_at area at ≡ f → (r : Reading Entry Refusal) → ((ds : List Entry) → r ≡ read ds → entries_from n area (at + (8 + length_at area at)) ≡ ds) → judged_by f at (with_entry (entry_at area at) r) ≡ read es
+    go : (f : Result (Unit {0}) Refusal) → fault_at area at ≡ f → (r : Reading Entry Refusal) → ((ds : List Entry) → r ≡ read ds → entries_from n area (at + (8 + length_at area at)) ≡ ds) → judged_by f at (with_entry (entry_at area at) r) ≡ read es
         → cond (ltb (length area - at) 8) [] (entry_at area at ∷ entries_from n area (at + (8 + length_at area at))) ≡ es
-    go (Bad b) g r more h = cc
-    go Fine g (refused b k) more h = cc
-    go Fine g (read ds) more h = rw (le-ltb (length area - at) 8 (omega (arith, fine_inside area at g)), more ds refl) (cc)
+    go (Err b) g r more h = cc
+    go (Ok u) g (refused b k) more h = cc
+    go (Ok u) g (read ds) more h = rw (le-ltb (length area - at) 8 (omega (arith, fine_inside area at g)), more ds refl) (cc)
 
 pub entries_in_order : EntriesInOrder
 unfolding reading remaining

@@ -16,7 +16,7 @@ use Rattle.words.proofs.Places.{word_there, behind}
 use Rattle.words.proofs.Zeros.{zeros_zero}
 use Rattle.inventory.specs.Inventory.{all_non_zero, good_code, code_limit}
 use Rattle.inventory.specs.Listing.{Entry, listed}
-use Rattle.indices.specs.declared.reading.Fault.TheVariants.{Fine}
+use Rattle.std.specs.Prelude.{Ok}
 use Rattle.indices.specs.Area.{filled, entry_size, code_field, entry_bytes, entries_bytes, fitting, run, answer, written, field_limit, entry_limit}
 use Rattle.words.specs.Reading.{read}
 use Rattle.indices.specs.Reading.{length_at, field_at, good_length, good_field, fault_at, entry_at, read_from, reading}
@@ -99,7 +99,7 @@ module _ (area : List ℕ) (at : ℕ) (e : Entry) (r : List ℕ) (stands : drop 
   room : 8 + filled (length e.code) ≤ length area - at
   room = omega (arith, sym (length-drop at area) ∙ ap length index-first, length-append (be_bytes 4 e.index) (be_bytes 4 (filled (length e.code)) ++ (code_field e.code ++ r)), length-append (be_bytes 4 (filled (length e.code))) (code_field e.code ++ r), length-append (code_field e.code) r, length_be_bytes 4 e.index, length_be_bytes 4 (filled (length e.code)), field_length e.code good)
 
-  fine : fault_at area at ≡ Fine
+  fine : fault_at area at ≡ Ok tt
   unfolding fault_at
   fine = rw (length_there, field-there, length_good e.code good, field_good e.code good, le-ltb (length area - at) 8 (omega (arith, room)), le-ltb (length area - at) (8 + filled (length e.code)) room)
 

@@ -1,15 +1,12 @@
 -- Reading an index work area (document 01, "Readers").
-use Rattle.std.specs.Prelude.{ℕ, zero, suc, ◌+◌, ◌-◌, ◌%◌, Bool, cond, ◌&&◌, not, List, [], ◌∷◌, leb, ltb, eqb, length, take, drop}
+use Rattle.std.specs.Prelude.{ℕ, zero, suc, ◌+◌, ◌-◌, ◌%◌, Bool, cond, ◌&&◌, not, List, [], ◌∷◌, leb, ltb, eqb, length, take, drop, Result, Ok, Err}
 use Rattle.words.specs.Reading.{Reading, read, refused}
 use Rattle.words.specs.Numbers.{be32, zeros}
 use Rattle.words.specs.Nul.{until_nul}
 use Rattle.inventory.specs.Listing.{Entry}
 use Rattle.indices.specs.declared.reading.Refusal.{Refusal}
 use Rattle.indices.specs.declared.reading.Refusal.TheVariants.{Short, Past, Length, Code}
-use Rattle.indices.specs.declared.reading.Fault.{Fault}
-use Rattle.indices.specs.declared.reading.Fault.TheVariants.{Fine, Bad}
-use Rattle.indices.specs.declared.reading.Check.{Check}
-use Rattle.indices.specs.declared.reading.Check.TheVariants.{Entries, Refused}
+use Rattle.words.specs.declared.refused.Refused.{Refused}
 use Rattle.indices.specs.Area.{field_limit}
 
 -- 01: "Index areas: 30 under 4 bytes (0); then for each set, at its offset: 31 under 8 bytes left; 32 length zero, above 80 or no multiple of 4;
@@ -37,13 +34,13 @@ good_field f = leb 1 (length (until_nul f)) && (leb (length (until_nul f) + 1) (
     && (leb (length f) (length (until_nul f) + 4) && zeros (drop (length (until_nul f)) f)))
 
 -- the first fault of a set, in the paper's order
-unfoldable pub fault_at : List ℕ → ℕ → Fault
+unfoldable pub fault_at : List ℕ → ℕ → Result (Unit {0}) Refusal
 fault_at area at =
-    cond (ltb (length area - at) 8) (Bad Past)
-    (cond (not (good_length (length_at area at))) (Bad Length)
-    (cond (ltb (length area - at) (8 + length_at area at)) (Bad Past)
-    (cond (not (good_field (field_at area at))) (Bad Code)
-    Fine)))
+    cond (ltb (length area - at) 8) (Err Past)
+    (cond (not (good_length (length_at area at))) (Err Length)
+    (cond (ltb (length area - at) (8 + length_at area at)) (Err Past)
+    (cond (not (good_field (field_at area at))) (Err Code)
+    (Ok tt))))
 
 abbrev pub entry_at : List ℕ → ℕ → Entry
 entry_at area at = record { index = be32 area at; code = until_nul (field_at area at) }
@@ -52,9 +49,9 @@ abbrev pub with_entry : Entry → Reading Entry Refusal → Reading Entry Refusa
 with_entry e (read es) = read (e ∷ es)
 with_entry e (refused r at) = refused r at
 
-abbrev pub judged_by : Fault → ℕ → Reading Entry Refusal → Reading Entry Refusal
-judged_by Fine at more = more
-judged_by (Bad r) at more = refused r at
+abbrev pub judged_by : Result (Unit {0}) Refusal → ℕ → Reading Entry Refusal → Reading Entry Refusal
+judged_by (Ok u) at more = more
+judged_by (Err r) at more = refused r at
 
 -- the next n sets from a byte offset on
 unfoldable pub read_from : ℕ → List ℕ → ℕ → Reading Entry Refusal
@@ -70,6 +67,6 @@ reading area =
     cond (ltb (length area) 4) (refused Short 0) found
 
 -- What a check of an area tells of its reading: the number of its entries, or the refusal.
-abbrev pub check_of : Reading Entry Refusal → Check
-check_of (read es) = Entries (length es)
-check_of (refused r at) = Refused r at
+abbrev pub check_of : Reading Entry Refusal → Result ℕ (Refused Refusal)
+check_of (read es) = Ok (length es)
+check_of (refused r at) = Err (record { refusal = r; offset = at })

@@ -4,5 +4,5 @@
 mod reading;
 mod writing;
 
-pub use reading::{Check, Cursor, Fault, Next, Refusal, Set, check_area, fault_of};
+pub use reading::{Cursor, Refusal, Set, check_area, fault_of};
 pub use writing::write_run;

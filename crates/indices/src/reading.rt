@@ -2,19 +2,20 @@
 ghost use Rattle.std.specs.Prelude.{◌≡◌, ◌+◌, ◌-◌, ◌<◌, ◌≤◌, length};
 ghost use Rattle.std.proofs.Math.Seq.{slice};
 ghost use Rattle.words.specs.Numbers.{zeros};
-ghost use Rattle.indices.specs.Reading.{length_at, good_length, good_field, fault_at, reading, check_of};
+ghost use Rattle.indices.specs.Reading.{refusal_number, length_at, good_length, good_field, fault_at, reading, check_of};
 ghost use Rattle.indices.specs.Cursor.{next_of, start_of};
 ghost use Rattle.indices.specs.Claims.Cursor.{StepsGive, EntriesInOrder};
 ghost use Rattle.indices.specs.Claims.Indices.{ReadingCases, AreaClaims};
 ghost use Rattle.indices.specs.Claims.Reader.{IndexReaderExactly};
 
 use inventory::CODE_LIMIT;
+use words::Refused;
 
-// The most bytes of a code with its NULs.
-const FIELD_LIMIT: u32 = 4 * (CODE_LIMIT as u32 / 4 + 1);
+// A quarter of the most bytes of a code with its NULs.
+const QUARTERS: u32 = CODE_LIMIT as u32 / 4 + 1;
 
 // Why an area is refused.
-#[derive(Clone, Copy)]
+#[derive(Clone, Copy, PartialEq, Eq)]
 pub enum Refusal {
     Short,
     Past,
@@ -22,18 +23,18 @@ pub enum Refusal {
     Code,
 }
 
-// What is found of a set.
-#[derive(Clone, Copy)]
-pub enum Fault {
-    Fine,
-    Bad(Refusal),
-}
+// The number of a refusal.
+impl From<Refusal> for u32 {
+    ghost from_gives = { λ r n. n ≡ refusal_number r };
 
-// What a check of an area finds: the number of its entries, or a refusal with its byte offset.
-#[derive(Clone, Copy)]
-pub enum Check {
-    Entries(usize),
-    Refused(Refusal, usize),
+    fn from(refusal: Refusal) -> u32 {
+        match refusal {
+            Refusal::Short => 30,
+            Refusal::Past => 31,
+            Refusal::Length => 32,
+            Refusal::Code => 33,
+        }
+    }
 }
 
 // Turned right by two bits, a multiple of 4 is its quarter, and any other number exceeds every limit: one comparison tells both.
@@ -41,13 +42,7 @@ fn is_length(n: u32) -> bool
     ensures { result ≡ good_length n }
 {
     let turned = n / 4 + n % 4 * 0x4000_0000;
-    if turned < 1 {
-        return false;
-    }
-    if FIELD_LIMIT / 4 < turned {
-        return false;
-    }
-    true
+    matches!(turned, 1..=QUARTERS)
 }
 
 // Whether a field is a non-empty code, one to four NULs and nothing else.
@@ -61,51 +56,55 @@ fn is_field(field: &[u8]) -> bool
 }
 
 // The first fault of a set whose index and length `n` are inside the area.
-pub fn fault_of(area: &[u8], at: usize, n: u32) -> Fault
+pub fn fault_of(area: &[u8], at: usize, n: u32) -> Result<(), Refusal>
     requires { (8 ≤ length area.now - at) × (n ≡ length_at area.now at) }
     ensures { result ≡ fault_at area.now at }
 {
     if !is_length(n) {
-        return Fault::Bad(Refusal::Length);
+        return Err(Refusal::Length);
     }
     if area.len() - at < 8 + n as usize {
-        return Fault::Bad(Refusal::Past);
+        return Err(Refusal::Past);
     }
     if !is_field(&area[at + 8..at + 8 + n as usize]) {
-        return Fault::Bad(Refusal::Code);
+        return Err(Refusal::Code);
     }
-    Fault::Fine
+    Ok(())
 }
 
-// The whole area judged: the number of its entries, or the first refusal. Each length is read once.
-pub fn check_area(area: &[u8]) -> Check
+// The whole area judged: the number of its entries, or the first refusal with its byte offset. Each length is read once.
+pub fn check_area(area: &[u8]) -> Result<usize, Refused<Refusal>>
     ensures value { result ≡ check_of (reading area.now) }
     ensures claims { ReadingCases × AreaClaims }
     ensures exactly { IndexReaderExactly }
 {
     if area.len() < 4 {
-        return Check::Refused(Refusal::Short, 0);
+        return Err(Refused {
+            refusal: Refusal::Short,
+            offset: 0,
+        });
     }
     let count = words::read_be32(area, 0) as usize;
-    let mut at: usize = 4;
-    let mut passed: usize = 0;
-    while passed < count {
+    let mut at = 4;
+    for passed in 0..count {
         if area.len() - at < 8 {
-            return Check::Refused(Refusal::Past, at);
+            return Err(Refused {
+                refusal: Refusal::Past,
+                offset: at,
+            });
         }
         let n = words::read_be32(area, at + 4);
-        let found = fault_of(area, at, n);
-        match found {
-            Fault::Bad(r) => {
-                return Check::Refused(r, at);
-            }
-            Fault::Fine => {
-                at = at + 8 + n as usize;
-                passed += 1;
+        match fault_of(area, at, n) {
+            Ok(()) => at = at + 8 + n as usize,
+            Err(refusal) => {
+                return Err(Refused {
+                    refusal,
+                    offset: at,
+                });
             }
         }
     }
-    Check::Entries(count)
+    Ok(count)
 }
 
 // Where a reader stands: so many sets are still to come from byte `at` on.
@@ -123,13 +122,6 @@ pub struct Set {
     pub length: usize,
 }
 
-// What a step gives: a set with the cursor behind it, or the end.
-#[derive(Clone, Copy)]
-pub enum Next {
-    Found(Set, Cursor),
-    End,
-}
-
 impl Cursor {
     // Before the first set; an area of under 4 bytes has none.
     pub fn start(area: &[u8]) -> Cursor
@@ -143,36 +135,31 @@ impl Cursor {
         Cursor { at: 4, left }
     }
 
-    // The next entry of an area. From the start, in an area that a check passes, the steps are its entries in order, then the end.
-    pub fn next(self, area: &[u8]) -> Next
+    // The next entry of an area with the cursor behind it. From the start, in an area that a check passes, the steps are its entries in
+    // order, then the end.
+    pub fn next(self, area: &[u8]) -> Option<(Set, Cursor)>
         ensures value { result ≡ next_of area.now self }
         ensures steps { StepsGive }
     {
+        if self.left == 0 {
+            return None;
+        }
         let at = self.at;
-        let left = self.left;
-        if left == 0 {
-            return Next::End;
-        }
-        if area.len() < at {
-            return Next::End;
-        }
-        let rest = area.len() - at;
+        let rest = area.len().saturating_sub(at);
         if rest < 8 {
-            return Next::End;
+            return None;
         }
         let n = words::read_be32(area, at + 4) as usize;
         let start = at + 8;
-        let length = words::until_nul(&area[start..start + n.min(rest - 8)]);
-        Next::Found(
-            Set {
-                index: words::read_be32(area, at),
-                start,
-                length,
-            },
-            Cursor {
-                at: at + (8 + n),
-                left: left - 1,
-            },
-        )
+        let set = Set {
+            index: words::read_be32(area, at),
+            start,
+            length: words::until_nul(&area[start..start + n.min(rest - 8)]),
+        };
+        let behind = Cursor {
+            at: at + (8 + n),
+            left: self.left - 1,
+        };
+        Some((set, behind))
     }
 }

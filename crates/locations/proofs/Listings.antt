@@ -1,4 +1,5 @@
 -- Laws of the first set of an index work area that lists an index.
+use Rattle.std.specs.Prelude.{Err, Ok, Result}
 use mathlib.Core.Path.{◌≡◌, refl, sym, ap, ◌∙◌}
 use mathlib.Core.Bool.{Bool, true, false, cond, ◌&&◌, and-false, false≢true}
 use mathlib.Core.List.{List, [], ◌∷◌, ◌++◌}
@@ -14,8 +15,6 @@ use Rattle.words.specs.Reading.{Reading, read, refused}
 use Rattle.words.proofs.Choice.{decide, and_right}
 use Rattle.inventory.specs.Listing.{Entry}
 use Rattle.indices.specs.declared.reading.Refusal.{Refusal}
-use Rattle.indices.specs.declared.reading.Fault.{Fault}
-use Rattle.indices.specs.declared.reading.Fault.TheVariants.{Fine, Bad}
 use Rattle.indices.specs.Area.{field_limit}
 use Rattle.indices.specs.Claims.Longest.{taken}
 use Rattle.indices.specs.Reading.{length_at, field_at, good_length, fault_at, entry_at, with_entry, judged_by, read_from, reading}
@@ -76,11 +75,11 @@ module _ {area : List ℕ} {index count at passed found : ℕ} (s : Sought area 
     ahead : count - passed ≡ suc (count - (passed + 1))
     ahead = omega arith
 
-    pub sought_bad : (r : Refusal) → fault_at area at ≡ Bad r → Refused r at ≡ listing_of area index
+    pub sought_bad : (r : Refusal) → fault_at area at ≡ Err r → Refused r at ≡ listing_of area index
     unfolding read_from
     sought_bad r e = rw (s.tells, ahead, e)
 
-    pub sought_fine : (n first : ℕ) (lists : Bool) → n ≡ be32 area (at + 4) → fault_at area at ≡ Fine → lists ≡ eqb (be32 area at) index → first ≡ cond (eqb found 0 && lists) at found
+    pub sought_fine : (n first : ℕ) (lists : Bool) → n ≡ be32 area (at + 4) → fault_at area at ≡ Ok tt → lists ≡ eqb (be32 area at) index → first ≡ cond (eqb found 0 && lists) at found
         → Sought area index count (at + 8 + n) (passed + 1) first
     unfolding read_from first_from length_at
     sought_fine n first lists l e same f =
@@ -95,13 +94,13 @@ module _ {area : List ℕ} {index count at passed found : ℕ} (s : Sought area 
 -- ---- the sets of a reading without a fault
 
 -- the first of them
-set_read : (f : Fault) (at : ℕ) (e : Entry) (r : Reading Entry Refusal) (es : List Entry) → judged_by f at (with_entry e r) ≡ read es → (f ≡ Fine) × (r ≡ read (drop 1 es)) × (es ≡ e ∷ drop 1 es)
-set_read (Bad b) at e r es h = (cc, cc, cc)
-set_read Fine at e (refused b k) es h = (refl, cc, cc)
-set_read Fine at e (read ds) es h = let k : es ≡ e ∷ ds = cc in rw k (refl, refl, refl)
+set_read : (f : Result (Unit {0}) Refusal) (at : ℕ) (e : Entry) (r : Reading Entry Refusal) (es : List Entry) → judged_by f at (with_entry e r) ≡ read es → (f ≡ Ok tt) × (r ≡ read (drop 1 es)) × (es ≡ e ∷ drop 1 es)
+set_read (Err b) at e r es h = (cc, cc, cc)
+set_read (Ok u) at e (refused b k) es h = (refl, cc, cc)
+set_read (Ok u) at e (read ds) es h = let k : es ≡ e ∷ ds = cc in rw k (refl, refl, refl)
 
 first_read : (n : ℕ) (area : List ℕ) (at : ℕ) (es : List Entry) → read_from (suc n) area at ≡ read es
-    → (fault_at area at ≡ Fine) × (read_from n area (at + (8 + length_at area at)) ≡ read (drop 1 es)) × (es ≡ entry_at area at ∷ drop 1 es)
+    → (fault_at area at ≡ Ok tt) × (read_from n area (at + (8 + length_at area at)) ≡ read (drop 1 es)) × (es ≡ entry_at area at ∷ drop 1 es)
 unfolding read_from
 first_read n area at es h = set_read (fault_at area at) at (entry_at area at) (read_from n area (at + (8 + length_at area at))) es h
 
@@ -133,7 +132,7 @@ none_taken at = omega arith
 set_size : (n c : ℕ) → n % 4 ≡ 0 → c + 1 ≤ n → n ≤ c + 4 → n ≡ 4 * (c / 4 + 1)
 set_size n c h k l = omega arith
 
-pub set_taken : (area : List ℕ) (at : ℕ) (es : List Entry) → fault_at area at ≡ Fine → at + (8 + length_at area at) + taken es ≡ at + taken (entry_at area at ∷ es)
+pub set_taken : (area : List ℕ) (at : ℕ) (es : List Entry) → fault_at area at ≡ Ok tt → at + (8 + length_at area at) + taken es ≡ at + taken (entry_at area at ∷ es)
 unfolding taken good_length
 set_taken area at es h =
     let n = length_at area at in

@@ -1,4 +1,5 @@
 -- Laws of a view's steps.
+use Rattle.std.specs.Prelude.{Err, Ok, Result}
 use mathlib.Core.Path.{◌≡◌, refl, ap, ◌∙◌}
 use mathlib.Core.Bool.{false, cond}
 use mathlib.Core.List.{List, [], ◌∷◌}
@@ -11,9 +12,8 @@ use borrow.Author.Tests.{eq-eqb, ne_eqb, lt-ltb, le-ltb}
 use Rattle.words.specs.Numbers.{be32}
 use Rattle.words.proofs.Choice.{decide}
 use Rattle.inventory.specs.Listing.{Entry}
+use Rattle.indices.specs.declared.reading.Refusal.{Refusal}
 use Rattle.indices.specs.declared.reading.Refusal.TheVariants.{Short, Past}
-use Rattle.indices.specs.declared.reading.Fault.{Fault}
-use Rattle.indices.specs.declared.reading.Fault.TheVariants.{Fine, Bad}
 use Rattle.indices.specs.declared.reading.Cursor.{Cursor}
 use Rattle.indices.specs.Reading.{length_at, fault_at, entry_at, with_entry, judged_by, read_from, reading}
 use Rattle.indices.specs.Cursor.{start_of}
@@ -24,7 +24,7 @@ use Rattle.locations.specs.Claims.Locations.{AsTheReader}
 
 -- ---- a step, from any cursor: its four ways
 
-pub fault_past : (area : List ℕ) (at : ℕ) → length area - at < 8 → Bad Past ≡ fault_at area at
+pub fault_past : (area : List ℕ) (at : ℕ) → length area - at < 8 → Err Past ≡ fault_at area at
 unfolding fault_at
 fault_past area at h = rw (lt-ltb (length area - at) 8 h)
 
@@ -38,7 +38,7 @@ module _ (area : List ℕ) (c : Cursor) where
     unfolding advance_of
     advance_end h = rw (le-ltb (length area) 4 long, eq-eqb c.left 0 h)
 
-    pub advance_set : (f : Fault) → (c.left ≡ 0 → ⊥) → f ≡ fault_at area c.at → advance_by f area c ≡ advance_of area c
+    pub advance_set : (f : Result (Unit {0}) Refusal) → (c.left ≡ 0 → ⊥) → f ≡ fault_at area c.at → advance_by f area c ≡ advance_of area c
     unfolding advance_of
     advance_set f h e = rw (le-ltb (length area) 4 long, ne_eqb c.left 0 h, e)
 
@@ -59,10 +59,10 @@ behind n l = record { entries = drop n l.entries; last = l.last }
 abbrev Steps : List ℕ → Cursor → Type 0
 Steps area c = (shown area (advance_of area c).given ≡ first_of (ahead area c).entries (ahead area c).last) × (ahead area (advance_of area c).cursor ≡ behind 1 (ahead area c))
 
-steps_set : (area : List ℕ) (at n : ℕ) → ltb (length area) 4 ≡ false → (f : Fault) → fault_at area at ≡ f → Steps area (record { at = at; left = suc n })
+steps_set : (area : List ℕ) (at n : ℕ) → ltb (length area) 4 ≡ false → (f : Result (Unit {0}) Refusal) → fault_at area at ≡ f → Steps area (record { at = at; left = suc n })
 unfolding ahead advance_of listed_from
-steps_set area at n t (Bad r) e = rw (t, eqb-suc-zero n, e) (refl, rw e refl)
-steps_set area at n t Fine e = rw (t, eqb-suc-zero n, e, sub-one (suc n), ← code_part area at) (refl, refl)
+steps_set area at n t (Err r) e = rw (t, eqb-suc-zero n, e) (refl, rw e refl)
+steps_set area at n t (Ok u) e = rw (t, eqb-suc-zero n, e, sub-one (suc n), ← code_part area at) (refl, refl)
 
 steps : (area : List ℕ) (at left : ℕ) → Steps area (record { at = at; left = left })
 unfolding ahead advance_of listed_from
@@ -84,11 +84,11 @@ steps_show n area = let c = cursor_behind n area in (steps area c.at c.left).0 �
 
 -- ---- the listing and the reading: the same entries, or the same refusal
 
-judged_listed : (f : Fault) (e : Entry) (at : ℕ) (es : List Entry) (l : Last)
+judged_listed : (f : Result (Unit {0}) Refusal) (e : Entry) (at : ℕ) (es : List Entry) (l : Last)
     → let more = listed_by f at (entry_then e (record { entries = es; last = l })) in judged_by f at (with_entry e (reading_by l es)) ≡ reading_by more.last more.entries
-judged_listed (Bad r) e at es l = refl
-judged_listed Fine e at es end = refl
-judged_listed Fine e at es (refusal r k) = refl
+judged_listed (Err r) e at es l = refl
+judged_listed (Ok u) e at es end = refl
+judged_listed (Ok u) e at es (refusal r k) = refl
 
 reads_listed : (n : ℕ) (area : List ℕ) (at : ℕ) → read_from n area at ≡ reading_by (listed_from n area at).last (listed_from n area at).entries
 unfolding read_from listed_from

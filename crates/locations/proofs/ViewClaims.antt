@@ -1,4 +1,5 @@
 -- The claims about a view hold.
+use Rattle.std.specs.Prelude.{Err, Ok, Result}
 use mathlib.Core.Path.{◌≡◌, refl, sym, ◌∙◌}
 use mathlib.Core.Bool.{false≢true}
 use mathlib.Core.List.{List, [], ◌∷◌}
@@ -9,8 +10,6 @@ use borrow.Author.Tests.{lt-ltb, le-ltb}
 use Rattle.words.specs.Reading.{read, refused}
 use Rattle.inventory.specs.Listing.{Entry}
 use Rattle.indices.specs.declared.reading.Refusal.{Refusal}
-use Rattle.indices.specs.declared.reading.Fault.{Fault}
-use Rattle.indices.specs.declared.reading.Fault.TheVariants.{Fine, Bad}
 use Rattle.indices.specs.Reading.{length_at, fault_at, entry_at, judged_by, read_from}
 use Rattle.locations.specs.Views.{listing, cursor_behind}
 use Rattle.locations.specs.Claims.Locations.{EachEntry, ThenTheLast, EachStep, EachViewStart, ViewClaims}
@@ -28,21 +27,21 @@ one_judged : (area : List ℕ) (at : ℕ) → judged_by (fault_at area at) at (r
 unfolding read_from
 one_judged area at = refl
 
-one_refused : (f : Fault) (at : ℕ) (es : List Entry) (r : Refusal) (k : ℕ) → judged_by f at (read es) ≡ refused r k → (Bad r ≡ f) × (k ≡ at)
-one_refused Fine at es r k h = absurd (false≢true (cc))
-one_refused (Bad b) at es r k h = (cc, cc)
+one_refused : (f : Result (Unit {0}) Refusal) (at : ℕ) (es : List Entry) (r : Refusal) (k : ℕ) → judged_by f at (read es) ≡ refused r k → (Err r ≡ f) × (k ≡ at)
+one_refused (Ok u) at es r k h = absurd (false≢true (cc))
+one_refused (Err b) at es r k h = (cc, cc)
 
-one_read : (f : Fault) (at : ℕ) (d e : Entry) → judged_by f at (read (d ∷ [])) ≡ read (e ∷ []) → (Fine ≡ f) × (e ≡ d)
-one_read Fine at d e h = (refl, cc)
-one_read (Bad b) at d e h = absurd (false≢true (cc))
+one_read : (f : Result (Unit {0}) Refusal) (at : ℕ) (d e : Entry) → judged_by f at (read (d ∷ [])) ≡ read (e ∷ []) → (Ok tt ≡ f) × (e ≡ d)
+one_read (Ok u) at d e h = (refl, cc)
+one_read (Err b) at d e h = absurd (false≢true (cc))
 
 each_step : EachStep
 each_step area c =
     record {
       short = λ h. sym (advance_short area c h);
       ended = λ l h. sym (advance_end area c l h);
-      refused = λ l h r k e. let b = one_refused (fault_at area c.at) c.at (entry_at area c.at ∷ []) r k (one_judged area c.at ∙ e) in rw b.1 (sym (advance_set area c l (Bad r) h b.0));
-      passed = λ l h e k. let b = one_read (fault_at area c.at) c.at (entry_at area c.at) e (one_judged area c.at ∙ k) in rw (b.1, ← set_taken area c.at [] (sym b.0), none_taken (c.at + (8 + length_at area c.at))) (sym (advance_set area c l Fine h b.0));
+      refused = λ l h r k e. let b = one_refused (fault_at area c.at) c.at (entry_at area c.at ∷ []) r k (one_judged area c.at ∙ e) in rw b.1 (sym (advance_set area c l (Err r) h b.0));
+      passed = λ l h e k. let b = one_read (fault_at area c.at) c.at (entry_at area c.at) e (one_judged area c.at ∙ k) in rw (b.1, ← set_taken area c.at [] (sym b.0), none_taken (c.at + (8 + length_at area c.at))) (sym (advance_set area c l (Ok tt) h b.0));
     }
 
 each_view_start : EachViewStart

@@ -1,12 +1,10 @@
 -- A view of an index work area, step by step (document 02, M-112).
-use Rattle.std.specs.Prelude.{ℕ, zero, suc, ◌+◌, ◌-◌, cond, List, [], ◌∷◌, ltb, eqb, length, take, drop}
+use Rattle.std.specs.Prelude.{ℕ, zero, suc, ◌+◌, ◌-◌, cond, List, [], ◌∷◌, ltb, eqb, length, take, drop, Err, Ok, Result}
 use Rattle.words.specs.Numbers.{be32}
 use Rattle.words.specs.Reading.{Reading, read, refused}
 use Rattle.inventory.specs.Listing.{Entry}
 use Rattle.indices.specs.declared.reading.Refusal.{Refusal}
 use Rattle.indices.specs.declared.reading.Refusal.TheVariants.{Short}
-use Rattle.indices.specs.declared.reading.Fault.{Fault}
-use Rattle.indices.specs.declared.reading.Fault.TheVariants.{Fine, Bad}
 use Rattle.indices.specs.declared.reading.Cursor.{Cursor}
 use Rattle.indices.specs.Reading.{length_at, fault_at, entry_at}
 use Rattle.indices.specs.Cursor.{start_of}
@@ -25,9 +23,9 @@ pass_of area c =
 abbrev pub stays : Given → Cursor → Advance
 stays g c = record { given = g; cursor = c }
 
-abbrev pub advance_by : Fault → List ℕ → Cursor → Advance
-advance_by Fine area c = pass_of area c
-advance_by (Bad r) area c = stays (given.Refused r c.at) c
+abbrev pub advance_by : Result (Unit {0}) Refusal → List ℕ → Cursor → Advance
+advance_by (Ok u) area c = pass_of area c
+advance_by (Err r) area c = stays (given.Refused r c.at) c
 
 -- "its steps from the start give the area's entries in order, then the end or the reading's refusal, and that again"
 unfoldable pub advance_of : List ℕ → Cursor → Advance
@@ -59,9 +57,9 @@ nothing_then l = record { entries = []; last = l }
 abbrev pub entry_then : Entry → Listed → Listed
 entry_then e later = record { entries = e ∷ later.entries; last = later.last }
 
-abbrev pub listed_by : Fault → ℕ → Listed → Listed
-listed_by Fine at more = more
-listed_by (Bad r) at more = nothing_then (refusal r at)
+abbrev pub listed_by : Result (Unit {0}) Refusal → ℕ → Listed → Listed
+listed_by (Ok u) at more = more
+listed_by (Err r) at more = nothing_then (refusal r at)
 
 -- n sets from a byte offset on, up to the first fault
 unfoldable pub listed_from : ℕ → List ℕ → ℕ → Listed

@@ -3,7 +3,7 @@ ghost use Rattle.std.specs.Prelude.{◌≡◌, cond, ◌&&◌, eqb, ◌+◌, ◌
 ghost use Rattle.locations.specs.Locations.{part_at};
 ghost use Rattle.locations.specs.Inner.Terms.{Sets, listing_of};
 
-use indices::{Fault, Refusal};
+use indices::Refusal;
 
 // Where a code stands in its buffer, without its NULs.
 #[derive(Clone, Copy)]
@@ -34,23 +34,20 @@ pub fn find_listed(area: &[u8], index: u32) -> Listing
         return Listing::Refused(Refusal::Short, 0);
     }
     let count = words::read_be32(area, 0) as usize;
-    let mut at: usize = 4;
-    let mut passed: usize = 0;
-    let mut found: usize = 0;
-    while passed < count {
+    let mut at = 4;
+    let mut found = 0;
+    for passed in 0..count {
         if area.len() - at < 8 {
             return Listing::Refused(Refusal::Past, at);
         }
         let n = words::read_be32(area, at + 4);
-        let fault = indices::fault_of(area, at, n);
-        match fault {
-            Fault::Bad(r) => {
+        match indices::fault_of(area, at, n) {
+            Err(r) => {
                 return Listing::Refused(r, at);
             }
-            Fault::Fine => {
+            Ok(()) => {
                 found = first_found(found, at, words::read_be32(area, at) == index);
                 at = at + 8 + n as usize;
-                passed += 1;
             }
         }
     }

@@ -8,7 +8,7 @@ ghost use Rattle.locations.specs.Views.{pass_of, advance_of};
 ghost use Rattle.locations.specs.Claims.Locations.{ViewClaims};
 
 use crate::listed::{Part, part_at};
-use indices::{Cursor, Fault, Refusal};
+use indices::{Cursor, Refusal};
 
 // What a step gives: an entry, its index and where its code stands in the area; the end; or the refusal of the area with its byte offset.
 #[derive(Clone, Copy)]
@@ -40,14 +40,11 @@ pub struct Stepped<'a> {
 }
 
 // The fault of the set at a place, or none. Any place is answered.
-fn fault_at(area: &[u8], at: usize) -> Fault
+fn fault_at(area: &[u8], at: usize) -> Result<(), Refusal>
     ensures { result ≡ fault_at area.now at }
 {
-    if area.len() < at {
-        return Fault::Bad(Refusal::Past);
-    }
-    if area.len() - at < 8 {
-        return Fault::Bad(Refusal::Past);
+    if area.len().saturating_sub(at) < 8 {
+        return Err(Refusal::Past);
     }
     indices::fault_of(area, at, words::read_be32(area, at + 4))
 }
@@ -86,13 +83,12 @@ pub fn advance_at(area: &[u8], cursor: Cursor) -> Advance
         };
     }
     let at = cursor.at;
-    let fault = fault_at(area, at);
-    match fault {
-        Fault::Bad(r) => Advance {
+    match fault_at(area, at) {
+        Err(r) => Advance {
             given: Given::Refused(r, at),
             cursor,
         },
-        Fault::Fine => pass_set(area, cursor),
+        Ok(()) => pass_set(area, cursor),
     }
 }
 

@@ -1,5 +1,5 @@
 -- The lines of the entries that a cursor has before it, and one of them by its place in an area.
-use mathlib.Core.Path.{◌≡◌, refl, sym, subst}
+use mathlib.Core.Path.{◌≡◌, refl, sym, subst, ap}
 use mathlib.Core.Bool.{Bool, true, false, cond, ◌||◌}
 use mathlib.Core.List.{List, [], ◌∷◌, ◌++◌}
 use Prim.Native.Nat.{ℕ, ◌+◌, ◌-◌, ◌<◌, ◌≤◌, min}
@@ -12,7 +12,7 @@ use Rattle.words.specs.Nul.{until_nul}
 use Rattle.words.proofs.Choice.{choose}
 use Rattle.indices.specs.declared.reading.Cursor.{Cursor}
 use Rattle.indices.specs.declared.reading.Set.{Set}
-use Rattle.indices.specs.declared.reading.Next.TheVariants.{Found, End}
+use Rattle.std.specs.Prelude.{Option, None, Some}
 use Rattle.indices.specs.Reading.{length_at, field_at}
 use Rattle.indices.specs.Cursor.{entry_in, remaining, next_of}
 use Rattle.indices.proofs.IndexLaws.{steps_give}
@@ -33,12 +33,17 @@ code_size area at =
     let n = length_at area at in
     omega (arith, until_short (take n (drop (at + 8) area)), length-take n (drop (at + 8) area), length-drop (at + 8) area)
 
+-- the set of a step, or another where there is none
+abbrev set_or : Set → Option (Set × Cursor) → Set
+set_or other None = other
+set_or other (Some (s, c)) = s
+
 module _ (area : List ℕ) (at : Cursor) where
-  pub lines_end : next_of area at ≡ End → lines (remaining area at) ≡ []
+  pub lines_end : next_of area at ≡ None → lines (remaining area at) ≡ []
   unfolding lines
   lines_end e = let none : remaining area at ≡ [] = rw e at (steps_give area at) in rw none
 
-  module _ (s : Set) (after : Cursor) (e : next_of area at ≡ Found s after) where
+  module _ (s : Set) (after : Cursor) (e : next_of area at ≡ Some (s, after)) where
     step : remaining area at ≡ entry_in area s ∷ remaining area after
     step = rw e at (steps_give area at)
 
@@ -60,11 +65,11 @@ module _ (area : List ℕ) (at : Cursor) where
         rest : Cursor
         rest = record { at = at.at + (8 + length_at area at.at); left = at.left - 1 }
 
-        go : (b d : Bool) → ltb (length area - at.at) 8 ≡ d → cond (b || d) End (Found set rest) ≡ Found s after → s.start + s.length ≤ length area
+        go : (b d : Bool) → ltb (length area - at.at) 8 ≡ d → cond {A = Option (Set × Cursor)} (b || d) None (Some (set, rest)) ≡ Some (s, after) → s.start + s.length ≤ length area
         go true d g h = absurd (let z : ◌≡◌ {A = ℕ} 0 1 = cc in omega arith)
         go false true g h = absurd (let z : ◌≡◌ {A = ℕ} 0 1 = cc in omega arith)
         go false false g h =
-            let same : set ≡ s = cc in
+            let same : set ≡ s = ap (set_or set) h in
             rw (← same) (omega (arith, ltb-false (length area - at.at) 8 g, code_size area at.at))
 
 -- ---- a code as a part of an area: from a to a + n it has n bytes

@@ -12,7 +12,8 @@ use Rattle.words.proofs.Choice.{choose}
 use Rattle.words.proofs.Claims.{numbers_exactly, nul_exactly}
 use Rattle.inventory.specs.Listing.{Entry}
 use Rattle.indices.specs.declared.reading.Refusal.{Refusal}
-use Rattle.indices.specs.declared.reading.Check.TheVariants.{Entries, Refused}
+use Rattle.std.specs.Prelude.{Ok, Err}
+use Rattle.words.specs.declared.refused.Refused.{Refused}
 use Rattle.indices.specs.Reading.{length_at, entry_at, reading, refusal_number, check_of}
 use Rattle.indices.specs.Cursor.{entries_from, remaining, start_of}
 use Rattle.indices.proofs.IndexLaws.{entries_in_order}
@@ -63,19 +64,19 @@ module _ (input : List ℕ) where
   text_refused r at e = rw e
 
   -- the text of an area with n entries
-  pub area_text : (n : ℕ) → check_of (reading input) ≡ Entries n → text input ≡ lines (remaining input (start_of input)) ++ ended end- n
+  pub area_text : (n : ℕ) → check_of (reading input) ≡ Ok n → text input ≡ lines (remaining input (start_of input)) ++ ended end- n
   area_text n e = go (reading input) refl e
     where
-      go : (r : Reading Entry Refusal) → reading input ≡ r → check_of r ≡ Entries n → text input ≡ lines (remaining input (start_of input)) ++ ended end- n
+      go : (r : Reading Entry Refusal) → reading input ≡ r → check_of r ≡ Ok n → text input ≡ lines (remaining input (start_of input)) ++ ended end- n
       go (read es) g h = let same : length es ≡ n = cc in text_read es g ∙ rw (entries_in_order input es g, same)
       go (refused r at) g h = cc
 
-  pub refused_text : (r : Refusal) (at : ℕ) → check_of (reading input) ≡ Refused r at → text input ≡ refusal_line (refusal_number r) at
-  refused_text r at e = go (reading input) refl e
+  pub refused_text : (x : Refused Refusal) → check_of (reading input) ≡ Err x → text input ≡ refusal_line (refusal_number x.refusal) x.offset
+  refused_text x e = go (reading input) refl e
     where
-      go : (x : Reading Entry Refusal) → reading input ≡ x → check_of x ≡ Refused r at → text input ≡ refusal_line (refusal_number r) at
+      go : (r : Reading Entry Refusal) → reading input ≡ r → check_of r ≡ Err x → text input ≡ refusal_line (refusal_number x.refusal) x.offset
       go (read es) g h = cc
-      go (refused q k) g h = let same : ◌≡◌ {A = Reading Entry Refusal} (refused q k) (refused r at) = cc in text_refused r at (g ∙ same)
+      go (refused q k) g h = let same : record { refusal = q; offset = k } ≡ x = cc in rw (← same) (text_refused q k g)
 
   -- ---- the text fits
 

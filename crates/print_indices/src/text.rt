@@ -1,14 +1,13 @@
 // The text of an index work area, put into a buffer.
-ghost use Rattle.std.specs.Prelude.{◌+◌, ◌*◌, ◌≤◌, ◌≡◌, length};
+ghost use Rattle.std.specs.Prelude.{◌+◌, ◌*◌, ◌≤◌, ◌≡◌, length, Ok};
 ghost use Rattle.std.proofs.lemmas.List.Edits.{sets};
-ghost use Rattle.indices.specs.declared.reading.Check.TheVariants.{Entries};
-ghost use Rattle.indices.specs.Reading.{refusal_number, reading, check_of};
+ghost use Rattle.indices.specs.Reading.{reading, check_of};
 ghost use Rattle.indices.specs.Cursor.{entry_in, remaining, start_of};
 ghost use Rattle.printing.specs.Put.{Fits, Put};
 ghost use Rattle.print_indices.specs.Text.{line, lines, text, printed};
 ghost use Rattle.print_indices.specs.Claims.PrintIndices.{PrintIndicesPromise};
 
-use indices::{Check, Cursor, Next, Refusal, Set};
+use indices::{Cursor, Set};
 use printing::Text;
 
 // The longest input whose text is printed.
@@ -32,36 +31,20 @@ fn put_lines(input: &[u8], out: &mut Text)
     ensures { Put out.old out.new (lines (remaining input.now (start_of input.now))) }
 {
     let mut cursor = Cursor::start(input);
-    loop {
-        match cursor.next(input) {
-            Next::End => return,
-            Next::Found(s, after) => {
-                put_line(input, s, out);
-                cursor = after;
-            }
-        }
+    while let Some((s, after)) = cursor.next(input) {
+        put_line(input, s, out);
+        cursor = after;
     }
 }
 
 // An area that has so many entries.
 fn put_area(input: &[u8], count: usize, out: &mut Text)
     requires fits { Fits out.old (text input.now) }
-    requires counted { check_of (reading input.now) ≡ Entries count }
+    requires counted { check_of (reading input.now) ≡ Ok count }
     ensures { Put out.old out.new (text input.now) }
 {
     put_lines(input, out);
     out.push_ended(b"end ", count as u64);
-}
-
-fn refusal_number(r: Refusal) -> u64
-    ensures { result ≡ refusal_number r }
-{
-    match r {
-        Refusal::Short => 30,
-        Refusal::Past => 31,
-        Refusal::Length => 32,
-        Refusal::Code => 33,
-    }
 }
 
 // What is printed of an input that is not too long.
@@ -69,10 +52,9 @@ fn put_text(input: &[u8], out: &mut Text)
     requires { Fits out.old (text input.now) }
     ensures { Put out.old out.new (text input.now) }
 {
-    let found = indices::check_area(input);
-    match found {
-        Check::Refused(reason, offset) => out.push_refusal(refusal_number(reason), offset),
-        Check::Entries(count) => put_area(input, count, out),
+    match indices::check_area(input) {
+        Err(refused) => out.push_refusal(u64::from(u32::from(refused.refusal)), refused.offset),
+        Ok(count) => put_area(input, count, out),
     }
 }
 

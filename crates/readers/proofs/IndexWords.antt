@@ -11,8 +11,8 @@ use Rattle.words.specs.Nul.{until_nul}
 use Rattle.words.proofs.Choice.{choose}
 use Rattle.inventory.specs.Listing.{Entry}
 use Rattle.indices.specs.declared.reading.Refusal.{Refusal}
-use Rattle.indices.specs.declared.reading.Check.TheVariants.{Entries, Refused}
-use Rattle.indices.specs.declared.reading.Fault.TheVariants.{Fine}
+use Rattle.std.specs.Prelude.{Ok, Err}
+use Rattle.words.specs.declared.refused.Refused.{Refused}
 use Rattle.words.specs.Reading.{Reading, read, refused}
 use Rattle.indices.specs.Reading.{length_at, field_at, fault_at, refusal_number, check_of}
 use Rattle.indices.specs.Cursor.{entries_from, remaining}
@@ -25,7 +25,7 @@ use Rattle.readers.proofs.EntryWords as entry
 
 -- ---- the length of a code by the last bytes of its field
 
-module _ (area : List ℕ) (at n : ℕ) (p : (n ≡ length_at area at) × (fault_at area at ≡ Fine)) where
+module _ (area : List ℕ) (at n : ℕ) (p : (n ≡ length_at area at) × (fault_at area at ≡ Ok tt)) where
   pub field_stands : (4 ≤ n) × (at + 8 + n ≤ length area)
   field_stands = (omega (arith, fine_some area at p.1), omega (arith, fine_inside area at p.1))
 
@@ -47,11 +47,11 @@ Storing = entry.Storing 3 Reads sets_words 4
 
 module _ {area start l : List ℕ} {count at i : ℕ} (t : Storing area start count l at i) where
   module _ (more : i < count) where
-    next : (fault_at area at ≡ Fine) × Reads (count - (i + 1)) area (at + (8 + length_at area at))
+    next : (fault_at area at ≡ Ok tt) × Reads (count - (i + 1)) area (at + (8 + length_at area at))
     next = reads_next (count - (i + 1)) area at (entry.storing_passed t more)
 
     -- the set at the place has no fault, so it stands in the area
-    pub storing_fine : fault_at area at ≡ Fine
+    pub storing_fine : fault_at area at ≡ Ok tt
     storing_fine = next.0
 
     pub storing_room : 8 + length_at area at ≤ length area - at
@@ -85,11 +85,11 @@ abbrev Told : List ℕ → List ℕ → IndexReading → List ℕ → Reading En
 Told area out answer after r = (answer ≡ index_reading r) × ((after ≡ indices_out out area r) × WordsTell)
 
 module _ (area out : List ℕ) where
-  pub refusal_told : (w : ℕ) (f : Refusal) (k : ℕ) → w ≡ refusal_number f → (r : Reading Entry Refusal) → check_of r ≡ Refused f k → Told area out (record { refusal = w; offset = k; entries = 0 }) out r
-  refusal_told w f k e (read es) h = (cc, (cc, words_tell))
-  refusal_told w f k e (refused g j) h = (rw e (cc), (refl, words_tell))
+  pub refusal_told : (w : ℕ) (x : Refused Refusal) → w ≡ refusal_number x.refusal → (r : Reading Entry Refusal) → check_of r ≡ Err x → Told area out (record { refusal = w; offset = x.offset; entries = 0 }) out r
+  refusal_told w x e (read es) h = (cc, (cc, words_tell))
+  refusal_told w x e (refused g j) h = let same : record { refusal = g; offset = j } ≡ x = cc in (rw (e, ← same), (refl, words_tell))
 
-  pub entries_told_lem : (n k : ℕ) (after : List ℕ) → k ≡ min n (length out / 3) → after ≡ sets out 0 (sets_words k area 4) → (r : Reading Entry Refusal) → check_of r ≡ Entries n → Told area out (record { refusal = 0; offset = 0; entries = n }) after r
+  pub entries_told_lem : (n k : ℕ) (after : List ℕ) → k ≡ min n (length out / 3) → after ≡ sets out 0 (sets_words k area 4) → (r : Reading Entry Refusal) → check_of r ≡ Ok n → Told area out (record { refusal = 0; offset = 0; entries = n }) after r
   entries_told_lem n k after m e (read es) h =
       let all : length es ≡ n = cc in
       let least : k ≡ min (length out / 3) n = omega arith in

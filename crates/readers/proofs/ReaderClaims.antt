@@ -16,7 +16,7 @@ use Rattle.words.proofs.Stores.{sets_after}
 use Rattle.journal.specs.declared.operation.Operation.{Operation}
 use Rattle.journal.specs.declared.operation.Operation.TheVariants.{Delete, Update, Add}
 use Rattle.inventory.specs.Listing.{Entry}
-use Rattle.indices.specs.declared.reading.Fault.TheVariants as fault
+use Rattle.std.specs.Prelude.{Ok}
 use Rattle.indices.specs.Area.{field_limit}
 use Rattle.indices.specs.Claims.Longest.{taken}
 use Rattle.indices.specs.Reading.{length_at, good_length, fault_at, entry_at, check_of}
@@ -124,7 +124,7 @@ good_whole n e = eqb-true (n % 4) 0 (and_right (leb n field_limit) _ (and_right 
 
 module _ (area : List ℕ) where
   -- the words of a good set, and the place after it
-  set_told : (at : ℕ) (before : List Entry) → at ≡ 4 + taken before → fault_at area at ≡ fault.Fine → let e = entry_at area at in
+  set_told : (at : ℕ) (before : List Entry) → at ≡ 4 + taken before → fault_at area at ≡ Ok tt → let e = entry_at area at in
       ((rest : List ℕ) → EntryTold area before (set_words area at ++ rest) e) × (at + (8 + length_at area at) ≡ 4 + taken (before ++ (e ∷ [])))
   set_told at before place fine =
       let ends = code_ends area at fine in

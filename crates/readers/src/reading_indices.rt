@@ -1,10 +1,8 @@
 // The reader of index areas: all entries of an area, into a buffer that the caller lends.
-ghost use Rattle.std.specs.Prelude.{◌≡◌, [], ◌∷◌, ◌+◌, ◌*◌, ◌≤◌, length};
+ghost use Rattle.std.specs.Prelude.{◌≡◌, Ok, [], ◌∷◌, ◌+◌, ◌*◌, ◌≤◌, length};
 ghost use Rattle.std.proofs.lemmas.List.Edits.{sets};
 ghost use Rattle.words.specs.Nul.{until_nul};
 ghost use Rattle.indices.specs.Reading as indices_reading;
-ghost use Rattle.indices.specs.declared.reading.Fault.TheVariants as indices_fault;
-ghost use Rattle.indices.specs.declared.reading.Check.TheVariants as indices_check;
 ghost use Rattle.readers.specs.Readings.{sets_words, index_reading, indices_out};
 ghost use Rattle.readers.specs.Claims.Readings.{WordsTell};
 
@@ -17,31 +15,19 @@ pub struct IndexReading {
     pub entries: usize,
 }
 
-// The number of a refusal of an index area.
-pub fn index_refusal(refusal: indices::Refusal) -> u32
-    ensures { result ≡ indices_reading.refusal_number refusal }
-{
-    match refusal {
-        indices::Refusal::Short => 30,
-        indices::Refusal::Past => 31,
-        indices::Refusal::Length => 32,
-        indices::Refusal::Code => 33,
-    }
-}
-
 // A set's three words from a place on; every other word of the buffer stays.
 fn store_set(out: &mut [u64], to: usize, set: indices::Set)
     requires { to + 3 ≤ length out.old }
     ensures { out.new ≡ sets out.old to (set.index ∷ set.start ∷ set.length ∷ []) }
 {
-    out[to] = set.index as u64;
+    out[to] = u64::from(set.index);
     out[to + 1] = set.start as u64;
     out[to + 2] = set.length as u64;
 }
 
 // The length of the code of a set that a check passed, whose field has n bytes. One to four NULs end the field, so its last four bytes tell.
 pub fn code_length(area: &[u8], at: usize, n: usize) -> usize
-    requires { (n ≡ indices_reading.length_at area.now at) × (indices_reading.fault_at area.now at ≡ indices_fault.Fine) }
+    requires { (n ≡ indices_reading.length_at area.now at) × (indices_reading.fault_at area.now at ≡ Ok tt) }
     ensures { result ≡ length (until_nul (indices_reading.field_at area.now at)) }
 {
     let behind = at + 8 + n;
@@ -59,12 +45,11 @@ pub fn code_length(area: &[u8], at: usize, n: usize) -> usize
 
 // The first sets of an area, so many of them, which a check passed.
 fn store_sets(area: &[u8], out: &mut [u64], count: usize)
-    requires { (3 * count ≤ length out.old) × (indices_reading.check_of (indices_reading.read_from count area.now 4) ≡ indices_check.Entries count) }
+    requires { (3 * count ≤ length out.old) × (indices_reading.check_of (indices_reading.read_from count area.now 4) ≡ Ok count) }
     ensures { out.new ≡ sets out.old 0 (sets_words count area.now 4) }
 {
-    let mut at: usize = 4;
-    let mut i: usize = 0;
-    while i < count {
+    let mut at = 4;
+    for i in 0..count {
         let n = words::read_be32(area, at + 4) as usize;
         let set = indices::Set {
             index: words::read_be32(area, at),
@@ -73,7 +58,6 @@ fn store_sets(area: &[u8], out: &mut [u64], count: usize)
         };
         store_set(out, 3 * i, set);
         at += 8 + n;
-        i += 1;
     }
 }
 
@@ -83,15 +67,14 @@ pub fn read_indices(area: &[u8], out: &mut [u64]) -> IndexReading
     ensures out_after { out.new ≡ indices_out out.old area.now (indices_reading.reading area.now) }
     ensures entries { WordsTell }
 {
-    let found = indices::check_area(area);
-    match found {
-        indices::Check::Refused(refusal, offset) => IndexReading {
-            refusal: index_refusal(refusal),
-            offset,
+    match indices::check_area(area) {
+        Err(refused) => IndexReading {
+            refusal: u32::from(refused.refusal),
+            offset: refused.offset,
             entries: 0,
         },
-        indices::Check::Entries(entries) => {
-            store_sets(area, out, words::least(entries, out.len() / 3));
+        Ok(entries) => {
+            store_sets(area, out, entries.min(out.len() / 3));
             IndexReading {
                 refusal: 0,
                 offset: 0,

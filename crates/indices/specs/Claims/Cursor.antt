@@ -1,17 +1,16 @@
 -- What is claimed of the definitions of `Cursor`.
-use Rattle.std.specs.Prelude.{◌≡◌, List, [], ◌∷◌, ℕ}
+use Rattle.std.specs.Prelude.{◌≡◌, List, [], ◌∷◌, ℕ, Option, None, Some}
 use Rattle.inventory.specs.Listing.{Entry}
 use Rattle.indices.specs.declared.reading.Cursor.{Cursor}
-use Rattle.indices.specs.declared.reading.Next.{Next}
-use Rattle.indices.specs.declared.reading.Next.TheVariants.{Found, End}
+use Rattle.indices.specs.declared.reading.Set.{Set}
 use Rattle.words.specs.Reading.{read}
 use Rattle.indices.specs.Reading.{reading}
 use Rattle.indices.specs.Cursor.{remaining, entry_in, next_of, start_of}
 
 -- a step gives the first of a list, with a cursor that has the rest before it, or the end where the list is empty
-abbrev pub Gives : List ℕ → List Entry → Next → Type 0
-Gives area es End = es ≡ []
-Gives area es (Found s c) = es ≡ entry_in area s ∷ remaining area c
+abbrev pub Gives : List ℕ → List Entry → Option (Set × Cursor) → Type 0
+Gives area es None = es ≡ []
+Gives area es (Some (s, c)) = es ≡ entry_in area s ∷ remaining area c
 
 abbrev pub StepsGive : Type 0
 StepsGive = (area : List ℕ) (c : Cursor) → Gives area (remaining area c) (next_of area c)

@@ -1,12 +1,12 @@
 -- Claims about index work areas, cited by the contract of `check_area`.
-use Rattle.std.specs.Prelude.{◌≡◌, ℕ, ◌-◌, ◌<◌, ◌≤◌, Bool, true, false, ◌&&◌, List, [], ◌∷◌, ◌++◌, T, eqb, length, replicate}
+use Rattle.std.specs.Prelude.{◌≡◌, ℕ, ◌-◌, ◌<◌, ◌≤◌, Bool, true, false, ◌&&◌, List, [], ◌∷◌, ◌++◌, T, eqb, length, replicate, Result, Ok, Err}
 use Rattle.words.specs.Numbers.{Bytes, be_bytes}
 use Rattle.words.specs.Claims.Cases.{all}
 use Rattle.inventory.specs.Inventory.{well_formed}
 use Rattle.inventory.specs.Listing.{Entry, listed}
 use Rattle.inventory.specs.Claims.Sound.{Sound}
-use Rattle.indices.specs.declared.reading.Check.{Check}
-use Rattle.indices.specs.declared.reading.Check.TheVariants.{Entries, Refused}
+use Rattle.words.specs.declared.refused.Refused.{Refused}
+use Rattle.indices.specs.declared.reading.Refusal.{Refusal}
 use Rattle.indices.specs.Area.{run, answer, written, ample_size}
 use Rattle.words.specs.Reading.{read}
 use Rattle.indices.specs.Reading.{refusal_number, reading, check_of}
@@ -69,11 +69,11 @@ reading_cases =
     ∷ case 2 (set_of 4 (letters_and_nuls 3 1) ++ set_of 8 (letters_and_nuls 3 5)) (refusal 33 16)
     ∷ []
 
-abbrev pub matches : Check → Found → Bool
-matches (Entries n) (entries m) = eqb n m
-matches (Entries n) (refusal r at) = false
-matches (Refused f k) (entries m) = false
-matches (Refused f k) (refusal r at) = eqb (refusal_number f) r && eqb k at
+abbrev pub matches : Result ℕ (Refused Refusal) → Found → Bool
+matches (Ok n) (entries m) = eqb n m
+matches (Ok n) (refusal r at) = false
+matches (Err x) (entries m) = false
+matches (Err x) (refusal r at) = eqb (refusal_number x.refusal) r && eqb x.offset at
 
 abbrev pub agrees : ReadingCase → Bool
 agrees c = matches (check_of (reading c.area)) c.finds

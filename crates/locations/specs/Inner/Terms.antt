@@ -1,10 +1,9 @@
 -- Terms of the contracts of private functions; no public promise cites them.
-use Rattle.std.specs.Prelude.{ℕ, zero, suc, ◌+◌, ◌-◌, ◌≤◌, ◌<◌, ◌≡◌, true, false, cond, List, [], ◌∷◌, eqb, length, drop}
+use Rattle.std.specs.Prelude.{ℕ, zero, suc, ◌+◌, ◌-◌, ◌≤◌, ◌<◌, ◌≡◌, true, false, cond, List, [], ◌∷◌, eqb, length, drop, Ok}
 use Rattle.words.specs.Numbers.{be32}
 use Rattle.words.specs.Reading.{Reading, read, refused}
 use Rattle.inventory.specs.Listing.{Entry}
 use Rattle.indices.specs.declared.reading.Refusal.{Refusal}
-use Rattle.indices.specs.declared.reading.Fault.TheVariants.{Fine}
 use Rattle.indices.specs.Reading.{length_at, fault_at, reading}
 use Rattle.locations.specs.declared.listed.Listing.{Listing}
 use Rattle.locations.specs.declared.listed.Listing.TheVariants.{Refused, First}
@@ -16,7 +15,7 @@ use Rattle.locations.specs.Locations.{behind_nuls}
 
 -- a good set stands at a byte offset
 abbrev pub Sets : List ℕ → ℕ → Type 0
-Sets area at = fault_at area at ≡ Fine
+Sets area at = fault_at area at ≡ Ok tt
 
 -- the byte offset of the first of n sets that lists an index, 0 where none does
 unfoldable pub first_from : ℕ → List ℕ → ℕ → ℕ → ℕ

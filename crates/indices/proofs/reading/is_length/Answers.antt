@@ -16,17 +16,17 @@ beyond n h true true l m = absurd (omega (arith, leb-true n 1024 l, eqb-true (n 
 beyond n h true false l m = refl
 beyond n h false b l m = refl
 
-pub returns-then-turned-lt1 : goal.returns-then-turned-lt1
+pub returns-in-1-to-256 : goal.returns-in-1-to-256
+unfolding good_length code_limit
+returns-in-1-to-256 c =
+    rw (le-leb 1 c.args.n (omega arith), le-leb c.args.n field_limit (omega arith), eq-eqb (c.args.n % 4) 0 (omega arith))
+
+pub returns-in_default : goal.returns-in_default
 unfolding good_length
-returns-then-turned-lt1 c =
+returns-in_default c =
     rw (lt-leb 1 c.args.n (omega arith))
 
-pub returns-then-turned : goal.returns-then-turned
+pub returns-in_default-2 : goal.returns-in_default-2
 unfolding good_length code_limit
-returns-then-turned c =
+returns-in_default-2 c =
     rw (le-leb 1 c.args.n (omega arith), beyond c.args.n (omega arith) _ _ refl refl)
-
-pub returns : goal.returns
-unfolding good_length code_limit
-returns c =
-    rw (le-leb 1 c.args.n (omega arith), le-leb c.args.n field_limit (omega arith), eq-eqb (c.args.n % 4) 0 (omega arith))

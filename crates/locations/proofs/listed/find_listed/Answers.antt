@@ -1,9 +1,9 @@
+use Rattle.std.specs.Prelude.{Err}
 use mathlib.Core.Path.{◌≡◌, sym, ap, ◌∙◌}
 use Prim.Native.Nat.{ℕ}
 use lib.Dec.{eqb}
 use borrow.Author.Rules.{rules}
 use borrow.Author.Tests.{lt-ltb}
-use Rattle.indices.specs.declared.reading.Fault.TheVariants.{Bad}
 use Rattle.indices.specs.declared.reading.Refusal.TheVariants.{Past}
 use Rattle.indices.specs.Reading.{length_at, fault_at, reading}
 use Rattle.locations.specs.Inner.Terms.{listing_of}
@@ -22,22 +22,22 @@ loop-passed-init c =
 pub returns-then-area-at-lt8 : goal.returns-then-area-at-lt8
 unfolding fault_at
 returns-then-area-at-lt8 c =
-    let past : fault_at c.args.area.now c.loop-passed.at ≡ Bad Past =
+    let past : fault_at c.args.area.now c.loop-passed.at ≡ Err Past =
     rw (lt-ltb _ 8 c.if-area-at-lt8.true) in
     sought_bad c.loop-passed.invariant c.loop-passed-test.true _ (past)
 
-pub fault_of-fault-requires : goal.fault_of-fault-requires
+pub fault_of-requires : goal.fault_of-requires
 unfolding length_at
-fault_of-fault-requires c =
+fault_of-requires c =
     (search rules, c.read_be32-n.ensures)
 
-pub returns-in-Bad : goal.returns-in-Bad
-returns-in-Bad c =
-    sought_bad c.loop-passed.invariant c.loop-passed-test.true _ (sym c.fault_of-fault.ensures ∙ c.in-Bad.is)
+pub returns-in-Err : goal.returns-in-Err
+returns-in-Err c =
+    sought_bad c.loop-passed.invariant c.loop-passed-test.true _ (sym c.fault_of.ensures ∙ c.in-Err.is)
 
 pub loop-passed-preserved : goal.loop-passed-preserved
 loop-passed-preserved c =
-    sought_fine c.loop-passed.invariant c.loop-passed-test.true _ _ _ c.read_be32-n.ensures (sym c.fault_of-fault.ensures ∙ c.in-Fine.is)
+    sought_fine c.loop-passed.invariant c.loop-passed-test.true _ _ _ c.read_be32-n.ensures (sym c.fault_of.ensures ∙ c.in-Ok.is)
     (ap (λ (w : ℕ). eqb w c.args.index) c.read_be32.ensures) c.first_found-found.ensures
 
 pub returns : goal.returns

@@ -15,12 +15,12 @@ returns-then-cursor-eq0 c =
 
 pub pass_set-requires : goal.pass_set-requires
 pass_set-requires c =
-    (sym c.fault_at-fault.ensures ∙ c.in-Fine.is, omega (arith, c.if-cursor-eq0.false))
+    (sym c.fault_at.ensures ∙ c.in-Ok.is, omega (arith, c.if-cursor-eq0.false))
 
-pub returns-in-Bad : goal.returns-in-Bad
-returns-in-Bad c =
-    record { value = advance_set _ _ c.if-area-lt4.false _ c.if-cursor-eq0.false (sym c.in-Bad.is ∙ c.fault_at-fault.ensures); claims = view_claims }
+pub returns-in-Err : goal.returns-in-Err
+returns-in-Err c =
+    record { value = advance_set _ _ c.if-area-lt4.false _ c.if-cursor-eq0.false (sym c.in-Err.is ∙ c.fault_at.ensures); claims = view_claims }
 
-pub returns-in-Fine : goal.returns-in-Fine
-returns-in-Fine c =
-    record { value = c.pass_set.ensures ∙ advance_set _ _ c.if-area-lt4.false _ c.if-cursor-eq0.false (sym c.in-Fine.is ∙ c.fault_at-fault.ensures); claims = view_claims }
+pub returns-in-Ok : goal.returns-in-Ok
+returns-in-Ok c =
+    record { value = c.pass_set.ensures ∙ advance_set _ _ c.if-area-lt4.false _ c.if-cursor-eq0.false (sym c.in-Ok.is ∙ c.fault_at.ensures); claims = view_claims }

@@ -1,6 +1,4 @@
-use mathlib.Core.Path.{◌≡◌, sym, ◌∙◌}
-use Rattle.indices.specs.declared.reading.Next.TheVariants.{Found}
-use Rattle.indices.specs.Cursor.{next_of}
+use Rattle.std.proofs.Common.{sym, ◌∙◌}
 use Rattle.printing.proofs.Puts.{fits-first, ahead_first, ahead_then, ahead_none}
 use Rattle.print_indices.specs.Text.{line}
 use Rattle.print_indices.proofs.Lines.{lines_end, lines_found, fewer, found_inside}
@@ -10,24 +8,21 @@ pub loop-s-init : goal.loop-s-init
 loop-s-init c =
     rw c.start-cursor.ensures.value (ahead_first _ _ c.requires)
 
-pub returns-in-End : goal.returns-in-End
-returns-in-End c =
-    ahead_none (rw (lines_end _ _ (sym c.next.ensures.value ∙ c.in-End.is)) at c.loop-s.invariant)
+pub returns : goal.returns
+returns c =
+    ahead_none (rw (lines_end _ _ (sym c.next.ensures.value ∙ c.in_default.is)) at c.loop-s.invariant)
 
 pub put_line-requires : goal.put_line-requires
 put_line-requires c =
-    let found : next_of c.args.input.now c.loop-s.cursor ≡ Found c.in-Found.s c.in-Found.after =
-    sym c.next.ensures.value ∙ c.in-Found.is in
+    let found = sym c.next.ensures.value ∙ c.in-Some.is in
     record { length_in_bounds = found_inside _ _ _ _ (found); fits = fits-first _ (line _) _ (rw (lines_found _ _ _ _ (found)) at c.loop-s.invariant).fits }
 
 pub loop-s-smaller : goal.loop-s-smaller
 loop-s-smaller c =
-    let found : next_of c.args.input.now c.loop-s.cursor ≡ Found c.in-Found.s c.in-Found.after =
-    sym c.next.ensures.value ∙ c.in-Found.is in
+    let found = sym c.next.ensures.value ∙ c.in-Some.is in
     fewer _ _ _ _ (found)
 
 pub loop-s-preserved : goal.loop-s-preserved
 loop-s-preserved c =
-    let found : next_of c.args.input.now c.loop-s.cursor ≡ Found c.in-Found.s c.in-Found.after =
-    sym c.next.ensures.value ∙ c.in-Found.is in
+    let found = sym c.next.ensures.value ∙ c.in-Some.is in
     ahead_then _ (rw (lines_found _ _ _ _ (found)) at c.loop-s.invariant) c.put_line.ensures

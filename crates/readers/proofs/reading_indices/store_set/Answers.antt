@@ -14,4 +14,4 @@ bounds-out-to-3 c =
 
 pub returns : goal.returns
 returns c =
-    simp towards_suc
+    rw c.from.ensures (simp towards_suc)

@@ -1,10 +1,6 @@
 -- `reading_indices::store_sets` meets its contract.
-use Prim.Native.Nat.{◌-◌}
 use Rattle.readers.proofs.IndexWords.{Storing}
 use Rattle.readers.proofs.reading_indices.store_sets.Given as goal
 
 abbrev pub invariant-loop-i : goal.invariant-loop-i
 invariant-loop-i l = Storing l.area l.initial.out l.count l.out l.at l.i
-
-abbrev pub decreases-loop-i : goal.decreases-loop-i
-decreases-loop-i l = l.count - l.i
