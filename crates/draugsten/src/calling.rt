@@ -57,13 +57,9 @@ pub extern "C" fn draugsten_call(
         crossing::registration_of(registration),
         crossing::reading_of(reading),
     );
-    let answer = stepped.answer;
-    let number = answer.number;
-    let next = answer.registration;
-    let then = stepped.reading;
     FlatAnswer {
-        number: u32::from(number),
-        registration: crossing::flat_of(next),
-        reading: crossing::flat_reading_of(then),
+        number: u32::from(stepped.answer.number),
+        registration: crossing::flat_of(stepped.answer.registration),
+        reading: crossing::flat_reading_of(stepped.reading),
     }
 }

@@ -145,11 +145,9 @@ fn dispatch(
         let address = words::read_be32(args, 16);
         let len = words::read_be32(args, 20);
         let configured = configure_kernel_dump(&*memory, registration, command, address, len);
-        let status = configured.status;
-        let registration = configured.registration;
         return Work {
-            status,
-            registration,
+            status: configured.status,
+            registration: configured.registration,
             reading,
         };
     }
@@ -186,11 +184,13 @@ pub fn call_step(
 {
     let number = number_for(&*args);
     if !is_given(number) {
-        let answer = Answer {
-            number,
-            registration,
+        return Stepped {
+            answer: Answer {
+                number,
+                registration,
+            },
+            reading,
         };
-        return Stepped { answer, reading };
     }
     let inputs = words::read_be32(args, 4) as usize;
     let work = dispatch(
@@ -202,15 +202,14 @@ pub fn call_step(
         registration,
         reading,
     );
-    let status = work.status;
-    let registration = work.registration;
-    let reading = work.reading;
-    words::store_be32(args, 12 + 4 * inputs, u32::from(status));
-    let answer = Answer {
-        number,
-        registration,
-    };
-    Stepped { answer, reading }
+    words::store_be32(args, 12 + 4 * inputs, u32::from(work.status));
+    Stepped {
+        answer: Answer {
+            number,
+            registration: work.registration,
+        },
+        reading: work.reading,
+    }
 }
 
 // One call with the reading record changed in place: any argument buffer, memory, journal, inventory and edition, registration and record.
