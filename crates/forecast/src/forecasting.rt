@@ -23,24 +23,14 @@ pub struct Forecast {
 fn is_below(n: u64, all: Counts) -> bool
     ensures { result ≡ ltb n (total all) }
 {
-    let deletes = all.deletes as u64;
-    if n < deletes {
-        return true;
-    }
-    let updates = all.updates as u64;
-    if n - deletes < updates {
-        return true;
-    }
-    n - deletes - updates < all.additions as u64
+    u128::from(n) < all.deletes as u128 + all.updates as u128 + all.additions as u128
 }
 
+// Kept: StateVariable::is_within asks that the sum of all operations is below 2^64, and the tallies that come in here may be any.
 fn is_within(n: u64, all: Counts) -> bool
     ensures { result ≡ is_within n (total all) }
 {
-    if n == 0 {
-        return true;
-    }
-    is_below(n, all)
+    n == 0 || is_below(n, all)
 }
 
 fn refusal() -> Forecast

@@ -22,7 +22,6 @@ use Rattle.journal.proofs.RecordLaws.{frame_is, frame_none, framed}
 use Rattle.journal.proofs.PropertyLaws.{value_most_le, property_framed, frame_kind, frame_above, frame_length}
 use Rattle.tallies.specs.Keeping.{one_record}
 use Rattle.intake.specs.Taking.{good_front}
-use Rattle.intake.specs.Inner.Terms.{due_by}
 use Rattle.intake.specs.Claims.Intake.{Fronts, FrontExactly}
 
 -- ---- length and kind
@@ -64,14 +63,6 @@ module _ (len kind : ℕ) where
       (λ e. omega (arith, framed len kind e))
       (λ e. omega (arith, property_framed len kind (rw e at good), value_most_le kind))
 
-  pub due_bad : good_front len kind ≡ false → 4 ≡ due_by len kind
-  unfolding due_by
-  due_bad e = rw e
-
-  pub due_good : good_front len kind ≡ true → len + 2 ≡ due_by len kind
-  unfolding due_by
-  due_good e = rw e (omega (arith, front_bounds e))
-
 -- ---- the good fronts one by one
 
 node_fronts : (len kind : ℕ) → IsKind kind → len ≡ length_for kind → Fronts len kind
@@ -103,16 +94,14 @@ front_told len kind (inr (inr (inr (inr (inr p))))) = rw (p.0, le-leb 8 len p.1.
 pub front_exactly : FrontExactly
 front_exactly len kind = (told_front len kind, front_told len kind)
 
-pub due_frame : (r : List ℕ) → due_by (length_of r) (kind_of r) ≡ due good_front r
-unfolding due due_by
-due_frame r = refl
-
 -- what is due: the record where its front is good, else the four bytes
 pub due_size : (b : List ℕ) → good_front (length_of b) (kind_of b) ≡ true → due good_front b ≡ size_of b
-due_size b e = sym (due_frame b) ∙ sym (due_good (length_of b) (kind_of b) e)
+unfolding due
+due_size b e = rw e (omega (arith, front_bounds (length_of b) (kind_of b) e))
 
 pub due_four : (b : List ℕ) → good_front (length_of b) (kind_of b) ≡ false → due good_front b ≡ 4
-due_four b e = sym (due_frame b) ∙ sym (due_bad (length_of b) (kind_of b) e)
+unfolding due
+due_four b e = rw e
 
 -- no record is longer than the buffer that holds it
 pub due_most : (r : List ℕ) → due good_front r ≤ 32_808

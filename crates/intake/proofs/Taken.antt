@@ -1,17 +1,17 @@
 -- Laws of the states that are taken.
 use mathlib.Core.Path.{◌≡◌, refl}
-use mathlib.Core.Bool.{Bool, true, false, cond, not, false≢true}
+use mathlib.Core.Bool.{Bool, true, false, not, false≢true}
 use mathlib.Core.List.{List}
 use Prim.Native.Nat.{ℕ, ◌≤◌}
 use native.Mathlib.Omega.{arith}
 use lib.Dec.{leb, eqb}
 use lib.ListN.{length, take}
-use borrow.Author.Tests.{leb-true, le-leb, eqb-true, eq-eqb, ne_eqb}
+use borrow.Author.Tests.{leb-true, le-leb, eqb-true, eq-eqb}
 use Rattle.std.specs.Prelude.{Option, Some, None, is_some}
 use Rattle.words.specs.Claims.Exactly.{Exactly}
 use Rattle.words.proofs.Choice.{and_left, and_right}
-use Rattle.records.specs.Cutting.{due, ripe}
-use Rattle.records.proofs.Due.{due_least, nothing_raw}
+use Rattle.records.specs.Cutting.{ripe}
+use Rattle.records.proofs.Due.{nothing_raw}
 use Rattle.tallies.specs.declared.keeping.Refusal.{Refusal}
 use Rattle.tallies.specs.declared.keeping.Refusal.TheVariants.{Malformed, NoRoom, Unfit}
 use Rattle.tallies.specs.Keeping.{fits}
@@ -19,13 +19,10 @@ use Rattle.intake.specs.Taking.{good_front}
 use Rattle.intake.specs.States.{rests_at, ready_for}
 use Rattle.intake.specs.Claims.States.{ReadyExactly}
 
--- what is due at a place, or 0, tells whether the bytes there are a record
-pub none_due : (r : List ℕ) (n : ℕ) → n ≡ cond (ripe good_front r) (due good_front r) 0 → eqb n 0 ≡ not (ripe good_front r)
-none_due r n e = go (ripe good_front r) n e
-  where
-    go : (t : Bool) (m : ℕ) → m ≡ cond t (due good_front r) 0 → eqb m 0 ≡ not t
-    go true m f = ne_eqb m 0 (λ z. omega (arith, f, due_least good_front r))
-    go false m f = rw f
+-- a test and what tells its opposite
+pub none_told : (t n : Bool) → t ≡ not n → n ≡ not t
+none_told t true e = rw e
+none_told t false e = rw e
 
 -- ---- held bytes, by the fault
 

@@ -6,10 +6,10 @@ ghost use Rattle.intake.specs.Inner.Terms.{Sound, Finishes, Settles, Advanceable
 ghost use Rattle.tallies.specs.Claims.Tallies.{TallyClaims};
 ghost use Rattle.intake.specs.Claims.Intake.{IntakeClaims};
 
-use crate::filling::{gather, ripe_at};
+use crate::judging::JournalFront;
 use crate::sweeping::{Passed, sweep, take_stretch};
 use crate::taking::{Place, take};
-use records::fill;
+use records::{fill, gather, ripe_at};
 use stretch::Stretch;
 use tallies::{Refusal, Tallied};
 
@@ -57,9 +57,9 @@ fn finish(buffer: &mut [u8], store: &mut [u8], from: Intake, bytes: &[u8]) -> Fi
             at: 0,
         };
     }
-    let at = gather(store, had, bytes);
+    let at = gather::<JournalFront>(store, had, bytes);
     let all = had + at;
-    if ripe_at(&store[..all], 0) == 0 {
+    if ripe_at::<JournalFront>(&store[..all], 0).is_none() {
         return Finished {
             place,
             held: all,
@@ -116,10 +116,9 @@ fn pass(buffer: &mut [u8], from: Passed, bytes: &[u8]) -> Passed
                 at: bytes.len(),
             };
         }
-        let n = ripe_at(bytes, at);
-        if n == 0 {
+        let Some(n) = ripe_at::<JournalFront>(bytes, at) else {
             return Passed { place, at };
-        }
+        };
         let next = advance(buffer, Passed { place, at }, bytes, n);
         place = next.place;
         at = next.at;

@@ -2,7 +2,7 @@
 #![tactic(auto)]
 
 mod bursts;
-mod filling;
+mod judging;
 mod states;
 mod sweeping;
 mod taking;

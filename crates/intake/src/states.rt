@@ -6,7 +6,8 @@ ghost use Rattle.intake.specs.States.{ready_for};
 ghost use Rattle.intake.specs.Claims.States.{ReadyExactly};
 
 use crate::bursts::Intake;
-use crate::filling::ripe_at;
+use crate::judging::JournalFront;
+use records::ripe_at;
 use tallies::Refusal;
 
 // Whether so many bytes at the front of a store are an unfinished record, or none.
@@ -16,7 +17,7 @@ fn is_unfinished(store: &[u8], held: usize) -> bool
     if store.len() < held {
         return false;
     }
-    ripe_at(&store[..held], 0) == 0
+    ripe_at::<JournalFront>(&store[..held], 0).is_none()
 }
 
 // Whether an intake is one that a start or a burst can leave, with this store and a journal's buffer of this size.

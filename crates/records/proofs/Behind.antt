@@ -7,6 +7,7 @@ use native.Mathlib.Nat.{zero-add}
 use native.Mathlib.Omega.{arith}
 use lib.ListN.{length, take, drop, length-append, length-drop, take-append-drop}
 use lib.Seq.{sets, sets-eq, take_all, take_at, take-add, length-take-le}
+use Rattle.std.specs.Prelude.{Option, Some, None, is_some}
 use Rattle.words.proofs.Stores.{sets_behind}
 use Rattle.records.specs.Cutting.{due, ripe}
 use Rattle.records.specs.Inner.Filling.{Filled}
@@ -53,6 +54,56 @@ module _ (good : ℕ → ℕ → Bool) where
 
     pub ripe_all : (n : ℕ) → n ≡ due good (drop i b) → n ≤ length b - i → n ≡ ripe_at (drop i b) (ripe good (drop i b))
     ripe_all n e h = rw (ripe_due good (drop i b) (omega (arith, length-drop i b))) e
+
+  -- the same, where all of it is there
+  abbrev pub ripened : List ℕ → Option ℕ
+  ripened b = cond (ripe good b) (Some (due good b)) None
+
+  module _ (b : List ℕ) (i : ℕ) where
+    pub none_less : (n : ℕ) → n ≡ due good (drop i b) → length b - i < n → None ≡ ripened (drop i b)
+    none_less n e h = rw (raw_short good (drop i b) (omega (arith, length-drop i b)))
+
+    pub none_short : length b - i < 4 → None ≡ ripened (drop i b)
+    none_short h = none_less _ refl (omega (arith, due_least good (drop i b)))
+
+    pub some_all : (n : ℕ) → n ≡ due good (drop i b) → n ≤ length b - i → Some n ≡ ripened (drop i b)
+    some_all n e h = rw (ripe_due good (drop i b) (omega (arith, length-drop i b)), e)
+
+  module _ (b : List ℕ) (o : Option ℕ) (e : o ≡ ripened b) where
+    pub none_ripe : o ≡ None → 0 ≡ ripe_at b (ripe good b)
+    none_ripe z = go (ripe good b) (sym z ∙ e)
+      where
+        go : (t : Bool) → None ≡ cond t (Some (due good b)) None → 0 ≡ ripe_at b t
+        go true f = cc
+        go false f = refl
+
+    pub not_ripe : is_some o ≡ false → 0 ≡ ripe_at b (ripe good b)
+    not_ripe s = go (ripe good b) e
+      where
+        go : (t : Bool) → o ≡ cond t (Some (due good b)) None → 0 ≡ ripe_at b t
+        go true f = let z : true ≡ false = rw f at s in cc
+        go false f = refl
+
+    pub is_ripe : is_some o ≡ true → (due good b ≡ ripe_at b (ripe good b)) × (due good b ≡ 0 → ⊥)
+    is_ripe s = go (ripe good b) e
+      where
+        go : (t : Bool) → o ≡ cond t (Some (due good b)) None → (due good b ≡ ripe_at b t) × (due good b ≡ 0 → ⊥)
+        go true f = (refl, λ m. omega (arith, due_least good b))
+        go false f = let z : false ≡ true = rw f at s in cc
+
+    pub tells_ripe : is_some o ≡ ripe good b
+    tells_ripe = go (ripe good b) e
+      where
+        go : (t : Bool) → o ≡ cond t (Some (due good b)) None → is_some o ≡ t
+        go true f = rw f
+        go false f = rw f
+
+    pub some_ripe : (n : ℕ) → o ≡ Some n → (n ≡ ripe_at b (ripe good b)) × (n ≡ 0 → ⊥)
+    some_ripe n z = go (ripe good b) (sym z ∙ e)
+      where
+        go : (t : Bool) → Some n ≡ cond t (Some (due good b)) None → (n ≡ ripe_at b t) × (n ≡ 0 → ⊥)
+        go true f = let same : n ≡ due good b = cc in (same, λ m. omega (arith, due_least good b))
+        go false f = cc
 
   -- a record that is there
   pub record Ripe (b : List ℕ) (i n : ℕ) : Type 0 where

@@ -6,7 +6,7 @@ ghost use Rattle.records.specs.Inner.Filling.{Filled};
 fn missing(held: usize, upto: usize, left: usize) -> usize
     ensures { result ≡ min (upto - held) left }
 {
-    words::least(words::saturating_sub(upto, held), left)
+    upto.saturating_sub(held).min(left)
 }
 
 // Bytes of a burst from a place on go behind the held ones until there are so many, or the burst ends. Gives how many went.

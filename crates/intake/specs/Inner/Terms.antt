@@ -17,10 +17,6 @@ use Rattle.intake.specs.declared.taking.Place.{Place}
 use Rattle.intake.specs.Taking.{good_front, Taking, taking_of, step, reader}
 use Rattle.intake.specs.Bursts.{stands_at, standing_of, Ready, completed}
 
--- how many bytes are looked at together, by length and kind
-unfoldable pub due_by : ℕ → ℕ → ℕ
-due_by len kind = 4 + cond (good_front len kind) (len - 2) 0
-
 -- what an intake that fits its buffer has between records
 pub record Sound (s : Taking) : Type 0 where
   pub numbered : 1 ≤ s.number

@@ -1,6 +1,6 @@
-use mathlib.Core.Path.{sym, ◌∙◌}
+use mathlib.Core.Path.{refl, sym, ◌∙◌}
 use native.Mathlib.Omega.{arith}
-use Rattle.records.proofs.Behind.{ripe_is}
+use Rattle.records.proofs.Behind.{ripe_is, none_ripe, some_ripe}
 use Rattle.intake.specs.Taking.{good_front}
 use Rattle.intake.proofs.Standings.{pass_starts, pass_over, pass_held, pass_on}
 use Rattle.intake.proofs.bursts.pass.Goals as goal
@@ -17,22 +17,23 @@ pub returns-then-is_some : goal.returns-then-is_some
 returns-then-is_some c =
     pass_over c.loop-place.invariant (sym c.is_some.ensures ∙ c.if-is_some.true)
 
-pub ripe_at-n-requires : goal.ripe_at-n-requires
-ripe_at-n-requires c =
+pub ripe_at-requires : goal.ripe_at-requires
+ripe_at-requires c =
     c.loop-place.invariant.place
 
-pub shape_of-buffer-then-n-eq0 : goal.shape_of-buffer-then-n-eq0
-shape_of-buffer-then-n-eq0 c =
+pub shape_of-buffer-in_default : goal.shape_of-buffer-in_default
+shape_of-buffer-in_default c =
     c.loop-place.invariant.size
 
-pub returns-then-n-eq0 : goal.returns-then-n-eq0
-returns-then-n-eq0 c =
-    pass_held c.loop-place.invariant (sym c.is_some.ensures ∙ c.if-is_some.false) _ c.ripe_at-n.ensures c.if-n-eq0.true
+pub returns-in_default : goal.returns-in_default
+returns-in_default c =
+    pass_held c.loop-place.invariant (sym c.is_some.ensures ∙ c.if-is_some.false) _ (none_ripe good_front _ _ c.ripe_at.ensures c.in_default.is) refl
 
 pub advance-next-requires : goal.advance-next-requires
 advance-next-requires c =
     let now = c.loop-place.invariant in
-    let ripe = ripe_is good_front _ _ _ now.place c.ripe_at-n.ensures c.if-n-eq0.false in
+    let some = some_ripe good_front _ _ c.ripe_at.ensures _ c.in-Some.is in
+    let ripe = ripe_is good_front _ _ _ now.place some.0 some.1 in
     record { sound = now.sound; going = sym c.is_some.ensures ∙ c.if-is_some.false; is = ripe.is; fits = ripe.fits }
 
 pub loop-place-smaller : goal.loop-place-smaller

@@ -1,9 +1,10 @@
 -- `states::is_unfinished` meets its contract.
-use mathlib.Core.Path.{sym}
+use mathlib.Core.Path.{sym, ◌∙◌}
 use borrow.Author.Tests.{le-leb, lt-leb}
-use lib.ListN.{take}
 use lib.Seq.{length-take-le}
-use Rattle.intake.proofs.Taken.{none_due}
+use Rattle.records.proofs.Behind.{tells_ripe}
+use Rattle.intake.specs.Taking.{good_front}
+use Rattle.intake.proofs.Taken.{none_told}
 use Rattle.intake.proofs.states.is_unfinished.Goals as goal
 
 pub returns-then-store-held : goal.returns-then-store-held
@@ -16,5 +17,4 @@ slice_bounds-ripe_at-end c =
 
 pub returns : goal.returns
 returns c =
-    let a = c.args in
-    rw (le-leb _ _ c.if-store-held.false) (none_due (take a.held a.store.now) _ c.ripe_at.ensures)
+    rw (le-leb _ _ c.if-store-held.false) (none_told _ _ (sym (tells_ripe good_front _ _ c.ripe_at.ensures) ∙ c.is_none.ensures))

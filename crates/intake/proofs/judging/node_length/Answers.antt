@@ -1,6 +1,6 @@
--- `filling::node_length` meets its contract.
+-- `judging::node_length` meets its contract.
 use borrow.Author.Tests.{eq-eqb, ne_eqb}
-use Rattle.intake.proofs.filling.node_length.Goals as goal
+use Rattle.intake.proofs.judging.node_length.Goals as goal
 
 pub returns-then-kind-eq4 : goal.returns-then-kind-eq4
 returns-then-kind-eq4 c =

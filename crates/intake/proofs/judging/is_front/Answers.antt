@@ -1,9 +1,9 @@
--- `filling::is_front` meets its contract.
+-- `judging::is_front` meets its contract.
 use mathlib.Core.Path.{◌∙◌}
 use native.Mathlib.Omega.{arith}
 use borrow.Author.Tests.{ne_eqb}
 use Rattle.intake.proofs.Fronts.{front_zero, front_node, front_short, front_changed, front_gone, front_above}
-use Rattle.intake.proofs.filling.is_front.Goals as goal
+use Rattle.intake.proofs.judging.is_front.Goals as goal
 
 pub returns-then-kind-lt1 : goal.returns-then-kind-lt1
 returns-then-kind-lt1 c =
