@@ -31,12 +31,10 @@ pub fn reading_of(flat: FlatReading) -> ReadingRecord
 pub fn flat_reading_of(reading: ReadingRecord) -> FlatReading
     ensures { result ≡ flat_reading_of reading }
 {
-    let number = reading.number;
-    let edition = reading.edition;
     FlatReading {
         flag: reading.flag,
         item_type: reading.item_type,
-        number: number.0,
-        edition: edition.0,
+        number: reading.number.0,
+        edition: reading.edition.0,
     }
 }

@@ -17,13 +17,11 @@ pub struct FlatRegistration {
 fn phase_of(number: u32) -> Phase
     ensures { result ≡ phase_of number }
 {
-    if number == 0 {
-        return Phase::Unregistered;
+    match number {
+        0 => Phase::Unregistered,
+        1 => Phase::Registered,
+        _ => Phase::Active,
     }
-    if number == 1 {
-        return Phase::Registered;
-    }
-    Phase::Active
 }
 
 fn phase_number(phase: Phase) -> u32
@@ -58,10 +56,9 @@ pub fn registration_of(flat: FlatRegistration) -> Registration
 pub fn flat_of(registration: Registration) -> FlatRegistration
     ensures { result ≡ flat_of registration }
 {
-    let phase = registration.phase;
     let copy = registration.copy;
     FlatRegistration {
-        phase: phase_number(phase),
+        phase: phase_number(registration.phase),
         length: registration.len,
         copy,
     }
