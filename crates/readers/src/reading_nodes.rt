@@ -7,6 +7,8 @@ ghost use Rattle.node_area.specs.Inner.Terms as nodes_reading-inner;
 ghost use Rattle.node_area.specs.Claims.Cursor as nodes_cursor;
 ghost use Rattle.readers.specs.Readings.{operations_words, node_reading, nodes_out};
 
+use crate::storing::store;
+
 // What a reading of a node area tells: a refusal and its byte offset, or the state and the number of operations.
 #[repr(C)]
 #[derive(Clone, Copy)]
@@ -15,16 +17,6 @@ pub struct NodeReading {
     pub state: u32,
     pub offset: usize,
     pub entries: usize,
-}
-
-// Three words from a place on; every other word of the buffer stays.
-fn store_words(out: &mut [u32], to: usize, first: u32, second: u32, third: u32)
-    requires { to + 3 ≤ length out.old }
-    ensures { out.new ≡ sets out.old to (first ∷ second ∷ third ∷ []) }
-{
-    out[to] = first;
-    out[to + 1] = second;
-    out[to + 2] = third;
 }
 
 // Operations of one operand word, `n` of them, from a place of the area on.
@@ -36,7 +28,7 @@ fn store_singles(area: &[u8], at: usize, code: u32, n: usize, out: &mut [u32], t
 {
     for i in 0..n {
         let operand = words::read_be32(area, at + 4 * i);
-        store_words(out, to + 3 * i, code, operand, 0);
+        store(out, to + 3 * i, &[code, operand, 0]);
     }
 }
 
@@ -49,7 +41,7 @@ fn store_pairs(area: &[u8], at: usize, n: usize, out: &mut [u32], to: usize)
     for i in 0..n {
         let first = words::read_be32(area, at + 8 * i);
         let second = words::read_be32(area, at + 8 * i + 4);
-        store_words(out, to + 3 * i, 3, first, second);
+        store(out, to + 3 * i, &[3, first, second]);
     }
 }
 

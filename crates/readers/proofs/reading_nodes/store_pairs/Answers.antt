@@ -1,4 +1,3 @@
-use borrow.Author.Rules.{rules}
 use native.Mathlib.Omega.{arith}
 use Rattle.readers.proofs.NodeWords.{partly_first, partly_length, partly_all, pairs_next}
 use Rattle.readers.proofs.reading_nodes.store_pairs.Goals as goal
@@ -7,13 +6,13 @@ pub loop-i-init : goal.loop-i-init
 loop-i-init c =
     partly_first _ _ _ _ _ _ _ _
 
-pub store_words-requires : goal.store_words-requires
-store_words-requires c =
+pub store-requires : goal.store-requires
+store-requires c =
     omega (arith, partly_length c.loop-i.invariant)
 
 pub loop-i-preserved : goal.loop-i-preserved
 loop-i-preserved c =
-    pairs_next c.loop-i.invariant _ _ _ (search rules) c.requires.0 c.read_be32-first.ensures c.read_be32-second.ensures c.store_words.ensures
+    pairs_next c.loop-i.invariant _ _ _ c.loop-i-test.true c.requires.0 c.read_be32-first.ensures c.read_be32-second.ensures c.store.ensures
 
 pub shape_of-out : goal.shape_of-out
 shape_of-out c =
@@ -21,4 +20,4 @@ shape_of-out c =
 
 pub returns : goal.returns
 returns c =
-    partly_all c.loop-i.invariant (search rules)
+    partly_all c.loop-i.invariant c.loop-i-test.false

@@ -1,5 +1,5 @@
 -- `reading_nodes::store_pairs` meets its contract.
-use Prim.Native.Nat.{◌+◌, ◌-◌}
+use Prim.Native.Nat.{◌+◌}
 use Rattle.readers.proofs.NodeWords.{Partly}
 use Rattle.readers.proofs.reading_nodes.store_pairs.Given as goal
 

@@ -1,4 +1,3 @@
-use borrow.Author.Rules.{rules}
 use native.Mathlib.Omega.{arith}
 use Rattle.readers.proofs.NodeWords.{partly_first, partly_length, partly_all, singles_next}
 use Rattle.readers.proofs.reading_nodes.store_singles.Goals as goal
@@ -7,14 +6,14 @@ pub loop-i-init : goal.loop-i-init
 loop-i-init c =
     partly_first _ _ _ _ _ _ _ _
 
-pub store_words-requires : goal.store_words-requires
-store_words-requires c =
+pub store-requires : goal.store-requires
+store-requires c =
     omega (arith, partly_length c.loop-i.invariant)
 
 pub loop-i-preserved : goal.loop-i-preserved
 loop-i-preserved c =
     let code = c.requires.2 (omega arith) in
-    singles_next c.loop-i.invariant _ _ code.0 code.1 (search rules) c.requires.0 c.read_be32-operand.ensures c.store_words.ensures
+    singles_next c.loop-i.invariant _ _ code.0 code.1 c.loop-i-test.true c.requires.0 c.read_be32-operand.ensures c.store.ensures
 
 pub shape_of-out : goal.shape_of-out
 shape_of-out c =
@@ -22,4 +21,4 @@ shape_of-out c =
 
 pub returns : goal.returns
 returns c =
-    partly_all c.loop-i.invariant (search rules)
+    partly_all c.loop-i.invariant c.loop-i-test.false
