@@ -1,6 +1,6 @@
 -- Laws of the fixed list: the bytes behind so many NULs.
 use mathlib.Core.Path.{◌≡◌, refl, sym, ap, ◌∙◌}
-use mathlib.Core.Bool.{cond}
+use mathlib.Core.Bool.{Bool, true, false, cond}
 use mathlib.Core.List.{List, [], ◌∷◌, ◌++◌, append_assoc}
 use Prim.Native.Nat.{ℕ, zero, suc, ◌+◌, ◌-◌, ◌<◌, ◌≤◌, min}
 use native.Mathlib.Nat.{zero-add}
@@ -8,10 +8,12 @@ use native.Mathlib.Numerals.{add-one}
 use native.Mathlib.Omega.{arith}
 use lib.Dec.{ltb, eqb}
 use lib.ListN.{length, get_or, take, drop, length-take, length-drop, length-append, take-append-drop, drop_of_length-le}
-use lib.Seq.{slice, slice-cons, slice_empty, length-slice, take-length, drop-nil, drop-drop, drop-append-le, drop-append-add, take_at}
+use lib.Seq.{slice, length-slice, drop-cons, take-length, drop-nil, drop-drop, drop-append-le, drop-append-add, take_at}
 use borrow.Author.Tests.{eq-eqb, ne_eqb, eqb-true, eqb-false, lt-ltb, le-ltb, ltb-true, ltb-false}
 use Rattle.words.specs.Nul.{until_nul}
 use Rattle.words.proofs.Choice.{choose, decide}
+use Rattle.words.proofs.Ranges.{range_is}
+use Rattle.std.specs.Int.{from_bool}
 use Rattle.words.proofs.Ends.{until-take, string_back}
 use Rattle.locations.specs.declared.lookups.Location.TheVariants as location
 use Rattle.locations.specs.Locations.{behind_nuls, fixed_part, fixed_location, code_of}
@@ -21,22 +23,29 @@ use Rattle.locations.specs.Claims.Locations.{Plain, AllPlain, ended, EachFixed}
 -- ---- counting the NULs of a block
 
 -- the bytes up to a place are counted
-pub record Counts (l : List ℕ) (from to i n : ℕ) : Type 0 where
-  pub within : i ≤ to
-  pub few : n + from ≤ i
-  pub same : n + nuls (slice i to l) ≡ nuls (slice from to l)
+pub record Counts (block : List ℕ) (i n : ℕ) : Type 0 where
+  pub few : n ≤ i
+  pub same : n + nuls (drop i block) ≡ nuls block
 
-module _ {l : List ℕ} {from to i n : ℕ} (fits : to ≤ length l) (c : Counts l from to i n) where
-  pub counts_next : (k : ℕ) → i < to → k ≡ cond (eqb (get_or l i 0) 0) 1 0 → Counts l from to (i + 1) (n + k)
-  unfolding nuls
-  counts_next k h e =
-      let next : n + nuls (slice i to l) ≡ n + (k + nuls (slice (i + 1) to l)) = rw (slice-cons i to l 0 h fits, ← e, add-one i) in
-      let one : k ≤ 1 = rw e (choose (eqb (get_or l i 0) 0) (λ (m : ℕ). m ≤ 1) (λ _. omega arith) (λ _. omega arith)) in
-      record { within = omega arith; few = omega (arith, c.few); same = omega (arith, c.same) }
+pub counts_start : (block : List ℕ) → Counts block 0 0
+counts_start block = record { few = omega arith; same = zero-add _ }
 
-  pub counts_end : to ≤ i → n ≡ nuls (slice from to l)
+pub one_nul : (b : Bool) → (from_bool b ≤ 1) × (from_bool b ≡ cond b 1 0)
+one_nul true = (omega arith, refl)
+one_nul false = (omega arith, refl)
+
+module _ {block : List ℕ} {i n : ℕ} (c : Counts block i n) where
+  pub counts_next : (k : ℕ) (b : Bool) → i < length block → b ≡ eqb (get_or block i 0) 0 → k ≡ from_bool b → Counts block (i + 1) (n + k)
   unfolding nuls
-  counts_end h = let e : i ≡ to = omega (arith, c.within) in let none : nuls (slice i to l) ≡ 0 = rw (e, slice_empty to l) in omega (arith, c.same)
+  counts_next k b h is e =
+      let one = one_nul b in
+      let counted : k ≡ cond (eqb (get_or block i 0) 0) 1 0 = e ∙ one.1 ∙ ap (λ (x : Bool). cond x 1 0) is in
+      let next : nuls (drop i block) ≡ k + nuls (drop (i + 1) block) = rw (drop-cons block i 0 h, ← counted, add-one i) in
+      record { few = omega (arith, c.few, one.0, e); same = omega (arith, c.same, next) }
+
+  pub counts_end : length block ≤ i → n ≡ nuls block
+  unfolding nuls
+  counts_end h = let none : nuls (drop i block) ≡ 0 = rw (drop_of_length-le block h) in omega (arith, c.same)
 
 -- ---- past NULs
 
@@ -83,6 +92,10 @@ behind_place (suc k) (b ∷ bs) =
 -- ---- the search for an entry
 
 -- a search for a NUL stops at the list's end
+-- the place of the NUL by the code's search behind a place
+pub nul_place_lem : (l : List ℕ) (at n : ℕ) → n ≡ length (until_nul (take (length l - at) (drop at l))) → at + n ≡ at + length (until_nul (slice at (length l) l))
+nul_place_lem l at n e = ap (λ (k : ℕ). at + k) (e ∙ ap (λ (b : List ℕ). length (until_nul b)) (range_is l at (length l)))
+
 pub nul_inside : (l : List ℕ) (at nul : ℕ) → at ≤ length l → nul ≡ at + length (until_nul (slice at (length l) l)) → nul ≤ length l
 nul_inside l at nul h e =
     let rest : List ℕ = slice at (length l) l in
@@ -96,8 +109,9 @@ module _ {l : List ℕ} {index at left : ℕ} (s : Seeks l index at left) where
   block : (to : ℕ) → at ≤ to → to ≤ length l → drop at l ≡ slice at to l ++ drop to l
   block to h f = sym (ap (drop at) (take-append-drop to l)) ∙ drop-append-le at (take to l) (drop to l) (omega (arith, length-take to l))
 
-  pub seeks_block : (n : ℕ) → at + 64 ≤ length l → n ≡ nuls (slice at (at + 64) l) → n < left → Seeks l index (at + 64) (left - n)
-  seeks_block n f e h =
+  pub seeks_block : (n : ℕ) → at + 64 ≤ length l → n ≡ nuls (take (at + 64 - at) (drop at l)) → n < left → Seeks l index (at + 64) (left - n)
+  seeks_block n f told h =
+      let e : n ≡ nuls (slice at (at + 64) l) = told ∙ ap nuls (range_is l at (at + 64)) in
       record { inside = f; same = rw e (sym (behind_more (slice at (at + 64) l) (drop (at + 64) l) left (omega arith)) ∙ ap (behind_nuls left) (sym (block (at + 64) (omega arith) f)) ∙ s.same) }
 
   -- past the next NUL

@@ -1,6 +1,5 @@
 // The fixed list: codes one after the other, each with its NUL, numbered from 0.
 ghost use Rattle.std.specs.Prelude.{◌≡◌, ◌+◌, ◌-◌, ◌≤◌, length, drop};
-ghost use Rattle.std.proofs.Math.Seq.{slice};
 ghost use Rattle.locations.specs.Locations.{fixed_part};
 ghost use Rattle.locations.specs.Inner.Terms.{nuls, Skips, entry_start};
 
@@ -16,28 +15,26 @@ struct Place {
     left: usize,
 }
 
-// How many of the bytes of a block are NULs.
-fn nuls_in(fixed: &[u8], at: usize) -> usize
-    requires { at + 64 ≤ length fixed.now }
-    ensures { result ≡ nuls (slice at (at + 64) fixed.now) }
+// How many of the bytes of a block are NULs. They are counted in a byte, so that many are looked at at once.
+fn nuls_in(block: &[u8]) -> usize
+    requires { length block.now ≤ 64 }
+    ensures { result ≡ nuls block.now }
 {
-    let mut i: usize = 0;
     let mut n: u8 = 0;
-    while i < BLOCK {
-        n += if fixed[at + i] == 0 { 1 } else { 0 };
-        i += 1;
+    for byte in block {
+        n += u8::from(*byte == 0);
     }
-    n as usize
+    usize::from(n)
 }
 
 // Past whole blocks that end before the entry.
 fn skip_blocks(fixed: &[u8], index: usize) -> Place
     ensures { Skips fixed.now index result }
 {
-    let mut at: usize = 0;
+    let mut at = 0;
     let mut left = index;
     while at + BLOCK <= fixed.len() {
-        let n = nuls_in(fixed, at);
+        let n = nuls_in(&fixed[at..at + BLOCK]);
         if left <= n {
             return Place { at, left };
         }
@@ -55,8 +52,8 @@ fn entry_start(fixed: &[u8], index: usize) -> usize
     let mut at = place.at;
     let mut left = place.left;
     while 0 < left && at < fixed.len() {
-        let nul = words::find_nul(fixed, at, fixed.len());
-        at = words::least(nul + 1, fixed.len());
+        let nul = at + words::until_nul(&fixed[at..]);
+        at = (nul + 1).min(fixed.len());
         left -= 1;
     }
     at
@@ -67,7 +64,7 @@ pub fn find_fixed(fixed: &[u8], index: usize) -> Part
     ensures { result ≡ fixed_part fixed.now index }
 {
     let start = entry_start(fixed, index);
-    let end = words::find_nul(fixed, start, fixed.len());
+    let end = start + words::until_nul(&fixed[start..]);
     if end < fixed.len() {
         return Part {
             start,

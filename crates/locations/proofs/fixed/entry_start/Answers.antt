@@ -1,6 +1,6 @@
-use borrow.Author.Rules.{rules}
+use Rattle.std.proofs.Common.{arith}
 use borrow.Author.Tests.{ltb-false}
-use Rattle.locations.proofs.NulLaws.{nul_inside, seeks_next, seeks_none, seeks_end}
+use Rattle.locations.proofs.NulLaws.{nul_place_lem, nul_inside, seeks_next, seeks_none, seeks_end}
 use Rattle.locations.proofs.fixed.entry_start.Goals as goal
 
 pub loop-left-init : goal.loop-left-init
@@ -9,12 +9,15 @@ loop-left-init c =
 
 pub overflow_add-nul : goal.overflow_add-nul
 overflow_add-nul c =
-    let inside = nul_inside c.args.fixed.now _ _ c.loop-left.invariant.inside c.find_nul-nul.ensures in
-    search rules
+    omega (arith, nul_inside c.args.fixed.now _ _ c.loop-left.invariant.inside (nul_place_lem _ _ _ c.until_nul.ensures))
+
+pub overflow_add-nul-in-loop-left : goal.overflow_add-nul-in-loop-left
+overflow_add-nul-in-loop-left c =
+    omega (arith, nul_inside c.args.fixed.now _ _ c.loop-left.invariant.inside (nul_place_lem _ _ _ c.until_nul.ensures))
 
 pub loop-left-preserved : goal.loop-left-preserved
 loop-left-preserved c =
-    seeks_next c.loop-left.invariant _ _ c.loop-left-test.true c.find_nul-nul.ensures c.least-at.ensures
+    seeks_next c.loop-left.invariant _ _ c.loop-left-test.true (nul_place_lem _ _ _ c.until_nul.ensures) c.min-at.ensures
 
 pub returns-else-at-fixed : goal.returns-else-at-fixed
 returns-else-at-fixed c =
