@@ -25,6 +25,7 @@ pub fn wanted_unit(units: Units) -> u64
 }
 
 // 1 where a unit is the one wanted, else 0.
+// Kept: this and the tests below give 1 or 0 and no bool, since the scan adds them up with no branch that depends on a record.
 pub fn same_unit(wanted: u64, unit: u64) -> usize
     ensures { result ≡ cond (eqb unit wanted) 1 0 }
 {

@@ -15,6 +15,7 @@ use crate::scope::{Selection, Units};
 use crate::units::asked_here;
 
 // 1 where a set holds an opcode, else 0.
+// Kept: this and the tests below give 1 or 0 and no bool, since the walk and the scan add them up with no branch that depends on a record.
 fn in_set(set: u8, opcode: Opcode) -> usize
     ensures { result ≡ cond (holds set (number opcode)) 1 0 }
 {
