@@ -4,4 +4,4 @@
 mod comparing;
 mod playing;
 
-pub use playing::{Playing, due_by, is_going, play};
+pub use playing::{Playing, is_going, is_good_frame, play};

@@ -3,7 +3,7 @@ ghost use Rattle.std.specs.Prelude.{◌≡◌, cond, not, ◌+◌, ◌-◌, ◌�
 ghost use Rattle.std.proofs.lemmas.List.Edits.{sets};
 ghost use Rattle.trace.specs.Trace.{body_of, good_frame};
 ghost use Rattle.trace.specs.Playing.{is_over, agreed};
-ghost use Rattle.playing.specs.Played.{platform_of, due_by};
+ghost use Rattle.playing.specs.Played.{platform_of};
 ghost use Rattle.playing.specs.Claims.Played.{Steady};
 ghost use Rattle.playing.specs.Inner.Terms.{played_on, kept_by, faulted_by, set_by, memory_set, left_by, called_by, Playable, Plays};
 
@@ -182,7 +182,7 @@ fn run_call(
 }
 
 // Whether length and kind can be those of a good record.
-fn is_good_frame(length: u16, kind: u16) -> bool
+pub fn is_good_frame(length: u16, kind: u16) -> bool
     ensures { result ≡ good_frame length kind }
 {
     if length < 2 {
@@ -192,16 +192,6 @@ fn is_good_frame(length: u16, kind: u16) -> bool
         return false;
     }
     32 <= kind && kind <= 34
-}
-
-// How many bytes of a record are looked at together, by its length and kind.
-pub fn due_by(length: u16, kind: u16) -> usize
-    ensures { result ≡ due_by length kind }
-{
-    if is_good_frame(length, kind) {
-        return length as usize + 2;
-    }
-    4
 }
 
 // One record, whole where its length and kind can be good, else its first four bytes.

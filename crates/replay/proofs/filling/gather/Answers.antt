@@ -1,19 +1,8 @@
 -- `filling::gather` meets its contract.
 use native.Mathlib.Omega.{arith}
-use Rattle.records.proofs.Behind.{gather_short, gather_all}
-use Rattle.trace.specs.Trace.{good_frame}
 use Rattle.trace.proofs.Reader.{due_most}
 use Rattle.replay.proofs.filling.gather.Goals as goal
 
-pub returns-then-four-lt4 : goal.returns-then-four-lt4
-returns-then-four-lt4 c =
-    gather_short good_frame c.args.buffer.now c.args.held c.args.bytes.now _ _ c.fill-front.ensures c.if-four-lt4.true
-
-pub fill-more-requires : goal.fill-more-requires
-fill-more-requires c =
-    let kept = c.fill-front.auto.buffer in
-    (omega (arith, c.fill-front.ensures.amount, kept, c.requires.0, c.requires.1), omega (arith, kept, c.requires.1, c.due_at-n.ensures, due_most c.fill-front.new.buffer), omega (arith, c.fill-front.ensures.amount))
-
-pub returns : goal.returns
-returns c =
-    gather_all good_frame c.args.buffer.now c.args.held c.args.bytes.now _ _ c.fill-front.ensures c.requires.0 c.if-four-lt4.false _ _ _ c.due_at-n.ensures c.fill-more.ensures
+pub gather-requires : goal.gather-requires
+gather-requires c =
+    (c.requires.0, λ r. omega (arith, due_most r, c.requires.1))

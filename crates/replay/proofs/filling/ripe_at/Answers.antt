@@ -1,16 +1,15 @@
 -- `filling::ripe_at` meets its contract.
-use Rattle.records.proofs.Behind.{ripe_short, ripe_less, ripe_all}
-use Rattle.trace.specs.Trace.{good_frame}
+use mathlib.Core.Path.{◌≡◌, ◌∙◌}
+use mathlib.Core.Bool.{Bool, true, false, cond}
+use Prim.Native.Nat.{ℕ}
+use Rattle.std.specs.Prelude.{Option, Some, None}
+use Rattle.std.specs.Option.{unwrap_or}
 use Rattle.replay.proofs.filling.ripe_at.Goals as goal
 
-pub returns-then-bytes-at-lt4 : goal.returns-then-bytes-at-lt4
-returns-then-bytes-at-lt4 c =
-    ripe_short good_frame c.args.bytes.now c.args.at c.if-bytes-at-lt4.true
-
-pub returns-then-bytes-at : goal.returns-then-bytes-at
-returns-then-bytes-at c =
-    ripe_less good_frame c.args.bytes.now c.args.at _ c.due_at-n.ensures c.if-bytes-at.true
+or_zero : (t : Bool) (n : ℕ) (o : Option ℕ) → o ≡ cond t (Some n) None → unwrap_or o 0 ≡ cond t n 0
+or_zero true n o e = rw e
+or_zero false n o e = rw e
 
 pub returns : goal.returns
 returns c =
-    ripe_all good_frame c.args.bytes.now c.args.at _ c.due_at-n.ensures c.if-bytes-at.false
+    c.unwrap_or.ensures ∙ or_zero _ _ _ c.ripe_at.ensures
