@@ -4,8 +4,9 @@
 tests/modules.py MODULE.. reads the modules that the kit lowers the proved libraries to, before any optimisation
 (tools/modules.sh). tools/carry.py has to know every word of a module. Beside that:
 
-- A pointer that a function takes, is given or returns has no attribute but noundef, which NULL satisfies; a struct that
-  is passed by value in memory also has byval and its alignment. A pointer that is loaded has no metadata but !noundef.
+- A pointer that a function takes, is given or returns, alone or beside a tag as an Option of a reference has it, has no
+  attribute but noundef, which NULL satisfies; a struct that is passed by value in memory also has byval and its alignment.
+  A pointer that is loaded has no metadata but !noundef.
   So there is no nonnull, no dereferenceable and no align.
 - No pointer is compared or converted to a number, so no answer depends on its value; but for one thing: an export begins with
   putting the address 4096 in the place of a buffer that is NULL, in the same four lines each time. The address is read only as
@@ -37,10 +38,10 @@ STAND_IN = re.compile(r'  (%r\d+) = icmp eq ptr (%a\d+), null\n'
                       r'  (%r\d+) = getelementptr i8, ptr \2, i64 \4\n'
                       r'  store ptr \5, ptr %r\d+, align 8\n')
 EXPORT = re.compile(r'define (?!internal )')
-TAKEN = re.compile(r'ptr noundef(?: byval\(\[\d+ x i8\]\) align \d+)?$')
+TAKEN = re.compile(r'ptr(?: noundef)?(?: byval\(\[\d+ x i8\]\) align \d+)?$')
 GIVEN = re.compile(r'ptr(?: noundef)?$')
 DECLARED = re.compile(r'ptr (?:writeonly|readonly) captures\(none\)$')
-RETURNED = re.compile(r'(?:noundef )?ptr$')
+RETURNED = re.compile(r'(?:noundef )?(?:ptr|\{ i8, ptr \})$')
 
 # Faults to plant: in the first line of this kind, in the place of this part, this.
 PLANTED = [

@@ -15,6 +15,6 @@ pub fn fill(buffer: &mut [u8], held: usize, bytes: &[u8], at: usize, upto: usize
     ensures { Filled buffer.old held bytes.now at upto buffer.new result }
 {
     let n = missing(held, upto, bytes.len() - at);
-    words::store_bytes(buffer, held, bytes, at, n);
+    words::store(buffer, held, &bytes[at..at + n]);
     n
 }

@@ -106,51 +106,6 @@ module _ (s : List ℕ) (limit end before : ℕ) (near : end ≡ min (length s) 
       let inside : there < length s = omega (arith, stops_at, near, cut) in
       rw (same, le-leb 1 there one, le-leb there limit few, lt-ltb there (length s) inside)
 
--- a shorter part is the front of a longer one
-part_front : (f e t : ℕ) (s : List ℕ) → e ≤ t → slice f e s ≡ take (e - f) (slice f t s)
-part_front zero e t s h = let all : e - 0 ≡ e = omega arith in rw all (sym (take-take e t s h))
-part_front (suc f) zero t s h = let none : 0 - suc f ≡ 0 = omega arith in rw none
-part_front (suc f) (suc e) zero s h = absurd (omega arith)
-part_front (suc f) (suc e) (suc t) [] h = sym (take-nil (suc e - suc f))
-part_front (suc f) (suc e) (suc t) (x ∷ xs) h = let less : suc e - suc f ≡ e - f = omega arith in rw less (part_front f e t xs (omega arith))
-
--- The search for the NUL of a string of at most so many bytes looks at one byte more, and at none past the part's end.
-module _ (s : List ℕ) (from to limit end nul : ℕ) (fits : (from ≤ to) × (to ≤ length s))
-    (near : end ≡ min to (from + limit + 1)) (found : nul ≡ from + length (until_nul (slice from end s))) where
-  abbrev part : List ℕ
-  part = slice from to s
-
-  abbrev string : ℕ
-  string = length (until_nul part)
-
-  size : length part ≡ to - from
-  size = length-slice from to s fits.1
-
-  stops : nul ≡ from + min (end - from) string
-  stops = found ∙ ap (λ (n : ℕ). from + n) (ap (λ (l : List ℕ). length (until_nul l)) (part_front from end to s (omega arith)) ∙ until-take (end - from) part)
-
-  pub string_none : end ≤ nul → 0 ≡ cond (is_ended limit part) string 0
-  unfolding is_ended
-  string_none h =
-      decide (leb string limit)
-      (λ t. rw (t, size, le-ltb string (to - from) (omega (arith, leb-true string limit t, stops)), and-false))
-      (λ t. rw (t, and-false))
-
-  pub string_there : nul < end → nul - from ≡ cond (is_ended limit part) string 0
-  unfolding is_ended
-  string_there h =
-      let same : nul - from ≡ string = omega (arith, stops) in
-      let ended = lt-ltb string (to - from) (omega (arith, stops)) in
-      rw (same, size, ended, le-leb string limit (omega (arith, stops))) (decide (leb 1 string) (λ t. rw t) (λ t. rw t (omega (arith, leb-false 1 string t))))
-
--- the length that is told of a string is 0 only where there is none
-module _ (limit : ℕ) (s : List ℕ) (n : ℕ) (told : n ≡ cond (is_ended limit s) (length (until_nul s)) 0) where
-  pub ended_none : n ≡ 0 → is_ended limit s ≡ false
-  ended_none z = decide (is_ended limit s) (λ t. absurd (omega (arith, (ended_bounds limit s t).0, rw t at told))) (λ t. t)
-
-  pub ended_some : (n ≡ 0 → ⊥) → (is_ended limit s ≡ true) × (n ≡ length (until_nul s))
-  ended_some z = decide (is_ended limit s) (λ t. (t, rw t at told)) (λ t. absurd (z (rw t at told)))
-
 -- a string without a NUL, and a NUL behind it
 until_append : (l r : List ℕ) → until_nul (l ++ (0 ∷ r)) ≡ until_nul l
 unfolding until_nul

@@ -1,16 +1,14 @@
-// Numbers in bytes: big-endian 16, 32 and 64 bits, little-endian 16, 32 and 64 bits; and arithmetic that never wraps.
+// Numbers in bytes: big-endian and little-endian, 16, 32 and 64 bits; bytes that are zero or that a NUL ends; a refusal with its place.
 #![tactic(auto)]
 
-mod arithmetic;
 mod nul;
 mod reading;
 mod refused;
 mod storing;
 mod zero;
 
-pub use arithmetic::{least, saturating_sub};
-pub use nul::{ended_length, find_nul, string_length, until_nul};
+pub use nul::{ended_length, until_nul};
 pub use reading::{read_be16, read_be32, read_be64, read_le16, read_le32, read_le64};
 pub use refused::Refused;
-pub use storing::{store, store_be16, store_be32, store_be64, store_bytes, store_zeros};
-pub use zero::{are_zeros, is_zero};
+pub use storing::{store, store_be16, store_be32, store_be64, store_zeros};
+pub use zero::are_zeros;

@@ -1,9 +1,6 @@
 // The end of bytes that a NUL ends.
-ghost use Rattle.std.specs.Prelude.{◌≡◌, ◌==◌, cond, ◌+◌, ◌<◌, ◌≤◌, length, position};
-ghost use Rattle.std.proofs.Math.Seq.{slice};
+ghost use Rattle.std.specs.Prelude.{◌≡◌, ◌==◌, cond, ◌+◌, ◌<◌, length, position};
 ghost use Rattle.words.specs.Nul.{until_nul, is_ended};
-
-use crate::arithmetic::least;
 
 // The place of the first NUL among a few bytes.
 fn first_nul(bytes: &[u8]) -> Option<usize>
@@ -40,25 +37,4 @@ pub fn ended_length(bytes: &[u8], limit: usize) -> Option<usize>
         return None;
     }
     Some(before)
-}
-
-// The place of the first NUL from one place up to another, or the end.
-pub fn find_nul(s: &[u8], from: usize, to: usize) -> usize
-    requires { (from ≤ to) × (to ≤ length s.now) }
-    ensures { result ≡ from + length (until_nul (slice from to s.now)) }
-{
-    from + until_nul(&s[from..to])
-}
-
-// The length of the string of 1 to `limit` bytes whose NUL stands before `to`, or 0 where there is none.
-pub fn string_length(s: &[u8], from: usize, to: usize, limit: usize) -> usize
-    requires { (from ≤ to) × (to ≤ length s.now) × (limit < 0x1_0000_0000) }
-    ensures { result ≡ cond (is_ended limit (slice from to s.now)) (length (until_nul (slice from to s.now))) 0 }
-{
-    let end = least(to, from + limit + 1);
-    let nul = find_nul(s, from, end);
-    if end <= nul {
-        return 0;
-    }
-    nul - from
 }

@@ -1,5 +1,5 @@
 // Storing a number at a place of a slice.
-ghost use Rattle.std.specs.Prelude.{◌≡◌, ◌+◌, ◌≤◌, length, take, drop, replicate};
+ghost use Rattle.std.specs.Prelude.{◌≡◌, ◌+◌, ◌≤◌, length, replicate};
 ghost use Rattle.std.proofs.lemmas.List.Edits.{sets};
 ghost use Rattle.words.specs.Numbers.{be_bytes};
 
@@ -35,14 +35,6 @@ pub fn store(s: &mut [u8], at: usize, bytes: &[u8])
     for i in 0..bytes.len() {
         s[at + i] = bytes[i];
     }
-}
-
-// Bytes of another slice, `n` of them, from a place on; every other byte of the slice stays.
-pub fn store_bytes(s: &mut [u8], at: usize, source: &[u8], from: usize, n: usize)
-    requires { (at + n ≤ length s.old) × (from + n ≤ length source.now) }
-    ensures { s.new ≡ sets s.old at (take n (drop from source.now)) }
-{
-    store(s, at, &source[from..from + n]);
 }
 
 // So many zero bytes from a place on; every other byte of the slice stays.
