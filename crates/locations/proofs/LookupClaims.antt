@@ -1,4 +1,5 @@
 -- What is claimed of a lookup holds.
+use Rattle.std.specs.Prelude.{Option, None, Some}
 use mathlib.Core.Path.{◌≡◌, refl, sym, ap, ◌∙◌}
 use mathlib.Core.Bool.{true, false, false≢true}
 use mathlib.Core.List.{List, []}
@@ -7,7 +8,7 @@ use native.Mathlib.Nat.{zero-add}
 use native.Mathlib.Omega.{arith}
 use lib.Dec.{ltb, eqb}
 use lib.ListN.{length, take, drop, length-take, length-drop}
-use borrow.Author.Tests.{ne_eqb, eqb-true, eqb-false, leb-true, ltb-true}
+use borrow.Author.Tests.{ne_eqb, eqb-false, leb-true, ltb-true}
 use Rattle.words.specs.Claims.Exactly.{Exactly}
 use Rattle.words.specs.Numbers.{be32}
 use Rattle.words.specs.Nul.{until_nul}
@@ -28,7 +29,7 @@ use Rattle.locations.specs.Locations.{behind_nuls, fixed_part, fixed_location, p
 use Rattle.locations.specs.Inner.Terms.{Sets, first_from, no_bounds, bounds_of}
 use Rattle.locations.specs.Claims.Locations.{EmptyExactly, RefusedFirst, Reserved, ListedWins, OtherwiseFixed, ended, LocationClaims}
 use Rattle.locations.proofs.NulLaws.{behind_short, each_fixed}
-use Rattle.locations.proofs.Listings.{all_read, first_set, first_wins, none_listed}
+use Rattle.locations.proofs.Listings.{FirstSet, all_read, first_set, first_wins, none_listed}
 use Rattle.locations.proofs.LookupReadings.{lookup_readings}
 
 -- ---- a code that is found has a byte, and stands inside its buffer
@@ -67,11 +68,13 @@ fixed_placed area fixed index =
 placed : (area fixed : List ℕ) (index : ℕ) (es : List Entry) → reading area ≡ read es → Placed area fixed (location_by (read es) area fixed index)
 placed area fixed index es h =
     let n : ℕ = be32 area 0 in
-    let sets = first_set n area 4 index es (all_read area es h) (omega arith) in
-    choose (eqb index 0xffff_ffff) (Placed area fixed) (λ _. tt)
-    (λ _. decide (eqb (first_from n area 4 index) 0)
-    (λ t. rw (sets.none (eqb-true (first_from n area 4 index) 0 t) (fixed_location fixed index)) (fixed_placed area fixed index))
-    (λ t. rw (sets.some (eqb-false (first_from n area 4 index) 0 t) (fixed_location fixed index)) (set_inside area (first_from n area 4 index) (sets.good (eqb-false (first_from n area 4 index) 0 t)))))
+    let sets = first_set n area 4 index es (all_read area es h) in
+    choose (eqb index 0xffff_ffff) (Placed area fixed) (λ _. tt) (λ _. by_offset sets (first_from n area 4 index) refl)
+  where
+    by_offset : FirstSet (be32 area 0) area 4 index → (found : Option ℕ) → first_from (be32 area 0) area 4 index ≡ found
+        → Placed area fixed (first_listed (be32 area 0) area 4 index (fixed_location fixed index))
+    by_offset sets None e = rw (sets.none e (fixed_location fixed index)) (fixed_placed area fixed index)
+    by_offset sets (Some k) e = rw (sets.some k e (fixed_location fixed index)) (set_inside area k (sets.good k e))
 
 -- ---- a lookup by the bounds of its code
 

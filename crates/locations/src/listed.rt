@@ -1,9 +1,10 @@
 // The first set of an index work area that lists an index. The area is judged and searched in one pass.
-ghost use Rattle.std.specs.Prelude.{◌≡◌, cond, ◌&&◌, eqb, ◌+◌, ◌-◌, ◌≤◌, length};
+ghost use Rattle.std.specs.Prelude.{◌≡◌};
 ghost use Rattle.locations.specs.Locations.{part_at};
-ghost use Rattle.locations.specs.Inner.Terms.{Sets, listing_of};
+ghost use Rattle.locations.specs.Inner.Terms.{Sets, first_found, listing_of};
 
 use indices::Refusal;
+use words::Refused;
 
 // Where a code stands in its buffer, without its NULs.
 #[derive(Clone, Copy)]
@@ -12,38 +13,43 @@ pub struct Part {
     pub length: usize,
 }
 
-// What an area tells of an index: why it is refused, or the byte offset of the first set that lists the index, 0 where none does.
-#[derive(Clone, Copy)]
-pub enum Listing {
-    Refused(Refusal, usize),
-    First(usize),
-}
-
 // The first of two offsets: one that was found before stays.
-fn first_found(found: usize, at: usize, lists: bool) -> usize
-    ensures { result ≡ cond (eqb found 0 && lists) at found }
+fn first_found(found: Option<usize>, at: usize, lists: bool) -> Option<usize>
+    ensures { result ≡ first_found found at lists }
 {
-    if found == 0 && lists { at } else { found }
+    match found {
+        Some(_) => found,
+        None => lists.then_some(at),
+    }
 }
 
-// The whole area judged, and the index sought on the way.
-pub fn find_listed(area: &[u8], index: u32) -> Listing
+// The whole area judged, and the index sought on the way: the byte offset of the first set that lists it, if one does.
+pub fn find_listed(area: &[u8], index: u32) -> Result<Option<usize>, Refused<Refusal>>
     ensures { result ≡ listing_of area.now index }
 {
     if area.len() < 4 {
-        return Listing::Refused(Refusal::Short, 0);
+        return Err(Refused {
+            refusal: Refusal::Short,
+            offset: 0,
+        });
     }
     let count = words::read_be32(area, 0) as usize;
     let mut at = 4;
-    let mut found = 0;
+    let mut found = None;
     for passed in 0..count {
         if area.len() - at < 8 {
-            return Listing::Refused(Refusal::Past, at);
+            return Err(Refused {
+                refusal: Refusal::Past,
+                offset: at,
+            });
         }
         let n = words::read_be32(area, at + 4);
         match indices::fault_of(area, at, n) {
-            Err(r) => {
-                return Listing::Refused(r, at);
+            Err(refusal) => {
+                return Err(Refused {
+                    refusal,
+                    offset: at,
+                });
             }
             Ok(()) => {
                 found = first_found(found, at, words::read_be32(area, at) == index);
@@ -51,7 +57,7 @@ pub fn find_listed(area: &[u8], index: u32) -> Listing
             }
         }
     }
-    Listing::First(found)
+    Ok(found)
 }
 
 // Where the code of a good set stands.

@@ -5,7 +5,7 @@ ghost use Rattle.locations.specs.Claims.Locations.{LocationClaims};
 ghost use Rattle.locations.specs.Inner.Terms.{Narrow, no_bounds, bounds_of};
 
 use crate::fixed::find_fixed;
-use crate::listed::{Listing, Part, find_listed, part_at};
+use crate::listed::{Part, find_listed, part_at};
 use indices::Refusal;
 
 // An index that no lookup finds.
@@ -63,17 +63,16 @@ pub fn locate(area: &[u8], fixed: &[u8], index: u32) -> Location
     ensures value { result ≡ location_of area.now fixed.now index }
     ensures claims { LocationClaims }
 {
-    let listing = find_listed(area, index);
-    match listing {
-        Listing::Refused(r, at) => Location::Refused(r, at),
-        Listing::First(at) => {
+    match find_listed(area, index) {
+        Err(refused) => Location::Refused(refused.refusal, refused.offset),
+        Ok(first) => {
             if index == NO_INDEX {
                 return Location::NotFound;
             }
-            if at == 0 {
-                return in_fixed(fixed, index);
+            match first {
+                Some(at) => Location::InArea(part_at(area, at)),
+                None => in_fixed(fixed, index),
             }
-            Location::InArea(part_at(area, at))
         }
     }
 }

@@ -1,12 +1,11 @@
 -- Terms of the contracts of private functions; no public promise cites them.
-use Rattle.std.specs.Prelude.{ℕ, zero, suc, ◌+◌, ◌-◌, ◌≤◌, ◌<◌, ◌≡◌, true, false, cond, List, [], ◌∷◌, eqb, length, drop, Ok}
+use Rattle.std.specs.Prelude.{ℕ, zero, suc, ◌+◌, ◌-◌, ◌≤◌, ◌<◌, ◌≡◌, true, false, cond, List, [], ◌∷◌, eqb, length, drop, Ok, Bool, Option, None, Some, Result, Err}
 use Rattle.words.specs.Numbers.{be32}
 use Rattle.words.specs.Reading.{Reading, read, refused}
 use Rattle.inventory.specs.Listing.{Entry}
 use Rattle.indices.specs.declared.reading.Refusal.{Refusal}
 use Rattle.indices.specs.Reading.{length_at, fault_at, reading}
-use Rattle.locations.specs.declared.listed.Listing.{Listing}
-use Rattle.locations.specs.declared.listed.Listing.TheVariants.{Refused, First}
+use Rattle.words.specs.declared.refused.Refused.{Refused}
 use Rattle.locations.specs.declared.fixed.Place.{Place}
 use Rattle.locations.specs.declared.lookups.Location.{Location}
 use Rattle.locations.specs.declared.lookups.Location.TheVariants as location
@@ -17,16 +16,21 @@ use Rattle.locations.specs.Locations.{behind_nuls}
 abbrev pub Sets : List ℕ → ℕ → Type 0
 Sets area at = fault_at area at ≡ Ok tt
 
--- the byte offset of the first of n sets that lists an index, 0 where none does
-unfoldable pub first_from : ℕ → List ℕ → ℕ → ℕ → ℕ
-first_from zero area at index = 0
-first_from (suc n) area at index = let later = first_from n area (at + (8 + length_at area at)) index in cond (eqb (be32 area at) index) at later
+-- the first of two offsets: one that was found before stays
+abbrev pub first_found : Option ℕ → ℕ → Bool → Option ℕ
+first_found (Some n) at lists = Some n
+first_found None at lists = cond lists (Some at) None
 
-abbrev pub listing_by : Reading Entry Refusal → List ℕ → ℕ → Listing
-listing_by (refused r at) area index = Refused r at
-listing_by (read es) area index = First (first_from (be32 area 0) area 4 index)
+-- the byte offset of the first of n sets that lists an index, where one does
+unfoldable pub first_from : ℕ → List ℕ → ℕ → ℕ → Option ℕ
+first_from zero area at index = None
+first_from (suc n) area at index = let later = first_from n area (at + (8 + length_at area at)) index in cond (eqb (be32 area at) index) (Some at) later
 
-unfoldable pub listing_of : List ℕ → ℕ → Listing
+abbrev pub listing_by : Reading Entry Refusal → List ℕ → ℕ → Result (Option ℕ) (Refused Refusal)
+listing_by (refused r at) area index = Err (record { refusal = r; offset = at })
+listing_by (read es) area index = Ok (first_from (be32 area 0) area 4 index)
+
+unfoldable pub listing_of : List ℕ → ℕ → Result (Option ℕ) (Refused Refusal)
 listing_of area index = listing_by (reading area) area index
 
 -- how many NULs there are
