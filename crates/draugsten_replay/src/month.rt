@@ -1,5 +1,5 @@
 // The month: a replay that counts, and totals over traces.
-ghost use Rattle.std.specs.Prelude.{◌≡◌, ◌≤◌};
+ghost use Rattle.std.specs.Prelude.{◌≡◌, ◌≤◌, IfSome};
 ghost use Rattle.counting.specs.Figures.{figures_of};
 ghost use Rattle.counting.specs.Claims.Terms.{Within};
 ghost use Rattle.draugsten_replay.specs.Month.{is_counting_by, judged_counting_by, flat_counting_start, CountingFeeds, counts_added, month_added};
@@ -77,7 +77,7 @@ fn judge_counting(held: &[u8], room: usize, replay: FlatReplay, counts: Counts) 
 }
 
 fn flat_counting_of(from: Replay) -> FlatCounting
-    requires { from.playing.size ≤ 4100 }
+    requires { IfSome from.playing.waiting (λ size. size ≤ 4100) }
     ensures { result ≡ flat_counting_of from }
 {
     let counts = from.counts;

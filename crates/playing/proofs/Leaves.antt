@@ -6,10 +6,11 @@ use Prim.Native.Nat.{ℕ, ◌+◌, ◌-◌, ◌<◌, ◌≤◌}
 use native.Mathlib.Nat.{zero-add}
 use native.Mathlib.Numerals.{add-one}
 use native.Mathlib.Omega.{arith}
+use Rattle.std.specs.Prelude.{min}
 use lib.Dec.{leb, eqb}
 use lib.ListN.{length, get_or, take, drop, length-drop}
 use lib.Seq.{sets, take_all, drop-cons, drop-drop, drop-length}
-use borrow.Author.Tests.{eq-eqb, ne_eqb, le-leb, lt-leb}
+use borrow.Author.Tests.{eq-eqb, ne_eqb, le-leb, lt-leb, leb-true, leb-false}
 use Rattle.words.specs.Numbers.{le32}
 use Rattle.words.proofs.Numbers.{le_drop}
 use Rattle.words.proofs.Choice.{decide}
@@ -55,12 +56,18 @@ module _ {a b : List ℕ} {i : ℕ} (r : Alike a b i) where
         same = r.same ∙ rw (add-one i, drop-cons a i 0 l, drop-cons b i 0 m, eq-eqb (get_or a i 0) (get_or b i 0) h) (omega arith);
       }
 
-  pub common_first : length a ≤ i → i ≡ common a b
+  common_first : length a ≤ i → i ≡ common a b
   unfolding common
   common_first l = let e : i ≡ length a = omega arith in sym (r.same ∙ rw (e, drop-length a) (omega arith))
 
-  pub common_second : length b ≤ i → i ≡ common a b
+  common_second : length b ≤ i → i ≡ common a b
   common_second l = let e : i ≡ length b = omega arith in sym (r.same ∙ rw (e, drop-length b, common_none) (omega arith))
+
+  -- one of them ends here
+  pub common_end : min (length a) (length b) ≤ i → min (length a) (length b) ≡ common a b
+  common_end h = decide (leb (length a) (length b))
+      (λ t. let l = leb-true _ _ t in let e : min (length a) (length b) ≡ i = omega (arith, r.within, r.other) in e ∙ common_first (omega arith))
+      (λ t. let l = leb-false _ _ t in let e : min (length a) (length b) ≡ i = omega (arith, r.within, r.other) in e ∙ common_second (omega arith))
 
   pub common_here : i < length a → i < length b → (get_or a i 0 ≡ get_or b i 0 → ⊥) → i ≡ common a b
   unfolding common

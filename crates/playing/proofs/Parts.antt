@@ -1,5 +1,7 @@
 -- Laws of the parts of lent buffers.
-use mathlib.Core.Path.{◌≡◌, sym, ap, ◌∙◌}
+use Rattle.std.specs.Prelude.{Option, Some, None, IsSome, IsNone, IfSome, unwrap_or}
+use mathlib.Core.Bool.{true≢false, false≢true}
+use mathlib.Core.Path.{◌≡◌, refl, sym, ap, ◌∙◌}
 use mathlib.Core.List.{List, ◌++◌}
 use Prim.Native.Nat.{ℕ, ◌+◌, ◌-◌, ◌≤◌}
 use native.Mathlib.Omega.{arith}
@@ -28,3 +30,17 @@ stored_front body l h = ap (take (length body)) (sets-eq body l 0 (omega arith))
 -- what stands behind the first k bytes
 pub behind : (k : ℕ) (l : List ℕ) → take (length l - k) (drop k l) ≡ drop k l
 behind k l = take_all (length l - k) (drop k l) (omega (arith, length-drop k l))
+
+-- ---- the size of what waits, if anything does
+
+pub some_is : (w : Option ℕ) → IsSome w → w ≡ Some (unwrap_or w 0)
+some_is (Some n) e = refl
+some_is None e = absurd (false≢true e)
+
+pub none_is : (w : Option ℕ) → IsNone w → w ≡ None
+none_is (Some n) e = absurd (true≢false e)
+none_is None e = refl
+
+pub within_is : (w : Option ℕ) → IfSome w (λ n. n ≤ 4100) → unwrap_or w 0 ≤ 4100
+within_is (Some n) h = h
+within_is None h = omega arith

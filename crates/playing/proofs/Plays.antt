@@ -1,6 +1,7 @@
 -- What a record does, way by way through the code.
 use mathlib.Core.Path.{◌≡◌, refl, sym, ap, ◌∙◌}
-use mathlib.Core.Bool.{Bool, true, false, and-false}
+use Rattle.std.specs.Prelude.{Option, Some, None}
+use mathlib.Core.Bool.{true, false, and-false}
 use mathlib.Core.List.{List}
 use Prim.Native.Nat.{ℕ, ◌+◌, ◌-◌, ◌≤◌, ◌<◌}
 use native.Mathlib.Omega.{arith}
@@ -59,11 +60,11 @@ module _ (p : Platform) (args memory : List ℕ) (t : Playing) (item : List ℕ)
 
   fault_state : state_of args memory (faulted_by t) ≡ faulted s
   unfolding faulted
-  fault_state = go t.waits
+  fault_state = go t.waiting
     where
-      go : (w : Bool) → state_of args memory (faulted_by (record { records = t.records; report = t.report; waits = w; size = t.size; edition = t.edition; registration = t.registration; reading = t.reading })) ≡ faulted (state_of args memory (record { records = t.records; report = t.report; waits = w; size = t.size; edition = t.edition; registration = t.registration; reading = t.reading }))
-      go true = refl
-      go false = refl
+      go : (w : Option ℕ) → state_of args memory (faulted_by (record { records = t.records; report = t.report; waiting = w; edition = t.edition; registration = t.registration; reading = t.reading })) ≡ faulted (state_of args memory (record { records = t.records; report = t.report; waiting = w; edition = t.edition; registration = t.registration; reading = t.reading }))
+      go (Some n) = refl
+      go None = refl
 
   fault_steady : Steady args (faulted_by t)
   fault_steady = record { room = ready.steady.room; inside = ready.steady.inside; few = ready.steady.few; fewer = omega arith }
@@ -93,22 +94,22 @@ module _ (p : Platform) (args memory : List ℕ) (t : Playing) (item : List ℕ)
     item_size = omega (arith, cut_size item ready.cut good, (frame_bounds (length_of item) (kind_of item) good).1)
 
     -- a 32 waits
-    module _ (waits : t.waits ≡ true) where
-      waiting_is : s.waiting ≡ call (take t.size args)
-      waiting_is = ap (λ (w : Bool). waiting_of w t.size args) waits
+    module _ (size : ℕ) (waits : t.waiting ≡ Some size) where
+      waiting_is : s.waiting ≡ call (take size args)
+      waiting_is = ap (λ (w : Option ℕ). waiting_of w args) waits
 
-      pub plays_call : (argsThen memoryThen : List ℕ) (r : Playing) → kind_of item ≡ 33 → r ≡ called_by (left_by p memory args t) t (body_of item)
-          → memoryThen ≡ (left_by p memory args t).memory → argsThen ≡ sets args 0 (left_by p memory args t).args → Plays p args memory t item argsThen memoryThen r
+      pub plays_call : (argsThen memoryThen : List ℕ) (r : Playing) → kind_of item ≡ 33 → r ≡ called_by (left_by p memory args t size) t (body_of item)
+          → memoryThen ≡ (left_by p memory args t size).memory → argsThen ≡ sets args 0 (left_by p memory args t size).args → Plays p args memory t item argsThen memoryThen r
       unfolding calling
       plays_call argsThen memoryThen r kind e m a =
           rw (e, m, a)
           (record {
             same = sym (good_step ∙ rw (waiting_is, eq-eqb (kind_of item) 33 kind));
             steady = record {
-              room = omega (arith, length-sets args 0 (left_by p memory args t).args, ready.steady.room);
-              inside = omega arith;
+              room = omega (arith, length-sets args 0 (left_by p memory args t size).args, ready.steady.room);
+              inside = tt;
               few = omega arith;
-              fewer = omega (arith, compared_few (agreed t.report) (body_of item) (left_by p memory args t).args, ready.steady.fewer);
+              fewer = omega (arith, compared_few (agreed t.report) (body_of item) (left_by p memory args t size).args, ready.steady.fewer);
             };
             edition = refl;
           })
@@ -116,9 +117,9 @@ module _ (p : Platform) (args memory : List ℕ) (t : Playing) (item : List ℕ)
       pub plays_unanswered : (kind_of item ≡ 33 → ⊥) → Plays p args memory t item args memory (faulted_by t)
       plays_unanswered kind = plays_fault (good_step ∙ rw (waiting_is, ne_eqb (kind_of item) 33 kind))
 
-    module _ (waits : t.waits ≡ false) where
-      none_waits : s.waiting ≡ waiting_of false t.size args
-      none_waits = ap (λ (w : Bool). waiting_of w t.size args) waits
+    module _ (waits : t.waiting ≡ None) where
+      none_waits : s.waiting ≡ waiting_of None args
+      none_waits = ap (λ (w : Option ℕ). waiting_of w args) waits
 
       pub plays_keep : (argsThen : List ℕ) (r : Playing) → kind_of item ≡ 32 → argsThen ≡ sets args 0 (body_of item) → r ≡ kept_by t (length item - 4) → Plays p args memory t item argsThen memory r
       unfolding kept
@@ -140,7 +141,7 @@ module _ (p : Platform) (args memory : List ℕ) (t : Playing) (item : List ℕ)
           step_is = good_step ∙ rw (none_waits, ne_eqb (kind_of item) 32 other, eq-eqb (kind_of item) 34 kind)
 
           set : is_settable memory (body_of item) ≡ true → Plays p args memory t item args (memory_set memory (body_of item)) (set_by memory t (body_of item))
-          set yes_is = rw yes_is (record { same = sym (step_is ∙ rw (yes_is, none_waits)); steady = record { room = ready.steady.room; inside = omega arith; few = omega arith; fewer = omega (arith, ready.steady.fewer) }; edition = refl })
+          set yes_is = rw yes_is (record { same = sym (step_is ∙ rw (yes_is, none_waits)); steady = record { room = ready.steady.room; inside = tt; few = omega arith; fewer = omega (arith, ready.steady.fewer) }; edition = refl })
 
           unset : is_settable memory (body_of item) ≡ false → Plays p args memory t item args (memory_set memory (body_of item)) (set_by memory t (body_of item))
           unset no_is = rw no_is (plays_fault (step_is ∙ rw no_is))

@@ -1,5 +1,5 @@
 -- Where the code of a replay stands before and after a record: a struct by value, memory, and a lent buffer with the body of the 32 that waits at its front.
-use Rattle.std.specs.Prelude.{ℕ, ◌+◌, ◌-◌, Bool, true, false, cond, List, length, take}
+use Rattle.std.specs.Prelude.{ℕ, ◌+◌, ◌-◌, cond, List, take, Option, Some, None}
 use Rattle.playing.specs.declared.playing.Playing.{Playing}
 use Rattle.trace.specs.Trace.{good_frame}
 use Rattle.trace.specs.Playing.{Platform, Waiting, none, call, State}
@@ -9,15 +9,15 @@ abbrev pub platform_of : List ℕ → List ℕ → Playing → Platform
 platform_of journal inventory t = record { journal = journal; inventory = inventory; edition = t.edition }
 
 -- the 32 that waits
-abbrev pub waiting_of : Bool → ℕ → List ℕ → Waiting
-waiting_of true n args = call (take n args)
-waiting_of false n args = none
+abbrev pub waiting_of : Option ℕ → List ℕ → Waiting
+waiting_of (Some n) args = call (take n args)
+waiting_of None args = none
 
 abbrev pub state_of : List ℕ → List ℕ → Playing → State
 state_of args memory t = record {
   records = t.records;
   report = t.report;
-  waiting = waiting_of t.waits t.size args;
+  waiting = waiting_of t.waiting args;
   memory = memory;
   registration = t.registration;
   reading = t.reading;

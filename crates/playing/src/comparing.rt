@@ -8,19 +8,13 @@ use trace::Report;
 fn common_length(a: &[u8], b: &[u8]) -> usize
     ensures { result ≡ common a.now b.now }
 {
-    let mut i: usize = 0;
-    loop {
-        if a.len() <= i {
-            break i;
-        }
-        if b.len() <= i {
-            break i;
-        }
+    let shorter = a.len().min(b.len());
+    for i in 0..shorter {
         if a[i] != b[i] {
-            break i;
+            return i;
         }
-        i += 1;
     }
+    shorter
 }
 
 // What comes of a call after so many that agreed.
@@ -29,11 +23,8 @@ pub fn compare(calls: u32, recorded: &[u8], ours: &[u8]) -> Report
     ensures { result ≡ compared calls recorded.now ours.now }
 {
     let same = common_length(recorded, ours);
-    if same != recorded.len() {
-        return Report::Differs(calls + 1, same as u32);
+    if same == recorded.len() && same == ours.len() {
+        return Report::Agreed(calls + 1);
     }
-    if same != ours.len() {
-        return Report::Differs(calls + 1, same as u32);
-    }
-    Report::Agreed(calls + 1)
+    Report::Differs(calls + 1, same as u32)
 }

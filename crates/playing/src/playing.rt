@@ -1,5 +1,5 @@
 // What a record does to a replay.
-ghost use Rattle.std.specs.Prelude.{◌≡◌, cond, not, ◌+◌, ◌-◌, ◌≤◌, length};
+ghost use Rattle.std.specs.Prelude.{◌≡◌, cond, not, ◌+◌, ◌-◌, ◌≤◌, length, Some, is_some};
 ghost use Rattle.std.proofs.lemmas.List.Edits.{sets};
 ghost use Rattle.trace.specs.Trace.{body_of, good_frame};
 ghost use Rattle.trace.specs.Playing.{is_over, agreed};
@@ -13,13 +13,12 @@ use dump::Registration;
 use inventory::Edition;
 use trace::Report;
 
-// How many records were taken, what the replay came to so far, whether a 32 waits and the size of its body, the edition, and what the calls left.
+// How many records were taken, what the replay came to so far, the size of the body of the 32 that waits, the edition, and what the calls left.
 #[derive(Clone, Copy)]
 pub struct Playing {
     pub records: u64,
     pub report: Report,
-    pub waits: bool,
-    pub size: usize,
+    pub waiting: Option<usize>,
     pub edition: Edition,
     pub registration: Registration,
     pub reading: ReadingRecord,
@@ -29,11 +28,7 @@ pub struct Playing {
 pub fn is_going(report: Report) -> bool
     ensures { result ≡ not (is_over report) }
 {
-    match report {
-        Report::Agreed(_) => true,
-        Report::Differs(_, _) => false,
-        Report::Malformed(_) => false,
-    }
+    matches!(report, Report::Agreed(_))
 }
 
 fn calls_in(report: Report) -> u32
@@ -41,20 +36,19 @@ fn calls_in(report: Report) -> u32
 {
     match report {
         Report::Agreed(calls) => calls,
-        Report::Differs(_, _) => 0,
-        Report::Malformed(_) => 0,
+        _ => 0,
     }
 }
 
 // The number of the record at fault: of a 32 that waits its own, otherwise that of the record behind those taken.
-fn blamed(records: u64, waits: bool) -> u64
+fn blamed(records: u64, waiting: Option<usize>) -> u64
     requires { records ≤ 4_294_967_295 }
-    ensures { result ≡ cond waits records (records + 1) }
+    ensures { result ≡ cond (is_some waiting) records (records + 1) }
 {
-    if waits {
-        return records;
+    match waiting {
+        Some(_) => records,
+        None => records + 1,
     }
-    records + 1
 }
 
 // A malformed record stops the replay.
@@ -67,9 +61,8 @@ fn fault(from: Playing) -> Playing
     let edition = from.edition;
     Playing {
         records: from.records,
-        report: Report::Malformed(blamed(from.records, from.waits)),
-        waits: from.waits,
-        size: from.size,
+        report: Report::Malformed(blamed(from.records, from.waiting)),
+        waiting: from.waiting,
         edition,
         registration,
         reading,
@@ -88,12 +81,11 @@ fn keep(args: &mut [u8], from: Playing, item: &[u8]) -> Playing
     let edition = from.edition;
     let report = from.report;
     let size = item.len() - 4;
-    words::store_bytes(args, 0, item, 4, size);
+    words::store(args, 0, &item[4..]);
     Playing {
         records: from.records + 1,
         report,
-        waits: true,
-        size,
+        waiting: Some(size),
         edition,
         registration,
         reading,
@@ -114,7 +106,7 @@ fn set_memory(memory: &mut [u8], from: Playing, item: &[u8]) -> Playing
     if memory.len() < at + size {
         return fault(from);
     }
-    words::store_bytes(memory, at, item, 8, size);
+    words::store(memory, at, &item[8..]);
     let report = from.report;
     let registration = from.registration;
     let reading = from.reading;
@@ -135,8 +127,7 @@ fn play_on(
     Playing {
         records: from.records + 1,
         report,
-        waits: false,
-        size: 0,
+        waiting: None,
         edition,
         registration,
         reading,
@@ -150,17 +141,17 @@ fn run_call(
     journal: &[u8],
     inventory: &[u8],
     from: Playing,
+    size: usize,
     item: &[u8],
 ) -> Playing
-    requires { Steady args.old from × (from.records ≤ 0xffff_fffe) × (4 ≤ length item.now) × (length item.now ≤ 4104) }
-    ensures value { result ≡ called_by (left_by (platform_of journal.now inventory.now from) memory.old args.old from)
+    requires { Steady args.old from × (from.waiting ≡ Some size) × (from.records ≤ 0xffff_fffe) × (4 ≤ length item.now) × (length item.now ≤ 4104) }
+    ensures value { result ≡ called_by (left_by (platform_of journal.now inventory.now from) memory.old args.old from size)
         from (body_of item.now) }
     ensures memory_after { memory.new ≡ (left_by (platform_of journal.now inventory.now from) memory.old args.old
-        from).memory }
+        from size).memory }
     ensures args_after { args.new ≡ sets args.old 0
-        (left_by (platform_of journal.now inventory.now from) memory.old args.old from).args }
+        (left_by (platform_of journal.now inventory.now from) memory.old args.old from size).args }
 {
-    let size = from.size;
     let edition = from.edition;
     let registration = from.registration;
     let reading = from.reading;
@@ -214,11 +205,12 @@ pub fn play(
     if !is_good_frame(frame.length, frame.kind) {
         return fault(from);
     }
-    if from.waits {
+    // Kept: written as one match on what waits and the kind, it took 512 bytes more of the stack, past the limit of the header (tests/stack.c).
+    if let Some(size) = from.waiting {
         if frame.kind != 33 {
             return fault(from);
         }
-        return run_call(args, memory, journal, inventory, from, item);
+        return run_call(args, memory, journal, inventory, from, size, item);
     }
     if frame.kind == 32 {
         return keep(args, from, item);

@@ -1,6 +1,7 @@
 -- What an end tells.
+use Rattle.std.specs.Prelude.{Option, Some, None, is_some}
 use mathlib.Core.Path.{◌≡◌, refl, ap, ◌∙◌}
-use mathlib.Core.Bool.{Bool, true, false}
+use mathlib.Core.Bool.{true, false}
 use mathlib.Core.List.{List, [], ◌∷◌}
 use Prim.Native.Nat.{ℕ, ◌<◌}
 use native.Mathlib.Omega.{arith}
@@ -46,17 +47,17 @@ unfolding faulted
 faulted_told s r e = (e, refl, refl, refl)
 
 -- the end by what waits, of which the number is told
-end_blamed : (r : Report) (n : ℕ) (waits : Bool) (size : ℕ) (args : List ℕ) (held : ℕ) → is_over r ≡ false → (held ≡ 0 → ⊥) → Malformed (blamed n (waiting_of waits size args)) ≡ end_of r n waits held
-end_blamed r n true size args held e z = end_waits r n true held (rw e) refl
-end_blamed r n false size args held e z = end_held r n false held (rw e) refl z
+end_blamed : (r : Report) (n : ℕ) (waiting : Option ℕ) (args : List ℕ) (held : ℕ) → is_over r ≡ false → (held ≡ 0 → ⊥) → Malformed (blamed n (waiting_of waiting args)) ≡ end_of r n (is_some waiting) held
+end_blamed r n (Some size) args held e z = end_waits r n true held (rw e) refl
+end_blamed r n None args held e z = end_held r n false held (rw e) refl z
 
 ne_pos : (n : ℕ) → (n ≡ 0 → ⊥) → 0 < n
 ne_pos n z = omega arith
 
 -- nothing is held, and a 32 waits or not
-unanswered_told : (s : State) (waits : Bool) (size : ℕ) (args : List ℕ) → s.waiting ≡ waiting_of waits size args → is_over s.report ≡ false → Told (unanswered s (waiting_of waits size args)) s (end_of s.report s.records waits 0)
-unanswered_told s true size args q e = faulted_told s _ (ap (λ (x : Waiting). Malformed (blamed s.records x)) q ∙ end_waits s.report s.records true 0 (rw e) refl)
-unanswered_told s false size args q e = (end_clean s.report s.records false 0 (rw e) refl refl, refl, refl, refl)
+unanswered_told : (s : State) (waiting : Option ℕ) (args : List ℕ) → s.waiting ≡ waiting_of waiting args → is_over s.report ≡ false → Told (unanswered s (waiting_of waiting args)) s (end_of s.report s.records (is_some waiting) 0)
+unanswered_told s (Some size) args q e = faulted_told s _ (ap (λ (x : Waiting). Malformed (blamed s.records x)) q ∙ end_waits s.report s.records true 0 (rw e) refl)
+unanswered_told s None args q e = (end_clean s.report s.records false 0 (rw e) refl refl, refl, refl, refl)
 
 module _ (p : Platform) (s : State) where
   ended_none : ended (reader p) (start s) ≡ s
@@ -85,20 +86,20 @@ module _ (p : Platform) (held args memory : List ℕ) (w : Replay) (ready : Read
   Here = state_of args memory w.playing
 
   abbrev Tells : List ℕ → ℕ → Type 0
-  Tells h n = Told (concluded (ended (reader p) (at Here h))) Here (end_of w.playing.report w.playing.records w.playing.waits n)
+  Tells h n = Told (concluded (ended (reader p) (at Here h))) Here (end_of w.playing.report w.playing.records (is_some w.playing.waiting) n)
 
   tells_over : is_over w.playing.report ≡ true → Tells [] 0
-  tells_over e = rw (ended_over p Here (stopped_over args memory w.playing e)) (end_over w.playing.report w.playing.records w.playing.waits 0 (rw e), refl, refl, refl)
+  tells_over e = rw (ended_over p Here (stopped_over args memory w.playing e)) (end_over w.playing.report w.playing.records (is_some w.playing.waiting) 0 (rw e), refl, refl, refl)
 
   tells_clean : is_over w.playing.report ≡ false → Tells [] 0
-  tells_clean e = rw (ended_clean p Here (going args memory w.playing e)) (unanswered_told Here w.playing.waits w.playing.size args refl e)
+  tells_clean e = rw (ended_clean p Here (going args memory w.playing e)) (unanswered_told Here w.playing.waiting args refl e)
 
   tells_held : (w.held ≡ 0 → ⊥) → Tells (take w.held held) w.held
   tells_held z =
       let e = still_going ready z in
       let l : 0 < length (take w.held held) = omega (arith, length-take-le w.held held ready.inside, ne_pos w.held z) in
       rw (ended_raw p Here (take w.held held) l ready.raw (going args memory w.playing e))
-      (faulted_told Here _ (end_blamed w.playing.report w.playing.records w.playing.waits w.playing.size args w.held e z))
+      (faulted_told Here _ (end_blamed w.playing.report w.playing.records w.playing.waiting args w.held e z))
 
   tells_none : w.held ≡ 0 → Tells (take w.held held) w.held
   tells_none z = rw z (decide (is_over w.playing.report) tells_over tells_clean)

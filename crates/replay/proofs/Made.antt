@@ -1,4 +1,5 @@
 -- Which call a record made, as the code can tell: a 33 was taken where a 32 waited.
+use Rattle.std.specs.Prelude.{Option, is_some, IsSome, unwrap_or}
 use mathlib.Core.Path.{◌≡◌, sym, ap, ◌∙◌}
 use mathlib.Core.Bool.{Bool, true, false, ◌&&◌}
 use mathlib.Core.List.{List, [], ◌∷◌}
@@ -26,8 +27,8 @@ use Rattle.playing.specs.Lent.{Lent, lent_step}
 use Rattle.playing.specs.Played.{waiting_of, state_of, lent_of}
 use Rattle.playing.specs.Inner.Terms.{left_by, Plays}
 use Rattle.playing.specs.Claims.Played.{Steady}
-use Rattle.playing.proofs.Parts.{stored_front}
-use Rattle.replay.specs.Inner.Terms.{carried_of, carried_step, counted_front}
+use Rattle.playing.proofs.Parts.{stored_front, some_is, none_is, within_is}
+use Rattle.replay.specs.Inner.Terms.{carried_of, carried_step, counted_front, counted_by}
 
 -- ---- a record where a 32 waits
 
@@ -73,11 +74,14 @@ records_grow p s item = decide (stopped s) (λ e. rw e (omega arith)) (λ e. way
 -- ---- what the code counts
 
 abbrev pub is_call : Playing → Playing → Bool
-is_call t r = t.waits && ltb t.records r.records
+is_call t r = is_some t.waiting && ltb t.records r.records
 
 module _ {p : Platform} {args memory : List ℕ} {t : Playing} {item argsThen memoryThen : List ℕ} {r : Playing} (q : Plays p args memory t item argsThen memoryThen r) (steady : Steady args t) where
+  abbrev size : ℕ
+  size = unwrap_or t.waiting 0
+
   abbrev x : Left
-  x = left_by p memory args t
+  x = left_by p memory args t size
 
   abbrev s : State
   s = state_of args memory t
@@ -89,39 +93,44 @@ module _ {p : Platform} {args memory : List ℕ} {t : Playing} {item argsThen me
   unfolding lent_step
   grown = omega (arith, records_then, records_grow p s item)
 
-  -- by whether a call was made
-  pub record Counts_by (call : Bool) (c after : Counts) : Type 0 where
-    pub yes_is : call ≡ true → after ≡ counted_front c (take t.size argsThen) memoryThen
-    pub no_is : call ≡ false → after ≡ c
+  small : size ≤ 4100
+  small = within_is t.waiting steady.inside
 
-  module _ (c after : Counts) (call-is : Bool) (e : call-is ≡ is_call t r) (by : Counts_by call-is c after) where
+  -- by whether a call was made
+  module _ (c after : Counts) (by : after ≡ counted_by c t.waiting (ltb t.records r.records) argsThen memoryThen) where
+    yes_is : is_call t r ≡ true → after ≡ counted_front c (take size argsThen) memoryThen
+    yes_is y = by ∙ rw y
+
+    no_is : is_call t r ≡ false → after ≡ c
+    no_is n = by ∙ rw n
+
     not_called : made p s item ≡ [] → is_call t r ≡ false → after ≡ counted_all c (made p s item)
     unfolding counted_all
-    not_called n f = by.no_is (e ∙ f) ∙ rw n
+    not_called n f = no_is f ∙ rw n
 
-    was_called : t.waits ≡ true → OneCall p (lent_of args memory t) item (take t.size args) → after ≡ counted_all c (made p s item)
+    was_called : IsSome t.waiting → OneCall p (lent_of args memory t) item (take size args) → after ≡ counted_all c (made p s item)
     unfolding counted_all
     was_called w o =
-        let yes = by.yes_is (e ∙ rw (w, lt-ltb t.records r.records (omega (arith, records_then, o.more_records)))) in
-        let long : length x.args ≡ t.size = (demand1 (found (take t.size args) memory p.journal p.inventory p.edition t.registration t.reading)).args_length ∙ length-take-le t.size args (omega (arith, steady.inside, steady.room)) in
+        let yes = yes_is (rw (w, lt-ltb t.records r.records (omega (arith, records_then, o.more_records)))) in
+        let long : length x.args ≡ size = (demand1 (found (take size args) memory p.journal p.inventory p.edition t.registration t.reading)).args_length ∙ length-take-le size args (omega (arith, small, steady.room)) in
         let stored : argsThen ≡ sets args 0 x.args = ap (λ (y : Lent). y.args) q.same ∙ o.args_then in
-        let front : take t.size argsThen ≡ x.args = ap (take t.size) stored ∙ ap (λ (n : ℕ). take n (sets args 0 x.args)) (sym long) ∙ stored_front x.args args (omega (arith, long, steady.inside, steady.room)) in
+        let front : take size argsThen ≡ x.args = ap (take size) stored ∙ ap (λ (n : ℕ). take n (sets args 0 x.args)) (sym long) ∙ stored_front x.args args (omega (arith, long, small, steady.room)) in
         let left : memoryThen ≡ x.memory = ap (λ (y : Lent). y.state.memory) q.same ∙ o.memory_then in
-        yes ∙ rw (front, left, own_number (found (take t.size args) memory p.journal p.inventory p.edition t.registration t.reading), o.one_made)
+        yes ∙ rw (front, left, own_number (found (take size args) memory p.journal p.inventory p.edition t.registration t.reading), o.one_made)
 
     pub counts_then : after ≡ counted_all c (made p s item)
-    counts_then = decide t.waits
+    counts_then = decide (is_some t.waiting)
         (λ w. ⊎_elim
         (λ (n : NoCall p (lent_of args memory t) item). not_called n.none_made (rw (w, le-ltb t.records r.records (omega (arith, records_then, n.same_records)))))
-        (λ (o : OneCall p (lent_of args memory t) item (take t.size args)). was_called w o)
-        (call_ways p (lent_of args memory t) item (take t.size args) (ap (λ (b : Bool). waiting_of b t.size args) w)))
-        (λ w. not_called (none_waits p s item (ap (λ (b : Bool). waiting_of b t.size args) w)) (rw w))
+        (λ (o : OneCall p (lent_of args memory t) item (take size args)). was_called w o)
+        (call_ways p (lent_of args memory t) item (take size args) (ap (λ (o : Option ℕ). waiting_of o args) (some_is t.waiting w))))
+        (λ w. not_called (none_waits p s item (ap (λ (o : Option ℕ). waiting_of o args) (none_is t.waiting w))) (rw w))
 
     pub carried_then_lem : carried_of argsThen memoryThen r after ≡ carried_step p (carried_of args memory t c) item
     unfolding carried_step
     carried_then_lem = rw (q.same, counts_then)
 
     pub within_then : Within t.records c → Within r.records after
-    within_then w = decide call-is
-        (λ y. rw (by.yes_is y) (within_later (t.records + 1) _ (within_more t.records c w _ _ _) r.records (omega (arith, ltb-true t.records r.records (and_right t.waits _ (sym e ∙ y))))))
-        (λ n. rw (by.no_is n) (within_later t.records c w r.records grown))
+    within_then w = decide (is_call t r)
+        (λ y. rw (yes_is y) (within_later (t.records + 1) _ (within_more t.records c w _ _ _) r.records (omega (arith, ltb-true t.records r.records (and_right (is_some t.waiting) _ y)))))
+        (λ n. rw (no_is n) (within_later t.records c w r.records grown))

@@ -4,6 +4,7 @@ use mathlib.Core.Bool.{Bool, true, false}
 use mathlib.Core.List.{List, ◌++◌}
 use Prim.Native.Nat.{ℕ, ◌+◌, ◌-◌, ◌<◌, ◌≤◌}
 use native.Mathlib.Omega.{arith}
+use lib.Dec.{ltb}
 use lib.ListN.{length, take, drop, length-drop}
 use lib.Seq.{sets, length-take-le}
 use Rattle.records.specs.Cutting.{due, ripe, Standing, start, fed}
@@ -21,7 +22,7 @@ use Rattle.playing.specs.Claims.Played.{Steady}
 use Rattle.playing.specs.Inner.Terms.{Plays, Playable}
 use Rattle.replay.specs.Feeding.{at, standing_of, completed, start_of}
 use Rattle.replay.specs.Claims.Feeding.{Ready}
-use Rattle.replay.specs.Inner.Terms.{Feeds}
+use Rattle.replay.specs.Inner.Terms.{Feeds, counted_by}
 use Rattle.replay.specs.Inner.Terms.{Carried, carried_step, carrier, carried_of, carried_standing_of, Finishes, Passable, Passes}
 use Rattle.playing.specs.declared.playing.Playing.{Playing}
 use Rattle.replay.specs.declared.feeding.Replay.{Replay}
@@ -32,7 +33,7 @@ use Rattle.counting.specs.declared.counts.Counts.{Counts}
 use Rattle.counting.specs.Claims.Terms.{Within}
 use Rattle.counting.specs.OfTrace.{Counting, counter}
 use Rattle.counting.proofs.Growing.{within_none}
-use Rattle.replay.proofs.Made.{is_call, Counts_by, carried_then_lem, within_then}
+use Rattle.replay.proofs.Made.{carried_then_lem, within_then}
 use Rattle.replay.proofs.Carrying.{carrier_sticky, carried_state, carried_lent, counting, carried_counting}
 use Rattle.replay.proofs.Leaves.{drop_sets, sets_back, completed_none, completed_some, completed_behind}
 
@@ -54,7 +55,7 @@ over_edition P journal inventory e f q x = subst (λ (d : Edition). P (record { 
 module _ (held args : List ℕ) (e : Edition) where
   pub ready_start : 4104 ≤ length held → 4100 ≤ length args → Ready held args (start_of e)
   ready_start h a = record {
-    steady = record { room = a; inside = omega arith; few = omega arith; fewer = omega arith };
+    steady = record { room = a; inside = tt; few = omega arith; fewer = omega arith };
     counted = within_none;
     room = h;
     inside = omega arith;
@@ -110,17 +111,17 @@ module _ {p : Platform} {args memory bytes : List ℕ} {from : Passed} {argsNow 
 
 module _ {journal inventory args memory bytes : List ℕ} {from : Passed} {argsNow memoryNow : List ℕ} {u : Playing} {c : Counts} {i n : ℕ}
     (now : Passing (platform_of journal inventory from.playing) args memory bytes from argsNow memoryNow u c i) (r : Ripe good_frame bytes i n) where
-  pub pass_on : (argsThen memoryThen : List ℕ) (v : Playing) (after : Counts) (made : Bool) → length argsThen ≡ length argsNow → length memoryThen ≡ length memoryNow
-      → (q : Plays (platform_of journal inventory u) argsNow memoryNow u (take (i + n - i) (drop i bytes)) argsThen memoryThen v) → made ≡ is_call u v → Counts_by q now.steady made c after
+  pub pass_on : (argsThen memoryThen : List ℕ) (v : Playing) (after : Counts) → length argsThen ≡ length argsNow → length memoryThen ≡ length memoryNow
+      → (q : Plays (platform_of journal inventory u) argsNow memoryNow u (take (i + n - i) (drop i bytes)) argsThen memoryThen v) → after ≡ counted_by c u.waiting (ltb u.records v.records) argsThen memoryThen
       → Passing (platform_of journal inventory from.playing) args memory bytes from argsThen memoryThen v after (i + n)
-  pass_on argsThen memoryThen v after made a m q e by =
-      let carried = over_edition (λ (p : Platform). carried_of argsThen memoryThen v after ≡ carried_step p (carried_of argsNow memoryNow u c) (take (i + n - i) (drop i bytes))) journal inventory u.edition from.playing.edition now.edition (carried_then_lem q now.steady c after made e by) in
+  pass_on argsThen memoryThen v after a m q by =
+      let carried = over_edition (λ (p : Platform). carried_of argsThen memoryThen v after ≡ carried_step p (carried_of argsNow memoryNow u c) (take (i + n - i) (drop i bytes))) journal inventory u.edition from.playing.edition now.edition (carried_then_lem q now.steady c after by) in
       record {
         place = r.fits;
         args_long = a ∙ now.args_long;
         memory_long = m ∙ now.memory_long;
         steady = q.steady;
-        counted = within_then q now.steady c after made e by now.counted;
+        counted = within_then q now.steady c after by now.counted;
         edition = q.edition ∙ now.edition;
         same = now.same ∙ part_step (carrier (platform_of journal inventory from.playing)) (carrier_sticky (platform_of journal inventory from.playing)) bytes i n r (carried_of argsNow memoryNow u c) (carried_of argsThen memoryThen v after) carried;
       }
@@ -173,17 +174,17 @@ module _ {held args : List ℕ} {w : Replay} (ready : Ready held args w) where
         past = λ e. absurd (g.some (omega arith));
       }
 
-      pub finish_done : (n ≡ 0 → ⊥) → (argsThen memoryThen : List ℕ) (u : Playing) (after : Counts) (made : Bool) (q : Plays p args memory w.playing (take (w.held + k) two) argsThen memoryThen u)
-          → made ≡ is_call w.playing u → Counts_by q ready.steady made w.counts after → Finishes p held args memory w bytes two argsThen memoryThen (record { playing = u; held = 0; at = k; counts = after })
-      finish_done z argsThen memoryThen u after made q c by = record {
+      pub finish_done : (n ≡ 0 → ⊥) → (argsThen memoryThen : List ℕ) (u : Playing) (after : Counts) (q : Plays p args memory w.playing (take (w.held + k) two) argsThen memoryThen u)
+          → after ≡ counted_by w.counts w.playing.waiting (ltb w.playing.records u.records) argsThen memoryThen → Finishes p held args memory w bytes two argsThen memoryThen (record { playing = u; held = 0; at = k; counts = after })
+      finish_done z argsThen memoryThen u after q by = record {
         place = g.place;
         inside = omega arith;
         whole = completes g;
         steady = q.steady;
-        counted = within_then q ready.steady w.counts after made c by ready.counted;
+        counted = within_then q ready.steady w.counts after by ready.counted;
         edition = q.edition;
         still = λ l. absurd (omega arith);
-        past = λ _. gathered_done (carrier p) (carrier_sticky p) ready.inside g n e (carried_of args memory w.playing w.counts) z ready.raw (carried_of argsThen memoryThen u after) (carried_then_lem q ready.steady w.counts after made c by);
+        past = λ _. gathered_done (carrier p) (carrier_sticky p) ready.inside g n e (carried_of args memory w.playing w.counts) z ready.raw (carried_of argsThen memoryThen u after) (carried_then_lem q ready.steady w.counts after by);
       }
 
     -- ---- the burst

@@ -1,6 +1,6 @@
 -- Where the code of a replay stands between bursts: its struct by value, memory, and two lent buffers, one with the bytes of an unfinished record at its
 -- front, one with the body of the 32 that waits. Both are told byte for byte.
-use Rattle.std.specs.Prelude.{ℕ, ◌+◌, ◌-◌, Bool, false, cond, List, ◌++◌, eqb, take}
+use Rattle.std.specs.Prelude.{ℕ, ◌+◌, ◌-◌, Bool, cond, List, ◌++◌, eqb, take, None}
 use Rattle.std.proofs.lemmas.List.Edits.{sets}
 use Rattle.records.specs.Cutting.{due, Standing}
 use Rattle.inventory.specs.declared.edition.Edition.{Edition}
@@ -39,8 +39,7 @@ start_of e = record {
   playing = record {
     records = 0;
     report = Agreed 0;
-    waits = false;
-    size = 0;
+    waiting = None;
     edition = e;
     registration = no_registration;
     reading = no_reading;

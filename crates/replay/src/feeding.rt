@@ -1,5 +1,5 @@
 // A replay that is fed in bursts: the held record is finished, whole records are played out of the burst in place, and what is left is held.
-ghost use Rattle.std.specs.Prelude.{◌≡◌, ◌&&◌, ◌≤◌, ltb, length, take};
+ghost use Rattle.std.specs.Prelude.{◌≡◌, ◌&&◌, ◌≤◌, ltb, length, take, is_some};
 ghost use Rattle.counting.specs.Claims.Terms.{Within};
 ghost use Rattle.replay.specs.Claims.Replay.{ReplayClaims};
 ghost use Rattle.playing.specs.Played.{platform_of};
@@ -49,8 +49,7 @@ pub fn start(edition: Edition) -> Replay
     let playing = Playing {
         records: 0,
         report: Report::Agreed(0),
-        waits: false,
-        size: 0,
+        waiting: None,
         edition,
         registration: dump::no_registration(),
         reading: index_calls::no_reading(),
@@ -114,8 +113,8 @@ fn finish(
         };
     }
     let next = play(args, memory, journal, inventory, playing, &held[..all]);
-    if is_call(playing.waits, playing.records, next.records) {
-        counts = count_front(counts, &*args, playing.size, &*memory);
+    if is_call(playing.waiting.is_some(), playing.records, next.records) {
+        counts = count_front(counts, &*args, playing.waiting.unwrap_or(0), &*memory);
     }
     Finished {
         playing: next,
@@ -158,8 +157,7 @@ fn pass(
                 counts,
             };
         }
-        let waits = playing.waits;
-        let size = playing.size;
+        let waiting = playing.waiting;
         let before = playing.records;
         playing = play(
             args,
@@ -169,8 +167,8 @@ fn pass(
             playing,
             &bytes[at..at + n],
         );
-        if is_call(waits, before, playing.records) {
-            counts = count_front(counts, &*args, size, &*memory);
+        if is_call(waiting.is_some(), before, playing.records) {
+            counts = count_front(counts, &*args, waiting.unwrap_or(0), &*memory);
         }
         at += n;
     }
@@ -223,7 +221,7 @@ pub fn feed(
 // What an end tells. It changes nothing.
 pub fn end(from: Replay) -> Report
     requires { from.playing.records ≤ 4_294_967_295 }
-    ensures value { result ≡ end_of from.playing.report from.playing.records from.playing.waits from.held }
+    ensures value { result ≡ end_of from.playing.report from.playing.records (is_some from.playing.waiting) from.held }
     ensures claims { ReplayClaims }
 {
     let playing = from.playing;
@@ -231,7 +229,7 @@ pub fn end(from: Replay) -> Report
     if !is_going(report) {
         return report;
     }
-    if playing.waits {
+    if playing.waiting.is_some() {
         return Report::Malformed(playing.records);
     }
     if from.held != 0 {

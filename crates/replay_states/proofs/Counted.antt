@@ -152,4 +152,4 @@ pub came_out : (held args memory : List ℕ) (r : Replay) → replays.Ready held
     → are_counts (flat_replay_of r) r.counts ≡ true
 unfolding are_counts
 came_out held args memory r ready e =
-    rw (report_back r.playing.report) (rw (number_same r.playing.waits r.playing.size args (omega (arith, ready.steady.inside, ready.steady.room))) at e)
+    rw (report_back r.playing.report) (rw (number_same r.playing.waiting args ready.steady.room ready.steady.inside) at e)

@@ -1,4 +1,5 @@
 -- A replay over the C boundary and back, and what a state that is taken gives.
+use Rattle.std.specs.Prelude.{Option, Some, None, IfSome}
 use mathlib.Core.Path.{◌≡◌, refl, sym, ap, ◌∙◌}
 use mathlib.Core.Bool.{Bool, true, false, cond, ◌&&◌, not, false≢true}
 use mathlib.Core.List.{List}
@@ -32,7 +33,7 @@ use Rattle.replay.specs.declared.feeding.Replay.{Replay}
 use Rattle.replay.specs.Feeding as replays
 use Rattle.replay.specs.Claims.Feeding as replays-claims
 use Rattle.replay_states.specs.declared.state.FlatReplay.{FlatReplay}
-use Rattle.replay_states.specs.States.{flat_report_of, report_of, is_report, replay_with, replay_in, waiting_field, flat_replay_of, held_came, is_state, judged_by, judged}
+use Rattle.replay_states.specs.States.{flat_report_of, report_of, is_report, replay_with, replay_in, waiting_in, waiting_field, flat_replay_of, held_came, is_state, judged_by, judged}
 use Rattle.replay_states.specs.Inner.Terms.{Narrow}
 
 -- ---- over and back
@@ -57,25 +58,28 @@ flat_report_lem (Agreed calls) = refl
 flat_report_lem (Differs call offset) = refl
 flat_report_lem (Malformed number) = refl
 
--- the 32 that waits stays the same, whatever the size says where none does
-waiting_back : (w : Bool) (size : ℕ) (args : List ℕ) → played.waiting_of (not (eqb (waiting_field w size) 0)) (waiting_field w size - 1) args ≡ played.waiting_of w size args
-waiting_back true size args = let less : size + 1 - 1 ≡ size = omega arith in rw (ne_eqb (size + 1) 0 (λ h. omega (arith, h)), less)
-waiting_back false size args = refl
+-- the 32 that waits stays the same
+waiting_back : (w : Option ℕ) → waiting_in (waiting_field w) ≡ w
+waiting_back (Some size) = let less : size + 1 - 1 ≡ size = omega arith in rw (ne_eqb (size + 1) 0 (λ h. omega (arith, h)), less)
+waiting_back None = refl
 
 pub standing_back : (held args memory : List ℕ) (r : Replay) → replays.standing_of held args memory (replay_in (flat_replay_of r)) ≡ replays.standing_of held args memory r
-standing_back held args memory r = rw (report_back r.playing.report, registration_back r.playing.registration, waiting_back r.playing.waits r.playing.size args)
+standing_back held args memory r = rw (report_back r.playing.report, registration_back r.playing.registration, waiting_back r.playing.waiting)
 
 -- ---- a state that is taken
 
 -- the number of the 32 that waits, from the buffer and from the size
-pub number_same : (w : Bool) (size : ℕ) (args : List ℕ) → size ≤ length args → waiting_number (played.waiting_of w size args) ≡ waiting_field w size
-number_same true size args h = ap (λ (n : ℕ). n + 1) (length-take-le size args h)
-number_same false size args h = refl
+pub number_same : (w : Option ℕ) (args : List ℕ) → 4100 ≤ length args → IfSome w (λ n. n ≤ 4100) → waiting_number (played.waiting_of w args) ≡ waiting_field w
+number_same (Some size) args room h = ap (λ (n : ℕ). n + 1) (length-take-le size args (omega arith))
+number_same None args room h = refl
 
-pub sized : (n : ℕ) (args : List ℕ) → n ≤ 4101 → 4100 ≤ length args → waiting_number (played.waiting_of (not (eqb n 0)) (n - 1) args) ≡ n
+size_low : (n : ℕ) → n ≤ 4101 → IfSome (waiting_in n) (λ k. k ≤ 4100)
+size_low n h = decide (eqb n 0) (λ t. rw t tt) (λ t. rw t (omega arith))
+
+pub sized : (n : ℕ) (args : List ℕ) → n ≤ 4101 → 4100 ≤ length args → waiting_number (played.waiting_of (waiting_in n) args) ≡ n
 sized n args h room = decide (eqb n 0)
     (λ t. rw t (sym (eqb-true n 0 t)))
-    (λ t. let some = eqb-false n 0 t in let more : n - 1 + 1 ≡ n = omega arith in rw t (number_same true (n - 1) args (omega arith) ∙ more))
+    (λ t. let some = eqb-false n 0 t in let more : n - 1 + 1 ≡ n = omega arith in rw t (number_same (Some (n - 1)) args room (omega arith) ∙ more))
 
 -- the calls of a report are no more than its records
 unfoldable pub calls_in_lem : Report → ℕ
@@ -183,7 +187,7 @@ module _ (f : FlatReplay) (is : is_state f ≡ true) where
       record {
         steady = record {
           room = a;
-          inside = omega (arith, short);
+          inside = size_low f.waiting short;
           few = few;
           fewer = omega (arith, agreed_few (report_of f.report), calls_low);
         };
@@ -247,9 +251,9 @@ module _ (held args memory : List ℕ) (r : Replay) (ready : replays-claims.Read
   unfolding ripe
   held_low = omega (arith, leb-false (due good_frame (take r.held held)) (length (take r.held held)) ready.raw, due_most (take r.held held), length-take-le r.held held ready.inside)
 
-  flat_came : came r.playing.edition r.playing.records (waiting_field r.playing.waits r.playing.size) r.playing.report r.playing.registration r.playing.reading ≡ true
+  flat_came : came r.playing.edition r.playing.records (waiting_field r.playing.waiting) r.playing.report r.playing.registration r.playing.reading ≡ true
   unfolding state_came
-  flat_came = rw (number_same r.playing.waits r.playing.size args (omega (arith, ready.steady.inside, ready.steady.room))) at has
+  flat_came = rw (number_same r.playing.waiting args ready.steady.room ready.steady.inside) at has
 
   flat_state : is_state (flat_replay_of r) ≡ true
   unfolding is_state

@@ -1,5 +1,5 @@
 -- A replay as it crosses the C boundary, and which states are taken there (document 02, M-110).
-use Rattle.std.specs.Prelude.{ℕ, ◌+◌, ◌-◌, Bool, true, cond, ◌&&◌, ◌||◌, not, List, leb, eqb, length, take}
+use Rattle.std.specs.Prelude.{ℕ, ◌+◌, ◌-◌, Bool, true, cond, ◌&&◌, ◌||◌, not, List, leb, eqb, length, take, Option, Some, None, is_some}
 use Rattle.records.specs.Cutting.{ripe}
 use Rattle.crossing.specs.Registration.{flat_of, registration_of}
 use Rattle.crossing.specs.Record.{flat_reading_of, reading_of}
@@ -33,8 +33,12 @@ is_report f = cond (eqb f.verdict 1) true (leb f.verdict 2 && eqb f.offset 0)
 
 -- ---- the state
 
+-- the size of the body of the 32 that waits, if one does, by the number that is one more, or 0
+abbrev pub waiting_in : ℕ → Option ℕ
+waiting_in waiting = cond (eqb waiting 0) None (Some (waiting - 1))
+
 abbrev pub waits : FlatReplay → Bool
-waits f = not (eqb f.waiting 0)
+waits f = is_some (waiting_in f.waiting)
 
 -- with these counts
 abbrev pub replay_with : FlatReplay → Counts → Replay
@@ -43,8 +47,7 @@ replay_with f counts =
       playing = record {
         records = f.records;
         report = report_of f.report;
-        waits = waits f;
-        size = f.waiting - 1;
+        waiting = waiting_in f.waiting;
         edition = record { 0 = f.edition };
         registration = registration_of f.registration;
         reading = reading_of f.reading;
@@ -57,8 +60,9 @@ abbrev pub replay_in : FlatReplay → Replay
 replay_in f = replay_with f no_counts
 
 -- the 32 that waits, by a number
-abbrev pub waiting_field : Bool → ℕ → ℕ
-waiting_field waits size = cond waits (size + 1) 0
+abbrev pub waiting_field : Option ℕ → ℕ
+waiting_field None = 0
+waiting_field (Some size) = size + 1
 
 abbrev pub flat_replay_of : Replay → FlatReplay
 flat_replay_of r =
@@ -66,7 +70,7 @@ flat_replay_of r =
       records = r.playing.records;
       report = flat_report_of r.playing.report;
       held = r.held;
-      waiting = waiting_field r.playing.waits r.playing.size;
+      waiting = waiting_field r.playing.waiting;
       edition = r.playing.edition.0;
       registration = flat_of r.playing.registration;
       reading = flat_reading_of r.playing.reading;

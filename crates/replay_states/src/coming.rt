@@ -87,7 +87,7 @@ fn registration_came(flat: FlatRegistration) -> bool
     let copy = flat.copy;
     let length = flat.length;
     if flat.phase == 0 {
-        return length == 0 && words::is_zero(&copy, 0, COPY_SIZE);
+        return length == 0 && words::are_zeros(&copy);
     }
     if flat.phase != 1 {
         return false;
@@ -95,7 +95,7 @@ fn registration_came(flat: FlatRegistration) -> bool
     if COPY_SIZE < length {
         return false;
     }
-    dump::is_structure(&copy[..length]) && words::is_zero(&copy, length, COPY_SIZE)
+    dump::is_structure(&copy[..length]) && words::are_zeros(&copy[length..])
 }
 
 fn reading_came(edition: u32, flat: FlatReading) -> bool
@@ -120,24 +120,14 @@ fn reading_came(edition: u32, flat: FlatReading) -> bool
 fn calls_for(phase: u32, number: u32) -> u64
     ensures { result ≡ cond (eqb phase 1) 1 0 + cond (ltb 1 number) 1 0 }
 {
-    let mut n: u64 = 0;
-    if phase == 1 {
-        n += 1;
-    }
-    if 1 < number {
-        n += 1;
-    }
-    n
+    u64::from(phase == 1) + u64::from(1 < number)
 }
 
 // How many records wait: one or none.
 pub fn waits_in(waiting: u32) -> u64
     ensures { result ≡ waits_in waiting }
 {
-    if waiting == 0 {
-        return 0;
-    }
-    1
+    u64::from(waiting != 0)
 }
 
 // Held bytes make no record yet, and nothing is held once a replay has stopped.

@@ -1,6 +1,6 @@
 // A replay as a flat struct.
-ghost use Rattle.std.specs.Prelude.{◌≡◌, ◌-◌, ◌≤◌};
-ghost use Rattle.replay_states.specs.States.{flat_report_of, report_of, waiting_field, flat_replay_of, replay_with, replay_in};
+ghost use Rattle.std.specs.Prelude.{◌≡◌, ◌≤◌, IfSome};
+ghost use Rattle.replay_states.specs.States.{flat_report_of, report_of, waiting_in, waiting_field, flat_replay_of, replay_with, replay_in};
 ghost use Rattle.replay_states.specs.Inner.Terms.{Narrow};
 
 use counting::Counts;
@@ -69,24 +69,24 @@ fn report_of(flat: FlatReport) -> Report
     Report::Malformed(flat.number)
 }
 
-// The size of the 32 that waits.
-fn size_of(waiting: u32) -> usize
-    ensures { result ≡ waiting - 1 }
+// The size of the body of the 32 that waits, if one does.
+fn waiting_in(waiting: u32) -> Option<usize>
+    ensures { result ≡ waiting_in waiting }
 {
     if waiting == 0 {
-        return 0;
+        return None;
     }
-    (waiting - 1) as usize
+    Some((waiting - 1) as usize)
 }
 
-fn waiting_of(waits: bool, size: usize) -> u32
-    requires { size ≤ 4100 }
-    ensures { result ≡ waiting_field waits size }
+fn waiting_of(waiting: Option<usize>) -> u32
+    requires { IfSome waiting (λ size. size ≤ 4100) }
+    ensures { result ≡ waiting_field waiting }
 {
-    if waits {
-        return size as u32 + 1;
+    match waiting {
+        Some(size) => size as u32 + 1,
+        None => 0,
     }
-    0
 }
 
 // The replay with these counts.
@@ -100,8 +100,7 @@ pub fn replay_of(flat: FlatReplay, counts: Counts) -> Replay
     let playing = Playing {
         records: flat.records,
         report: report_of(report),
-        waits: flat.waiting != 0,
-        size: size_of(flat.waiting),
+        waiting: waiting_in(flat.waiting),
         edition: Edition(flat.edition),
         registration: crossing::registration_of(registration),
         reading: crossing::reading_of(reading),
@@ -122,7 +121,7 @@ pub fn replay_alone(flat: FlatReplay) -> Replay
 }
 
 pub fn flat_replay_of(from: Replay) -> FlatReplay
-    requires { from.playing.size ≤ 4100 }
+    requires { IfSome from.playing.waiting (λ size. size ≤ 4100) }
     ensures { result ≡ flat_replay_of from }
 {
     let playing = from.playing;
@@ -134,7 +133,7 @@ pub fn flat_replay_of(from: Replay) -> FlatReplay
         records: playing.records,
         report: flat_report_of(report),
         held: from.held,
-        waiting: waiting_of(playing.waits, playing.size),
+        waiting: waiting_of(playing.waiting),
         edition: edition.0,
         registration: crossing::flat_of(registration),
         reading: crossing::flat_reading_of(reading),

@@ -1,5 +1,5 @@
 -- Terms of contracts inside the crate.
-use Rattle.std.specs.Prelude.{ℕ, ◌+◌, ◌≤◌, ◌≡◌, true, false, cond, List, length, take}
+use Rattle.std.specs.Prelude.{ℕ, ◌+◌, ◌≤◌, ◌≡◌, false, cond, List, length, take, Some, None, is_some}
 use Rattle.std.proofs.lemmas.List.Edits.{sets}
 use Rattle.records.specs.Cutting.{due}
 use Rattle.dump.specs.declared.registration.Registration.{Registration}
@@ -19,15 +19,14 @@ use Rattle.playing.specs.Claims.Played.{Steady}
 -- one record more, with a report, and with what a call left
 abbrev pub played_on : Playing → Report → Registration → ReadingRecord → Playing
 played_on t report registration reading =
-    record { records = t.records + 1; report = report; waits = false; size = 0; edition = t.edition; registration = registration; reading = reading }
+    record { records = t.records + 1; report = report; waiting = None; edition = t.edition; registration = registration; reading = reading }
 
 -- a 32 of so many bytes waits
 abbrev pub kept_by : Playing → ℕ → Playing
 kept_by t n = record {
   records = t.records + 1;
   report = t.report;
-  waits = true;
-  size = n;
+  waiting = Some n;
   edition = t.edition;
   registration = t.registration;
   reading = t.reading;
@@ -38,9 +37,8 @@ abbrev pub faulted_by : Playing → Playing
 faulted_by t =
     record {
       records = t.records;
-      report = Malformed (cond t.waits t.records (t.records + 1));
-      waits = t.waits;
-      size = t.size;
+      report = Malformed (cond (is_some t.waiting) t.records (t.records + 1));
+      waiting = t.waiting;
       edition = t.edition;
       registration = t.registration;
       reading = t.reading;
@@ -54,8 +52,8 @@ abbrev pub memory_set : List ℕ → List ℕ → List ℕ
 memory_set m body = cond (is_settable m body) (sets m (address_in body) (bytes_in body)) m
 
 -- a 33: what the call of the 32 that waits leaves, and what comes of it
-abbrev pub left_by : Platform → List ℕ → List ℕ → Playing → Left
-left_by p m args t = call_over p m t.registration t.reading (take t.size args)
+abbrev pub left_by : Platform → List ℕ → List ℕ → Playing → ℕ → Left
+left_by p m args t size = call_over p m t.registration t.reading (take size args)
 
 abbrev pub called_by : Left → Playing → List ℕ → Playing
 called_by x t body = played_on t (compared (agreed t.report) body x.args) x.registration x.reading

@@ -1,5 +1,5 @@
 -- What is claimed of a replay in code, cited by the contracts of `start`, `feed` and `end` (document 02, M-110).
-use Rattle.std.specs.Prelude.{◌≡◌, Bool, true, false, List, ℕ, ◌+◌, ◌≤◌, length}
+use Rattle.std.specs.Prelude.{◌≡◌, Bool, true, false, List, ℕ, ◌+◌, ◌≤◌, length, is_some}
 use Rattle.records.specs.Cutting.{start, ended}
 use Rattle.records.specs.Claims.Records.{FedExactly}
 use Rattle.inventory.specs.declared.edition.Edition.{Edition}
@@ -21,7 +21,7 @@ ended_by p held args memory w = concluded (ended (reader p) (standing_of held ar
 abbrev pub EndTells : Type 0
 EndTells =
     (p : Platform) (held args memory : List ℕ) (w : Replay) → Ready held args w
-    → ((ended_by p held args memory w).report ≡ end_of w.playing.report w.playing.records w.playing.waits w.held)
+    → ((ended_by p held args memory w).report ≡ end_of w.playing.report w.playing.records (is_some w.playing.waiting) w.held)
     × ((ended_by p held args memory w).memory ≡ memory)
     × ((ended_by p held args memory w).registration ≡ w.playing.registration)
     × ((ended_by p held args memory w).reading ≡ w.playing.reading)

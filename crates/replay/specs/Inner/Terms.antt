@@ -1,6 +1,6 @@
 -- Terms of contracts inside the crate.
 -- Terms of the contracts of private functions; no public promise cites them.
-use Rattle.std.specs.Prelude.{ℕ, ◌≤◌, ◌<◌, ◌≡◌, true, List, length, take, drop}
+use Rattle.std.specs.Prelude.{ℕ, ◌≤◌, ◌<◌, ◌≡◌, true, Bool, ◌&&◌, cond, List, length, take, drop, Option, is_some, unwrap_or}
 use Rattle.std.proofs.lemmas.List.Edits.{sets}
 use Rattle.records.specs.Cutting.{Standing, fed, Reader, start}
 use Rattle.replay.specs.declared.feeding.Replay.{Replay}
@@ -53,6 +53,10 @@ carried_standing_of held args memory w = at (carried_of args memory w.playing w.
 -- one call more, by the argument buffer and memory that it left
 abbrev pub counted_front : Counts → List ℕ → List ℕ → Counts
 counted_front c args memory = counted c (number_for args) args memory
+
+-- and of a record where a 32 waited, if it was taken
+abbrev pub counted_by : Counts → Option ℕ → Bool → List ℕ → List ℕ → Counts
+counted_by c waiting taken args memory = cond (is_some waiting && taken) (counted_front c (take (unwrap_or waiting 0) args) memory) c
 
 -- The held record is still held, with all of the burst, or it is past and the burst goes on behind a place.
 pub record Finishes (p : Platform) (held args memory : List ℕ) (w : Replay) (bytes heldThen argsThen memoryThen : List ℕ) (f : Finished) : Type 0 where

@@ -1,5 +1,4 @@
 -- `feeding::draugsten_replay_start` meets its contract.
-use native.Mathlib.Omega.{arith}
 use mathlib.Core.Path.{ap, ◌∙◌}
 use Rattle.replay_states.specs.States.{flat_replay_of}
 use Rattle.draugsten_replay.proofs.Promises.{replay_promise}
@@ -7,7 +6,7 @@ use Rattle.draugsten_replay.proofs.feeding.draugsten_replay_start.Goals as goal
 
 pub flat_replay_of-requires : goal.flat_replay_of-requires
 flat_replay_of-requires c =
-    rw c.start.ensures.value (omega arith)
+    rw c.start.ensures.value tt
 
 pub returns : goal.returns
 returns c =

@@ -43,7 +43,7 @@ returns-then-frame-ne33 c =
     sym (rw c.read_frame-frame.ensures at c.is_good_frame.ensures) ∙ c.if-not-is_good_frame.false in
     let kind_is : c.read_frame-frame.result.kind ≡ kind_of c.args.item.now =
     ap (λ (f : Frame). f.kind) c.read_frame-frame.ensures in
-    rw c.fault-then-frame-ne33.ensures (plays_unanswered (platform_of c.args.journal.now c.args.inventory.now c.args.from) c.args.args.now c.args.memory.now c.args.from c.args.item.now c.requires (few) (good) c.if-from.true (λ e. c.if-frame-ne33.true (kind_is ∙ e)))
+    rw c.fault-then-frame-ne33.ensures (plays_unanswered (platform_of c.args.journal.now c.args.inventory.now c.args.from) c.args.args.now c.args.memory.now c.args.from c.args.item.now c.requires (few) (good) c.in-Some.size c.in-Some.is (λ e. c.if-frame-ne33.true (kind_is ∙ e)))
 
 pub run_call-requires : goal.run_call-requires
 run_call-requires c =
@@ -53,17 +53,17 @@ run_call-requires c =
     sym (rw c.read_frame-frame.ensures at c.is_good_frame.ensures) ∙ c.if-not-is_good_frame.false in
     let small : length c.args.item.now ≤ 4104 =
     item_size (platform_of c.args.journal.now c.args.inventory.now c.args.from) c.args.args.now c.args.memory.now c.args.from c.args.item.now c.requires (few) (good) in
-    (c.requires.steady, few, c.requires.four, small)
+    (c.requires.steady, c.in-Some.is, few, c.requires.four, small)
 
-pub returns-then-from : goal.returns-then-from
-returns-then-from c =
+pub returns-in-Some : goal.returns-in-Some
+returns-in-Some c =
     let few : c.args.from.records ≤ 0xffff_fffe =
     omega (arith, c.if-from-gt4294967294.false) in
     let good : let item = c.args.item.now in good_frame (length_of item) (kind_of item) ≡ true =
     sym (rw c.read_frame-frame.ensures at c.is_good_frame.ensures) ∙ c.if-not-is_good_frame.false in
     let kind_is : c.read_frame-frame.result.kind ≡ kind_of c.args.item.now =
     ap (λ (f : Frame). f.kind) c.read_frame-frame.ensures in
-    plays_call (platform_of c.args.journal.now c.args.inventory.now c.args.from) c.args.args.now c.args.memory.now c.args.from c.args.item.now c.requires (few) (good) c.if-from.true _ _ _ (sym (kind_is) ∙ c.if-frame-ne33.false) c.run_call.ensures.value c.run_call.ensures.memory_after c.run_call.ensures.args_after
+    plays_call (platform_of c.args.journal.now c.args.inventory.now c.args.from) c.args.args.now c.args.memory.now c.args.from c.args.item.now c.requires (few) (good) c.in-Some.size c.in-Some.is _ _ _ (sym (kind_is) ∙ c.if-frame-ne33.false) c.run_call.ensures.value c.run_call.ensures.memory_after c.run_call.ensures.args_after
 
 pub keep-requires : goal.keep-requires
 keep-requires c =
@@ -83,7 +83,7 @@ returns-then-frame-eq32 c =
     sym (rw c.read_frame-frame.ensures at c.is_good_frame.ensures) ∙ c.if-not-is_good_frame.false in
     let kind_is : c.read_frame-frame.result.kind ≡ kind_of c.args.item.now =
     ap (λ (f : Frame). f.kind) c.read_frame-frame.ensures in
-    plays_keep (platform_of c.args.journal.now c.args.inventory.now c.args.from) c.args.args.now c.args.memory.now c.args.from c.args.item.now c.requires (few) (good) c.if-from.false _ _ (sym (kind_is) ∙ c.if-frame-eq32.true) c.keep.ensures.args_after c.keep.ensures.value
+    plays_keep (platform_of c.args.journal.now c.args.inventory.now c.args.from) c.args.args.now c.args.memory.now c.args.from c.args.item.now c.requires (few) (good) c.in_default.is _ _ (sym (kind_is) ∙ c.if-frame-eq32.true) c.keep.ensures.args_after c.keep.ensures.value
 
 pub set_memory-requires : goal.set_memory-requires
 set_memory-requires c =
@@ -103,7 +103,7 @@ returns-then-frame-eq34 c =
     sym (rw c.read_frame-frame.ensures at c.is_good_frame.ensures) ∙ c.if-not-is_good_frame.false in
     let kind_is : c.read_frame-frame.result.kind ≡ kind_of c.args.item.now =
     ap (λ (f : Frame). f.kind) c.read_frame-frame.ensures in
-    plays_set (platform_of c.args.journal.now c.args.inventory.now c.args.from) c.args.args.now c.args.memory.now c.args.from c.args.item.now c.requires (few) (good) c.if-from.false _ _ (λ e. c.if-frame-eq32.false (kind_is ∙ e)) (sym (kind_is) ∙ c.if-frame-eq34.true) c.set_memory.ensures.memory_after c.set_memory.ensures.value
+    plays_set (platform_of c.args.journal.now c.args.inventory.now c.args.from) c.args.args.now c.args.memory.now c.args.from c.args.item.now c.requires (few) (good) c.in_default.is _ _ (λ e. c.if-frame-eq32.false (kind_is ∙ e)) (sym (kind_is) ∙ c.if-frame-eq34.true) c.set_memory.ensures.memory_after c.set_memory.ensures.value
 
 pub fault-requires-2 : goal.fault-requires-2
 fault-requires-2 c =
@@ -117,4 +117,4 @@ returns c =
     sym (rw c.read_frame-frame.ensures at c.is_good_frame.ensures) ∙ c.if-not-is_good_frame.false in
     let kind_is : c.read_frame-frame.result.kind ≡ kind_of c.args.item.now =
     ap (λ (f : Frame). f.kind) c.read_frame-frame.ensures in
-    rw c.fault-2.ensures (plays_other (platform_of c.args.journal.now c.args.inventory.now c.args.from) c.args.args.now c.args.memory.now c.args.from c.args.item.now c.requires (few) (good) c.if-from.false (λ e. c.if-frame-eq32.false (kind_is ∙ e)) (λ e. c.if-frame-eq34.false (kind_is ∙ e)))
+    rw c.fault-2.ensures (plays_other (platform_of c.args.journal.now c.args.inventory.now c.args.from) c.args.args.now c.args.memory.now c.args.from c.args.item.now c.requires (few) (good) c.in_default.is (λ e. c.if-frame-eq32.false (kind_is ∙ e)) (λ e. c.if-frame-eq34.false (kind_is ∙ e)))

@@ -18,5 +18,5 @@ returns-then-memory-at c =
 pub returns : goal.returns
 returns c =
     let a = c.args in
-    let both = set_done a.memory.now a.item.now a.from _ _ _ c.read_le32-at.ensures c.play_on.ensures c.store_bytes.ensures c.if-item-lt9.false c.if-memory-at.false in
+    let both = set_done a.memory.now a.item.now a.from _ _ _ c.read_le32-at.ensures c.play_on.ensures c.store.ensures c.if-item-lt9.false c.if-memory-at.false in
     record { value = both.0; memory_after = both.1 }

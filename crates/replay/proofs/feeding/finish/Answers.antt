@@ -1,6 +1,5 @@
 -- `feeding::finish` meets its contract.
 use mathlib.Core.Path.{refl, sym, ◌∙◌}
-use mathlib.Core.Bool.{true≢false}
 use native.Mathlib.Omega.{arith}
 use borrow.Author.Tests.{ltb-true}
 use lib.Seq.{length-take-le}
@@ -8,6 +7,8 @@ use Rattle.words.proofs.Choice.{and_right}
 use Rattle.records.proofs.Holding.{Gathered}
 use Rattle.trace.specs.Trace.{good_frame}
 use Rattle.counting.proofs.Growing.{within_later}
+use Rattle.std.specs.Prelude.{is_some}
+use Rattle.playing.proofs.Parts.{within_is}
 use Rattle.replay.proofs.Standings.{gathers, gathered_playable, finish_none, finish_inside, finish_done}
 use Rattle.replay.proofs.feeding.finish.Goals as goal
 
@@ -54,19 +55,20 @@ play-next-requires c =
 -- a call was made, so that one record more was taken
 pub count_front-counts-requires : goal.count_front-counts-requires
 count_front-counts-requires c =
-    let more = ltb-true c.args.from.playing.records c.play-next.result.records (and_right c.args.from.playing.waits _ (sym c.is_call.ensures ∙ c.if-is_call.true)) in
-    (within_later _ _ c.requires.counted 0xffff_fffe (omega (arith, more, c.play-next.ensures.steady.few)), omega (arith, c.requires.steady.inside, c.play-next.ensures.steady.room))
+    let made = sym (rw c.is_some.ensures at c.is_call.ensures) ∙ c.if-is_call.true in
+    let more = ltb-true c.args.from.playing.records c.play-next.result.records (and_right (is_some c.args.from.playing.waiting) _ made) in
+    (within_later _ _ c.requires.counted 0xffff_fffe (omega (arith, more, c.play-next.ensures.steady.few)), rw c.unwrap_or.ensures (omega (arith, within_is _ c.requires.steady.inside, c.play-next.ensures.steady.room)))
 
 pub returns-then-is_call : goal.returns-then-is_call
 returns-then-is_call c =
     let gathered : Gathered good_frame c.args.held.now c.args.from.held c.args.bytes.now c.gather-at.new.buffer c.gather-at.result =
     gathers c.requires _ _ _ c.if-had-eq0.false c.gather-at.auto.buffer c.gather-at.ensures in
-    finish_done c.requires _ _ _ (gathered) _ c.ripe_at.ensures c.if-ripe_at-eq0.false _ _ _ _ _ c.play-next.ensures c.is_call.ensures
-    (record { yes_is = λ _. c.count_front-counts.ensures; no_is = λ n. absurd (true≢false (sym c.if-is_call.true ∙ n)) })
+    let made = sym (rw c.is_some.ensures at c.is_call.ensures) ∙ c.if-is_call.true in
+    finish_done c.requires _ _ _ (gathered) _ c.ripe_at.ensures c.if-ripe_at-eq0.false _ _ _ _ c.play-next.ensures (rw made (rw c.unwrap_or.ensures at c.count_front-counts.ensures))
 
 pub returns-else-is_call : goal.returns-else-is_call
 returns-else-is_call c =
     let gathered : Gathered good_frame c.args.held.now c.args.from.held c.args.bytes.now c.gather-at.new.buffer c.gather-at.result =
     gathers c.requires _ _ _ c.if-had-eq0.false c.gather-at.auto.buffer c.gather-at.ensures in
-    finish_done c.requires _ _ _ (gathered) _ c.ripe_at.ensures c.if-ripe_at-eq0.false _ _ _ _ _ c.play-next.ensures c.is_call.ensures
-    (record { yes_is = λ y. absurd (true≢false (sym y ∙ c.if-is_call.false)); no_is = λ _. refl })
+    let not = sym (rw c.is_some.ensures at c.is_call.ensures) ∙ c.if-is_call.false in
+    finish_done c.requires _ _ _ (gathered) _ c.ripe_at.ensures c.if-ripe_at-eq0.false _ _ _ _ c.play-next.ensures (rw not refl)

@@ -1,5 +1,5 @@
 use mathlib.Core.Path.{◌≡◌, sym, ◌∙◌}
-use mathlib.Core.Bool.{false, true≢false}
+use mathlib.Core.Bool.{false}
 use mathlib.Core.Logic.{⊎_elim}
 use borrow.Author.Tests.{not-true, not-false, ltb-true}
 use native.Mathlib.Omega.{arith}
@@ -8,7 +8,10 @@ use Rattle.records.proofs.Behind.{Ripe, ripe_is}
 use Rattle.trace.specs.Trace.{good_frame}
 use Rattle.trace.specs.Playing.{is_over}
 use Rattle.counting.proofs.Growing.{within_later}
-use Rattle.replay.proofs.Made.{Counts_by}
+use Rattle.std.specs.Prelude.{is_some}
+use lib.Dec.{ltb}
+use Rattle.playing.proofs.Parts.{within_is}
+use Rattle.replay.specs.Inner.Terms.{counted_by}
 use Rattle.replay.proofs.Standings.{part_playable, pass_starts, pass_over, pass_held, pass_on}
 use Rattle.replay.proofs.feeding.pass.Goals as goal
 
@@ -74,8 +77,9 @@ play-playing-requires c =
 pub count_front-counts-requires : goal.count_front-counts-requires
 count_front-counts-requires c =
     let now = c.loop-playing.invariant in
-    let more = ltb-true c.loop-playing.playing.records c.play-playing.result.records (and_right c.loop-playing.playing.waits _ (sym c.is_call.ensures ∙ c.if-is_call.true)) in
-    (within_later _ _ now.counted 0xffff_fffe (omega (arith, more, c.play-playing.ensures.steady.few)), omega (arith, now.steady.inside, c.play-playing.ensures.steady.room))
+    let made = sym (rw c.is_some.ensures at c.is_call.ensures) ∙ c.if-is_call.true in
+    let more = ltb-true c.loop-playing.playing.records c.play-playing.result.records (and_right (is_some c.loop-playing.playing.waiting) _ made) in
+    (within_later _ _ now.counted 0xffff_fffe (omega (arith, more, c.play-playing.ensures.steady.few)), rw c.unwrap_or.ensures (omega (arith, within_is _ now.steady.inside, c.play-playing.ensures.steady.room)))
 
 pub loop-playing-smaller : goal.loop-playing-smaller
 loop-playing-smaller c =
@@ -87,9 +91,7 @@ pub loop-playing-preserved : goal.loop-playing-preserved
 loop-playing-preserved c =
     let ripe : Ripe good_frame c.args.bytes.now c.loop-playing.at c.ripe_at-n.result =
     ripe_is good_frame _ _ _ c.loop-playing.invariant.place c.ripe_at-n.ensures c.if-n-eq0.false in
-    let counts_by : Counts_by c.play-playing.ensures c.loop-playing.invariant.steady c.is_call.result c.loop-playing.counts c.if-is_call.counts =
-    record {
-      yes_is = λ y. ⊎_elim (λ w. w.counts-is ∙ w.count_front-counts.ensures) (λ w. absurd (true≢false (sym y ∙ w.if-is_call.false))) c.if-is_call.branch-raw;
-      no_is = λ n. ⊎_elim (λ w. absurd (true≢false (sym w.if-is_call.true ∙ n))) (λ w. w.counts-is) c.if-is_call.branch-raw;
-    } in
-    pass_on c.loop-playing.invariant (ripe) _ _ _ _ _ c.play-playing.auto.args c.play-playing.auto.memory c.play-playing.ensures c.is_call.ensures (counts_by)
+    let called = rw c.is_some.ensures at c.is_call.ensures in
+    let counts_by : c.if-is_call.counts ≡ counted_by c.loop-playing.counts c.loop-playing.playing.waiting (ltb c.loop-playing.playing.records c.play-playing.result.records) c.play-playing.new.args c.play-playing.new.memory =
+    ⊎_elim (λ w. w.counts-is ∙ rw (sym called ∙ w.if-is_call.true) (rw w.unwrap_or.ensures at w.count_front-counts.ensures)) (λ w. w.counts-is ∙ rw (sym called ∙ w.if-is_call.false)) c.if-is_call.branch-raw in
+    pass_on c.loop-playing.invariant (ripe) _ _ _ _ c.play-playing.auto.args c.play-playing.auto.memory c.play-playing.ensures counts_by

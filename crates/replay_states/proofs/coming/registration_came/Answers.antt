@@ -2,7 +2,8 @@
 use mathlib.Core.Bool.{◌&&◌}
 use mathlib.Core.Path.{◌≡◌}
 use native.Mathlib.Omega.{arith}
-use lib.ListN.{length, take, drop}
+use Prim.Native.Nat.{◌-◌}
+use lib.ListN.{length, take, drop, length-drop}
 use lib.Seq.{take_all}
 use borrow.Author.Rules.{rules}
 use borrow.Author.Tests.{le-leb, lt-leb, eq-eqb, ne_eqb}
@@ -13,20 +14,10 @@ use Rattle.crossing.specs.Registration.{registration_of}
 use Rattle.trace.specs.Came.{registration_came}
 use Rattle.replay_states.proofs.coming.registration_came.Goals as goal
 
-pub is_zero-requires : goal.is_zero-requires
-is_zero-requires c =
-    let full : length c.args.flat.copy ≡ copy_size =
-    search rules in
-    let h = full in search rules
-
 pub returns-then-length-eq0 : goal.returns-then-length-eq0
 unfolding registration_came
 returns-then-length-eq0 c =
-    let full : length c.args.flat.copy ≡ copy_size =
-    search rules in
-    let whole : let copy = c.args.flat.copy in take copy_size copy ≡ copy =
-    take_all copy_size _ (omega (arith, full)) in
-    rw (eq-eqb _ 0 c.if-flat-eq0.true, eq-eqb _ 0 c.if-length-eq0.true, c.is_zero.ensures, whole)
+    rw (eq-eqb _ 0 c.if-flat-eq0.true, eq-eqb _ 0 c.if-length-eq0.true, c.are_zeros.ensures)
 
 pub returns-else-length-eq0 : goal.returns-else-length-eq0
 unfolding registration_came
@@ -49,12 +40,6 @@ slice_bounds-copy-end c =
     search rules in
     omega (arith, c.if-length-gt-COPY_SIZE.false, full)
 
-pub is_zero-requires-then-is_structure : goal.is_zero-requires-then-is_structure
-is_zero-requires-then-is_structure c =
-    let full : length c.args.flat.copy ≡ copy_size =
-    search rules in
-    let h = full in search rules
-
 pub returns-then-is_structure : goal.returns-then-is_structure
 unfolding registration_came
 returns-then-is_structure c =
@@ -62,9 +47,9 @@ returns-then-is_structure c =
     rw (ne_eqb _ 0 c.if-flat-eq0.false, eq-eqb _ 1 c.if-flat-ne1.false, le-leb _ copy_size c.if-length-gt-COPY_SIZE.false) in
     let full : length c.args.flat.copy ≡ copy_size =
     search rules in
-    let whole : let copy = c.args.flat.copy in take copy_size copy ≡ copy =
-    take_all copy_size _ (omega (arith, full)) in
-    rw (left, ← c.is_structure.ensures.value, c.if-is_structure.true, c.is_zero-then-is_structure.ensures, whole)
+    let behind : let f = c.args.flat in take (copy_size - f.length) (drop f.length f.copy) ≡ drop f.length f.copy =
+    take_all _ _ (omega (arith, full, length-drop c.args.flat.length c.args.flat.copy)) in
+    rw (left, ← c.is_structure.ensures.value, c.if-is_structure.true, c.are_zeros-then-is_structure.ensures, behind)
 
 pub returns-else-is_structure : goal.returns-else-is_structure
 unfolding registration_came
