@@ -6,6 +6,8 @@ ghost use Rattle.indices.specs.Reading as indices_reading;
 ghost use Rattle.readers.specs.Readings.{sets_words, index_reading, indices_out};
 ghost use Rattle.readers.specs.Claims.Readings.{WordsTell};
 
+use crate::storing::store;
+
 // What a reading of an index area tells: a refusal and its byte offset, or the number of entries.
 #[repr(C)]
 #[derive(Clone, Copy)]
@@ -20,9 +22,8 @@ fn store_set(out: &mut [u64], to: usize, set: indices::Set)
     requires { to + 3 ≤ length out.old }
     ensures { out.new ≡ sets out.old to (set.index ∷ set.start ∷ set.length ∷ []) }
 {
-    out[to] = u64::from(set.index);
-    out[to + 1] = set.start as u64;
-    out[to + 2] = set.length as u64;
+    let words = [u64::from(set.index), set.start as u64, set.length as u64];
+    store(out, to, &words);
 }
 
 // The length of the code of a set that a check passed, whose field has n bytes. One to four NULs end the field, so its last four bytes tell.
