@@ -13,13 +13,11 @@ fn calls_counted(rows: [u64; ROWS]) -> u64
     ensures { result ≡ min (sum_of 28 rows) 0x1_0000_0000 }
 {
     let mut sum: u64 = 0;
-    let mut i: usize = 0;
-    while i < ROWS {
+    for i in 0..ROWS {
         if 0x1_0000_0000 - sum <= rows[i] {
             return 0x1_0000_0000;
         }
         sum += rows[i];
-        i += 1;
     }
     sum
 }

@@ -7,24 +7,24 @@ use Rattle.replay_states.proofs.counts.calls_counted.Goals as goal
 pub loop-i-init : goal.loop-i-init
 unfolding sum_of
 loop-i-init c =
-    (omega arith, (refl, omega arith))
+    (refl, omega arith)
 
 pub overflow_sub-sum : goal.overflow_sub-sum
 overflow_sub-sum c =
-    omega (arith, c.loop-i.invariant.1.1)
+    omega (arith, c.loop-i.invariant.1)
 
 pub returns-then-sum-rows : goal.returns-then-sum-rows
 returns-then-sum-rows c =
-    too_many c.args.rows c.loop-i.sum c.loop-i.i c.loop-i.invariant.1.0 (omega (arith, c.loop-i-test.true)) (omega (arith, c.if-sum-rows.true))
+    too_many c.args.rows c.loop-i.sum c.loop-i.i c.loop-i.invariant.0 (omega arith) (omega (arith, c.if-sum-rows.true))
 
 pub overflow_add-sum : goal.overflow_add-sum
 overflow_add-sum c =
-    record { fits = omega (arith, c.loop-i.invariant.1.1, c.if-sum-rows.false) }
+    record { fits = omega (arith, c.loop-i.invariant.1, c.if-sum-rows.false) }
 
 pub loop-i-preserved : goal.loop-i-preserved
 loop-i-preserved c =
-    (omega (arith, c.loop-i-test.true), (one_row_more c.args.rows c.loop-i.sum c.loop-i.i c.loop-i.invariant.1.0, omega (arith, c.if-sum-rows.false)))
+    (one_row_more c.args.rows c.loop-i.sum c.loop-i.i c.loop-i.invariant.0, omega (arith, c.if-sum-rows.false))
 
 pub returns : goal.returns
 returns c =
-    all_rows c.args.rows c.loop-i.sum c.loop-i.i c.loop-i.invariant.1.0 (omega (arith, c.loop-i.invariant.0, c.loop-i-test.false)) (omega (arith, c.loop-i.invariant.1.1))
+    all_rows c.args.rows c.loop-i.sum c.loop-i.i c.loop-i.invariant.0 (omega arith) (omega (arith, c.loop-i.invariant.1))
