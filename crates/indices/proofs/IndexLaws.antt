@@ -1,19 +1,20 @@
 -- Laws of reading an index work area.
 use mathlib.Core.Path.{◌≡◌, refl, sym, ap, ◌∙◌}
-use mathlib.Core.Bool.{Bool, true, false, cond, not, or-true}
+use mathlib.Core.Bool.{Bool, true, false, cond, not, ◌&&◌, or-true, and-true}
 use mathlib.Core.List.{List, [], ◌∷◌}
 use Prim.Native.Nat.{ℕ, zero, suc, ◌+◌, ◌-◌, ◌<◌, ◌≤◌, min}
 use native.Mathlib.Nat.{zero-add, add_assoc}
 use native.Mathlib.Numerals.{sub-one}
 use native.Mathlib.Omega.{arith}
 use lib.Dec.{ltb, eqb, eqb-suc-zero}
-use lib.ListN.{length, take, drop, length-take, length-drop}
+use lib.ListN.{length, get_or, take, drop, length-take, length-drop}
 use lib.Seq.{take-length, take-take}
 use borrow.Author.Tests.{ne_eqb, ltb-false, lt-ltb, le-ltb}
-use Rattle.words.specs.Numbers.{be32}
+use Rattle.words.specs.Numbers.{be32, zeros}
 use Rattle.words.specs.Nul.{until_nul}
 use Rattle.words.proofs.Choice.{choose, decide}
 use Rattle.words.proofs.Ranges.{range_from}
+use Rattle.words.proofs.Zeros.{zeros_byte}
 use Rattle.std.proofs.lemmas.List.{take_all}
 use Rattle.std.proofs.lemmas.Grind.{common_steps}
 use Rattle.inventory.specs.Listing.{Entry}
@@ -43,6 +44,21 @@ code_front (b ∷ bs) = choose (eqb b 0) (λ (l : List ℕ). l ≡ take (length 
 -- all from a place on, as the code takes it
 pub to_the_end : (s : List ℕ) (n : ℕ) → take (length s - n) (drop n s) ≡ drop n s
 to_the_end s n = take_all (length s - n) (drop n s) (rw length-drop (omega arith))
+
+-- bytes of which one is not zero
+pub nuls_not : (l : List ℕ) (i : ℕ) → (get_or l i 0 ≡ 0 → ⊥) → false ≡ zeros l
+nuls_not l i h = decide (zeros l) (λ t. absurd (h (zeros_byte l i t))) (λ t. sym t)
+
+-- one to four bytes of which the first three are zero, the last as often as it is asked for
+pub nuls_told : (l : List ℕ) (n : ℕ) → n ≡ length l - 1 → 1 ≤ length l → length l ≤ 4 → get_or l 0 0 ≡ 0 → get_or l (min n 1) 0 ≡ 0 → get_or l (min n 2) 0 ≡ 0 →
+    eqb (get_or l (min n 3) 0) 0 ≡ zeros l
+unfolding zeros
+nuls_told [] n e l m p q r = absurd (omega arith)
+nuls_told (a ∷ []) n e l m p q r = rw (e, p)
+nuls_told (a ∷ b ∷ []) n e l m p q r = rw (e, p) (rw (rw e at q))
+nuls_told (a ∷ b ∷ c ∷ []) n e l m p q r = rw (e, p) (rw (rw e at q, rw e at r))
+nuls_told (a ∷ b ∷ c ∷ d ∷ []) n e l m p q r = rw (e, p) (rw (rw e at q, rw e at r) (sym (and-true (eqb d 0))))
+nuls_told (a ∷ b ∷ c ∷ d ∷ f ∷ s) n e l m p q r = absurd (omega arith)
 
 -- what the code's test of a field is proved by
 pub ruleset field_laws = (code_short, to_the_end, common_steps)

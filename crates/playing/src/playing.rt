@@ -166,10 +166,7 @@ fn run_call(
         reading,
     );
     let next = compare(calls_in(report), &item[4..], &args[..size]);
-    let answer = stepped.answer;
-    let registration = answer.registration;
-    let reading = stepped.reading;
-    play_on(from, next, registration, reading)
+    play_on(from, next, stepped.answer.registration, stepped.reading)
 }
 
 // Whether length and kind can be those of a good record.
