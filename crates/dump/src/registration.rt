@@ -41,7 +41,8 @@ pub fn no_registration() -> Registration
     }
 }
 
-// The bytes of a structure, and zero bytes behind them.
+// The bytes of a structure, and zero bytes behind them. Out of line, so that a replay's feed stays within its stack.
+#[inline(never)]
 fn copied(s: &[u8]) -> [u8; COPY_SIZE]
     requires { length s.now ≤ copy_size }
     ensures { result ≡ padded s.now }

@@ -25,7 +25,8 @@ fn write_answer(area: &mut [u8], j: &[u8], phandle: u32, state: u32, place: usiz
 }
 
 // The call on its work area: the journal is judged and the node's session followed in one pass. Tells whether more is due after the answer. A refusal
-// leaves the area as it was.
+// leaves the area as it was. Out of line, so that a replay's feed stays within its stack.
+#[inline(never)]
 pub fn answer(area: &mut [u8], j: &[u8]) -> Result<bool, Refusal>
     requires { length area.old ≡ area_size }
     ensures value { result ≡ outcome_of area.old j.now }
