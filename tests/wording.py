@@ -14,7 +14,7 @@ ALONE = {'zero', 'true', 'false', '[]'}  # constructors of the kit that stand al
 KIT = 'Rattle.std.specs.Prelude.'
 GIVES = {f'{KIT}get_or': (3,), f'{KIT}cond': (2, 3), f'{KIT}take': (2,), f'{KIT}drop': (2,)}
 LIST = f'{KIT}List'
-BUILT_IN = {'Type', 'Unit', '⊥', '_'}
+BUILT_IN = {'Type', 'Unit', 'tt', '⊥', '_'}
 
 
 def numeral(token):
