@@ -72,7 +72,7 @@ def point_1(files, functions):
     for path in files:
         for line, comment, kind, name, members in read_types(path):
             at = f'{path}:{line} {kind} {name}'
-            if kind == 'enum' and len(members) == 2:
+            if kind == 'enum' and len(members) == 2 and any('(' in m for m in members):
                 bare = [m for m in members if '(' not in m]
                 refused = [m for m in members if re.search(r'Refus|Bad|Malformed', m)]
                 if len(bare) == 1 or (refused and len(refused) == 1):
@@ -165,6 +165,8 @@ def point_3(files, functions):
 
 def point_4(files, functions):
     for f in functions:
+        if f.name == 'from':
+            continue
         text = ' '.join(f.comment)
         body = ' '.join(f.body.split())
         if re.search(r'if (\w+) < (\w+) \{ (return )?(\1|\2);? \}', body):
