@@ -1,9 +1,11 @@
 -- What the code tests and adds tells the answer of three counts.
-use mathlib.Core.Path.{◌≡◌, ap, ◌∙◌}
+use mathlib.Core.Path.{◌≡◌, sym, ap, ◌∙◌}
 use mathlib.Core.Bool.{Bool, true, false, cond}
-use Prim.Native.Nat.{ℕ, ◌+◌, ◌≤◌}
+use Prim.Native.Nat.{ℕ, ◌+◌, ◌-◌, ◌≤◌}
 use native.Mathlib.Omega.{arith}
 use lib.Dec.{ltb}
+use borrow.Author.Tests.{lt-ltb, le-ltb, ltb-true, ltb-false}
+use Rattle.words.proofs.Choice.{decide}
 use Rattle.journal.specs.declared.counts.Counts.{Counts}
 use Rattle.node_area.specs.State.{total, is_within, remaining_of}
 use Rattle.nodes.specs.Run.{area_words, cut}
@@ -11,6 +13,14 @@ use Rattle.nodes.proofs.Cut.{cut_is}
 use Rattle.calls.specs.declared.status.Status.TheVariants.{Done, Again}
 use Rattle.forecast.specs.declared.forecasting.Forecast.{Forecast}
 use Rattle.forecast.specs.Forecast.{refused, answer_from}
+
+-- below all three counts, without their sum
+pub below_rest : (n : ℕ) (all : Counts) → all.deletes ≤ n → all.updates ≤ n - all.deletes → ltb (n - all.deletes - all.updates) all.additions ≡ ltb n (total all)
+below_rest n all d u =
+    let rest = n - all.deletes - all.updates in
+    decide (ltb rest all.additions)
+    (λ t. t ∙ sym (lt-ltb n (total all) (omega (arith, ltb-true rest all.additions t))))
+    (λ t. t ∙ sym (le-ltb n (total all) (omega (arith, ltb-false rest all.additions t))))
 
 -- a run is short
 pub run_few : (run left : Counts) → run ≡ cut left → total run ≤ area_words
