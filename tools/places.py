@@ -86,7 +86,8 @@ def point_1(files, functions):
                         yield 'flag with values beside it', at + '.' + m, kept(comment)
     for f in functions:
         text = ' '.join(f.comment)
-        if re.fullmatch(NUMBER, f.result) and re.search(r'\b(0|7|35|none) (where|if|for) |, or 0\b|, else 0\b|; 7 ', text) and '1 where' not in text and not f.body.count('extern'):
+        none = re.search(r'\b(0|7|35|none) (where|if|for) |, or 0\b|, else 0\b|; 7 ', text) and '1 where' not in text
+        if re.fullmatch(NUMBER, f.result) and none and not f.body.count('extern'):
             yield 'number that stands for none', f.where(), kept(text, f.body)
         if re.fullmatch(NUMBER, f.result) and re.search(r'Whether|whether|refused with|1 where', text) and not re.search(r'How many', text):
             yield 'number for a test or a refusal', f.where(), kept(text, f.body)
@@ -127,7 +128,8 @@ def twins(functions, calls):
 def point_2(files, functions):
     for group in twins(functions, False):
         for f in group:
-            yield 'same code but for types, numbers and names', f.where() + ' = ' + ', '.join(g.name for g in group if g is not f), kept(' '.join(f.comment), f.body)
+            others = ', '.join(g.name for g in group if g is not f)
+            yield 'same code but for types, numbers and names', f.where() + ' = ' + others, kept(' '.join(f.comment), f.body)
     for size in ('be', 'le'):
         for f in functions:
             if re.fullmatch(rf'(read|store)_{size}(16|32|64)', f.name):
@@ -171,7 +173,7 @@ def point_4(files, functions):
         body = ' '.join(f.body.split())
         if re.search(r'if (\w+) < (\w+) \{ (return )?(\1|\2);? \}', body):
             yield 'minimum, maximum or difference by hand', f.where(), kept(text, f.body)
-        elif re.search(r'^if (\w+) < (\w+) \{ return 0; \} \2 - \1|^if (\w+) \{ (return )?(1|true);? \}', body) or re.search(r'^if \w+ < \w+ \{ return 0; \} \(?\w+ - \w+\)?', body):
+        elif re.search(r'^if (\w+) \{ (return )?(1|true);? \}|^if \w+ < \w+ \{ return 0; \} \(?\w+ - \w+\)?', body):
             yield 'minimum, maximum or difference by hand', f.where(), kept(text, f.body)
         elif re.fullmatch(r'is_same|\w+_of2', f.name):
             yield 'equality by hand', f.where(), kept(text, f.body)
@@ -209,7 +211,8 @@ def point_6(files, functions):
         names = [re.match(r'(?:mut )?(\w+): (.*)', p) for p in f.params]
         names = [(m[1], m[2]) for m in names if m]
         for a, b, c in zip(names, names[1:], names[2:]):
-            if re.match(r'&(mut )?\[', a[1]) and b[1] == 'usize' and c[1] == 'usize' and (b[0], c[0]) in (('from', 'to'), ('from', 'n'), ('at', 'n'), ('from', 'end'), ('from', 'count')):
+            ranges = (('from', 'to'), ('from', 'n'), ('at', 'n'), ('from', 'end'), ('from', 'count'))
+            if re.match(r'&(mut )?\[', a[1]) and b[1] == 'usize' and c[1] == 'usize' and (b[0], c[0]) in ranges:
                 yield 'a slice with places beside it', f.where(), kept(' '.join(f.comment), f.body)
         if re.search(r'\[u64; 128\]', ' '.join(f.params)) and 'noted: usize' in f.params:
             yield 'pairs in one array with their number beside it', f.where(), kept(' '.join(f.comment), f.body)
@@ -230,7 +233,8 @@ def point_7(files, functions):
         if tuple(sorted(f.where() for f in group)) in plain or len({skeleton(f.body) for f in group}) == 1 and False:
             continue
         for f in group:
-            yield 'same code but for the functions called', f.where() + ' = ' + ', '.join(g.name for g in group if g is not f), kept(' '.join(f.comment), f.body)
+            others = ', '.join(g.name for g in group if g is not f)
+            yield 'same code but for the functions called', f.where() + ' = ' + others, kept(' '.join(f.comment), f.body)
 
 
 def point_8(files, functions):
