@@ -1,10 +1,13 @@
 // Running a registered dump over the C boundary.
 ghost use Rattle.std.specs.Prelude.{◌≡◌};
+ghost use Rattle.calls.specs.Status.{status_word};
+ghost use Rattle.calls.specs.ConfigureDump.{verdict_status};
 ghost use Rattle.draugsten_dump.specs.Running.{flat_leaves, flat_run_of};
 ghost use Rattle.draugsten_dump.specs.Promises.{RunPromise};
 
 use calls::Status;
 use crossing::FlatRegistration;
+use dump::Refusal;
 
 // What a run answers: its number, its status, and the registration afterwards.
 #[repr(C)]
@@ -13,6 +16,16 @@ pub struct FlatRun {
     pub number: u32,
     pub status: u32,
     pub registration: FlatRegistration,
+}
+
+// The number of the status that a verdict gives.
+fn status_of(verdict: Result<(), Refusal>) -> u32
+    ensures { result ≡ status_word (verdict_status verdict) }
+{
+    match verdict {
+        Ok(()) => u32::from(Status::Done),
+        Err(refusal) => u32::from(Status::from(refusal)),
+    }
 }
 
 // Runs a registered dump. What is no registration gives 13, and nothing changes; otherwise what is handed back is one.
@@ -33,16 +46,10 @@ pub extern "C" fn draugsten_run_dump(
             registration,
         };
     }
-    match dumping::run_dump(crossing::registration_of(registration), memory, platform) {
-        Ok(next) => FlatRun {
-            number: 0,
-            status: u32::from(Status::Done),
-            registration: crossing::flat_of(next),
-        },
-        Err(refusal) => FlatRun {
-            number: 0,
-            status: u32::from(Status::from(refusal)),
-            registration,
-        },
+    let ran = dumping::run_dump(crossing::registration_of(registration), memory, platform);
+    FlatRun {
+        number: 0,
+        status: status_of(ran.verdict),
+        registration: crossing::flat_of(ran.next),
     }
 }

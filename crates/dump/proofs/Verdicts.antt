@@ -8,15 +8,14 @@ use native.Mathlib.Omega.{arith}
 use lib.Dec.{leb, ltb, eqb}
 use lib.ListN.{length, take, drop, length-take, length-drop}
 use borrow.Author.Tests.{leb-true, lt-ltb, le-ltb, eqb-true}
-use Rattle.std.specs.Prelude.{Ok, Err, is_ok}
-use Rattle.std.specs.Result.{result_map_both}
+use Rattle.std.specs.Prelude.{Err, is_ok}
 use Rattle.words.proofs.Choice.{decide, choose, and_left, and_right}
 use Rattle.dump.specs.declared.registration.Phase.{Phase}
 use Rattle.dump.specs.declared.registration.Phase.TheVariants.{Unregistered, Registered, Active}
 use Rattle.dump.specs.declared.registration.Registration.{Registration}
 use Rattle.dump.specs.declared.registration.Refusal.{Refusal}
 use Rattle.dump.specs.Structure.{header_size}
-use Rattle.dump.specs.Registration.{Verdict, copy_size, padded, no_registration, registered, structure_at, acceptable, verdict_of, registration_after}
+use Rattle.dump.specs.Registration.{copy_size, padded, no_registration, registered, structure_at, acceptable, verdict_of, registration_after}
 
 -- an acceptable structure fits into a copy, and stands inside memory
 module _ (m : List ℕ) (address len : ℕ) (good : acceptable m address len ≡ true) where
@@ -34,15 +33,6 @@ module _ (m : List ℕ) (address len : ℕ) (good : acceptable m address len ≡
       let h = acceptable_inside in
       let n : length (structure_at m address len) ≡ len = simp (length-take, length-drop) (omega arith) in
       rw (e, add-sub_cancel_left address len, n)
-
--- what is handed back, and why nothing is, by the verdict
-pub handed_over : {T : Type 0} (x next : T) (v : Verdict) → Ok next ≡ result_map_both (λ _. x) (λ e. e) v → (v ≡ Ok tt) × (next ≡ x)
-handed_over x next (Ok _) e = (refl, cc)
-handed_over x next (Err _) e = cc
-
-pub refused_for : {T : Type 0} (x : T) (r : Refusal) (v : Verdict) → Err r ≡ result_map_both (λ _. x) (λ e. e) v → v ≡ Err r
-refused_for x r (Ok _) e = cc
-refused_for x r (Err _) e = cc
 
 -- what is refused stays
 pub refused_stays : (m : List ℕ) (command address len : ℕ) (r : Registration) (e : Refusal) → verdict_of m command address len r.phase ≡ Err e → registration_after m command address len r ≡ r

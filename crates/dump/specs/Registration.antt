@@ -1,9 +1,9 @@
 -- The kernel dump registration, and what each command makes of it (document 01, "Kernel dump registration").
 use Rattle.std.specs.Prelude.{ℕ, ◌+◌, ◌-◌, Bool, true, false, cond, ◌&&◌, ◌||◌, not, List, ◌++◌, leb, ltb, eqb, length, take, drop, replicate, Result, Ok, Err, is_ok}
-use Rattle.std.specs.Result.{result_map_both}
 use Rattle.dump.specs.declared.registration.Phase.{Phase}
 use Rattle.dump.specs.declared.registration.Phase.TheVariants.{Unregistered, Registered, Active}
 use Rattle.dump.specs.declared.registration.Registration.{Registration}
+use Rattle.dump.specs.declared.registration.Configured.{Configured}
 use Rattle.dump.specs.declared.registration.Refusal.{Refusal}
 use Rattle.dump.specs.declared.registration.Refusal.TheVariants.{Parameter, AlreadyRegistered, DumpActive}
 use Rattle.dump.specs.Structure.{header_size, good_structure}
@@ -69,6 +69,5 @@ registration_after m command address len r =
     (cond (eqb command 1) (registered (structure_at m address len)) no_registration)
     r
 
--- the next registration, or why there is none
-abbrev pub configured : List ℕ → ℕ → ℕ → ℕ → Registration → Result Registration Refusal
-configured m command address len r = result_map_both (λ _. registration_after m command address len r) (λ e. e) (verdict_of m command address len r.phase)
+abbrev pub configured : List ℕ → ℕ → ℕ → ℕ → Registration → Configured
+configured m command address len r = record { next = registration_after m command address len r; verdict = verdict_of m command address len r.phase }

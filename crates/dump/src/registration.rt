@@ -1,5 +1,5 @@
 // The registration of a kernel dump: a phase, and beside it the copy of the structure.
-ghost use Rattle.std.specs.Prelude.{◌≡◌, [], ◌≤◌, length};
+ghost use Rattle.std.specs.Prelude.{◌≡◌, [], ◌≤◌, length, Ok, Err};
 ghost use Rattle.dump.specs.Registration.{copy_size, acceptable, padded, no_registration, configured};
 
 use crate::structure::{HEADER_SIZE, is_structure};
@@ -30,6 +30,13 @@ pub enum Refusal {
     DumpActive,
 }
 
+// What a command hands back: the next registration, and whether it was refused.
+#[derive(Clone, Copy)]
+pub struct Configured {
+    pub next: Registration,
+    pub verdict: Result<(), Refusal>,
+}
+
 // The registration that a partition starts with.
 pub fn no_registration() -> Registration
     ensures { result ≡ no_registration }
@@ -38,6 +45,16 @@ pub fn no_registration() -> Registration
         phase: Phase::Unregistered,
         len: 0,
         copy: [0; COPY_SIZE],
+    }
+}
+
+// The next registration of a command that is done.
+fn done(next: Registration) -> Configured
+    ensures { result ≡ record { next = next; verdict = Ok tt } }
+{
+    Configured {
+        next,
+        verdict: Ok(()),
     }
 }
 
@@ -66,22 +83,22 @@ fn is_acceptable(memory: &[u8], address: u32, len: u32) -> bool
 }
 
 impl Registration {
-    // Command 1: the next registration. Where it is refused, this one stays.
+    // Command 1.
     #[tactic(auto, unfolding(crate::specs::Registration::verdict_of, crate::specs::Registration::registration_after))]
-    pub fn register(self, memory: &[u8], address: u32, len: u32) -> Result<Registration, Refusal>
+    pub fn register(self, memory: &[u8], address: u32, len: u32) -> Configured
         ensures { result ≡ configured memory.now 1 address len self }
     {
         let before = self.phase;
         match before {
-            Phase::Active => Err(Refusal::DumpActive),
-            Phase::Registered => Err(Refusal::AlreadyRegistered),
+            Phase::Active => self.refused(Refusal::DumpActive),
+            Phase::Registered => self.refused(Refusal::AlreadyRegistered),
             Phase::Unregistered => {
                 if !is_acceptable(memory, address, len) {
-                    return Err(Refusal::Parameter);
+                    return self.refused(Refusal::Parameter);
                 }
                 let at = address as usize;
                 let n = len as usize;
-                Ok(Registration {
+                done(Registration {
                     phase: Phase::Registered,
                     len: n,
                     copy: copied(&memory[at..at + n]),
@@ -92,43 +109,47 @@ impl Registration {
 
     // Command 2.
     #[tactic(auto, unfolding(crate::specs::Registration::verdict_of, crate::specs::Registration::registration_after))]
-    pub fn unregister(self) -> Result<Registration, Refusal>
+    pub fn unregister(self) -> Configured
         ensures { result ≡ configured [] 2 0 0 self }
     {
         match self.phase {
-            Phase::Active => Err(Refusal::DumpActive),
-            Phase::Registered => Ok(no_registration()),
-            Phase::Unregistered => Err(Refusal::Parameter),
+            Phase::Active => self.refused(Refusal::DumpActive),
+            Phase::Registered => done(no_registration()),
+            Phase::Unregistered => self.refused(Refusal::Parameter),
         }
     }
 
     // Command 3.
     #[tactic(auto, unfolding(crate::specs::Registration::verdict_of, crate::specs::Registration::registration_after))]
-    pub fn complete(self) -> Result<Registration, Refusal>
+    pub fn complete(self) -> Configured
         ensures { result ≡ configured [] 3 0 0 self }
     {
         match self.phase {
-            Phase::Active => Ok(no_registration()),
-            Phase::Registered | Phase::Unregistered => Err(Refusal::Parameter),
+            Phase::Active => done(no_registration()),
+            Phase::Registered | Phase::Unregistered => self.refused(Refusal::Parameter),
+        }
+    }
+
+    // What came, handed back as it is.
+    fn refused(self, refusal: Refusal) -> Configured
+        ensures { result ≡ record { next = self; verdict = Err refusal } }
+    {
+        Configured {
+            next: self,
+            verdict: Err(refusal),
         }
     }
 
     // A command by its number.
     #[tactic(auto, unfolding(crate::specs::Registration::verdict_of, crate::specs::Registration::registration_after))]
-    pub fn configure(
-        self,
-        memory: &[u8],
-        command: u32,
-        address: u32,
-        len: u32,
-    ) -> Result<Registration, Refusal>
+    pub fn configure(self, memory: &[u8], command: u32, address: u32, len: u32) -> Configured
         ensures { result ≡ configured memory.now command address len self }
     {
         match command {
             1 => self.register(memory, address, len),
             2 => self.unregister(),
             3 => self.complete(),
-            _ => Err(Refusal::Parameter),
+            _ => self.refused(Refusal::Parameter),
         }
     }
 }

@@ -13,6 +13,7 @@ use Rattle.words.proofs.Choice.{and_left, and_right}
 use Rattle.words.proofs.Numbers.{be_take}
 use Rattle.dump.specs.declared.registration.Phase.TheVariants.{Unregistered, Registered, Active}
 use Rattle.dump.specs.declared.registration.Registration.{Registration}
+use Rattle.dump.specs.declared.registration.Configured.{Configured}
 use Rattle.dump.specs.declared.registration.Refusal.{Refusal}
 use Rattle.dump.specs.declared.registration.Refusal.TheVariants.{Parameter, DumpActive}
 use Rattle.std.specs.Prelude.{Ok, Err, is_ok}
@@ -133,9 +134,9 @@ module _ (platform memory : List ℕ) (r : Registration) where
   unfolding run_of
   run_kept e = rw e
 
-  pub run_refused : (e : Refusal) → run_verdict r ≡ Err e → leaves_run memory r (Err e) ≡ run_of platform memory r
+  pub run_refused : (x : Configured) (e : Refusal) → run_verdict r ≡ Err e → x ≡ record { next = r; verdict = Err e } → leaves_run memory x ≡ run_of platform memory r
   unfolding run_of
-  run_refused e v = rw v
+  run_refused x e v k = rw (k, v)
 
   pub run_done : run_verdict r ≡ Ok tt → run_of platform memory r ≡ record {
     memory = (structure_run platform memory r.copy).memory;

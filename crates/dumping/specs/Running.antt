@@ -1,11 +1,10 @@
 -- Running a registered dump (document 02, M-104).
-use Rattle.std.specs.Prelude.{ℕ, zero, suc, ◌+◌, Bool, false, cond, not, ◌&&◌, ◌||◌, List, leb, eqb, length, take, drop, Result, Ok, Err, is_ok}
-use Rattle.std.specs.Result.{result_unwrap_or, result_map_both}
+use Rattle.std.specs.Prelude.{ℕ, zero, suc, ◌+◌, Bool, false, cond, not, ◌&&◌, ◌||◌, List, leb, eqb, length, take, drop, Ok, Err, is_ok}
 use Rattle.std.proofs.lemmas.List.Edits.{sets}
 use Rattle.words.specs.Numbers.{be_bytes}
 use Rattle.dump.specs.declared.registration.Registration.{Registration}
 use Rattle.dump.specs.declared.registration.Phase.TheVariants.{Active}
-use Rattle.dump.specs.declared.registration.Refusal.{Refusal}
+use Rattle.dump.specs.declared.registration.Configured.{Configured}
 use Rattle.dump.specs.declared.registration.Refusal.TheVariants.{Parameter, DumpActive}
 use Rattle.dump.specs.Structure.{section_size, sections, first_section, request_flags, section_type, section_source, section_requested, section_destination}
 use Rattle.dump.specs.Structure.{good_structure}
@@ -89,9 +88,8 @@ pub record Run : Type 0 where
   pub next : Registration
   pub verdict : Verdict
 
--- where it is refused, the registration that came stays
-abbrev pub leaves_run : List ℕ → Registration → Result Registration Refusal → Run
-leaves_run memory r x = record { memory = memory; next = result_unwrap_or x r; verdict = result_map_both (λ _. tt) (λ e. e) x }
+abbrev pub leaves_run : List ℕ → Configured → Run
+leaves_run memory x = record { memory = memory; next = x.next; verdict = x.verdict }
 
 -- "and the registration becomes active. Nothing else changes"
 unfoldable pub run_of : List ℕ → List ℕ → Registration → Run

@@ -1,5 +1,5 @@
 // Running a registered dump: its sections in order, and the copy of its structure filled in.
-ghost use Rattle.std.specs.Prelude.{◌≡◌, false, ◌||◌, ◌+◌, ◌*◌, ◌≤◌, eqb, length, take, drop};
+ghost use Rattle.std.specs.Prelude.{◌≡◌, false, ◌||◌, ◌+◌, ◌*◌, ◌≤◌, eqb, length, take, drop, Err};
 ghost use Rattle.std.proofs.lemmas.List.Edits.{sets};
 ghost use Rattle.dump.specs.Structure.{header_size, section_size, sections, first_section};
 ghost use Rattle.dump.specs.declared.registration.Phase.TheVariants.{Registered};
@@ -9,7 +9,7 @@ ghost use Rattle.dumping.specs.Running.{section_at, source_of, errors_of, actual
 ghost use Rattle.dumping.specs.Claims.Run.{RunClaims};
 
 use crate::section::{Section, actual_length, error_flags};
-use dump::{COPY_SIZE, Phase, Refusal, Registration};
+use dump::{COPY_SIZE, Configured, Phase, Refusal, Registration};
 
 // The status flags of a dump that has run, and the flag of one with a section error.
 const RUN: u16 = 32_768;
@@ -137,41 +137,46 @@ fn is_good_copy(copy: &[u8], len: usize) -> bool
     len <= COPY_SIZE && dump::is_structure(&copy[..len])
 }
 
+// What came, handed back as it is.
+fn refused(registration: Registration, refusal: Refusal) -> Configured
+    ensures { result ≡ record { next = registration; verdict = Err refusal } }
+{
+    Configured {
+        next: registration,
+        verdict: Err(refusal),
+    }
+}
+
 // The run of a registration in phase registered.
-fn run_registered(
-    registration: Registration,
-    memory: &mut [u8],
-    platform: &[u8],
-) -> Result<Registration, Refusal>
+fn run_registered(registration: Registration, memory: &mut [u8], platform: &[u8]) -> Configured
     requires { registration.phase ≡ Registered }
-    ensures { leaves_run memory.new registration result ≡ run_of platform.now memory.old registration }
+    ensures { leaves_run memory.new result ≡ run_of platform.now memory.old registration }
 {
     let len = registration.len;
     let mut copy = registration.copy;
     if !is_good_copy(&copy, len) {
-        return Err(Refusal::Parameter);
+        return refused(registration, Refusal::Parameter);
     }
     run_structure(&mut copy, memory, platform);
-    Ok(Registration {
-        phase: Phase::Active,
-        len,
-        copy,
-    })
+    Configured {
+        next: Registration {
+            phase: Phase::Active,
+            len,
+            copy,
+        },
+        verdict: Ok(()),
+    }
 }
 
 // Runs a registered dump: the bytes of its sections go to their destinations in partition memory, the copy tells what came of each, and the
 // registration becomes active. A registration that is active, or none, or no good structure, is refused, and nothing changes.
-pub fn run_dump(
-    registration: Registration,
-    memory: &mut [u8],
-    platform: &[u8],
-) -> Result<Registration, Refusal>
-    ensures result_after { leaves_run memory.new registration result ≡ run_of platform.now memory.old registration }
+pub fn run_dump(registration: Registration, memory: &mut [u8], platform: &[u8]) -> Configured
+    ensures result_after { leaves_run memory.new result ≡ run_of platform.now memory.old registration }
     ensures claims { RunClaims }
 {
     match registration.phase {
-        Phase::Active => Err(Refusal::DumpActive),
+        Phase::Active => refused(registration, Refusal::DumpActive),
         Phase::Registered => run_registered(registration, memory, platform),
-        Phase::Unregistered => Err(Refusal::Parameter),
+        Phase::Unregistered => refused(registration, Refusal::Parameter),
     }
 }

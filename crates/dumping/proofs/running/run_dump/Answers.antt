@@ -6,7 +6,7 @@ use Rattle.dumping.proofs.running.run_dump.Goals as goal
 pub returns-in-Active : goal.returns-in-Active
 returns-in-Active c =
     let a = c.args in
-    record { result_after = run_refused a.platform.now a.memory.now a.registration _ (verdict_active a.registration c.in-Active.is); claims = run_claims }
+    record { result_after = run_refused a.platform.now a.memory.now a.registration _ _ (verdict_active a.registration c.in-Active.is) c.refused.ensures; claims = run_claims }
 
 pub returns-in-Registered : goal.returns-in-Registered
 returns-in-Registered c =
@@ -15,4 +15,4 @@ returns-in-Registered c =
 pub returns-in-Unregistered : goal.returns-in-Unregistered
 returns-in-Unregistered c =
     let a = c.args in
-    record { result_after = run_refused a.platform.now a.memory.now a.registration _ (verdict_none a.registration c.in-Unregistered.is); claims = run_claims }
+    record { result_after = run_refused a.platform.now a.memory.now a.registration _ _ (verdict_none a.registration c.in-Unregistered.is) c.refused-in-Unregistered.ensures; claims = run_claims }

@@ -9,7 +9,7 @@ pub returns-then-not-is_good_copy : goal.returns-then-not-is_good_copy
 returns-then-not-is_good_copy c =
     let a = c.args in
     let bad = sym c.is_good_copy.ensures ∙ c.if-not-is_good_copy.true in
-    run_refused a.platform.now a.memory.now a.registration _ (verdict_bad a.registration c.requires bad)
+    run_refused a.platform.now a.memory.now a.registration _ _ (verdict_bad a.registration c.requires bad) c.refused.ensures
 
 pub run_structure-requires : goal.run_structure-requires
 run_structure-requires c =

@@ -1,4 +1,5 @@
 -- `registration::Registration::configure` meets its contract.
+use mathlib.Core.Path.{◌∙◌}
 use native.Mathlib.Omega.{arith}
 use Rattle.dump.specs.Registration.{verdict_of, registration_after}
 use Rattle.dump.proofs.Verdicts.{outside}
@@ -7,4 +8,4 @@ use Rattle.dump.proofs.registration.Registration.configure.Goals as goal
 pub returns-in_default : goal.returns-in_default
 unfolding verdict_of registration_after
 returns-in_default c =
-    rw (outside c.args.command (λ e. omega arith) (λ e. omega arith) (λ e. omega arith))
+    c.refused.ensures ∙ rw (outside c.args.command (λ e. omega arith) (λ e. omega arith) (λ e. omega arith))

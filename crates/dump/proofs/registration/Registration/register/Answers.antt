@@ -9,7 +9,7 @@ use Rattle.dump.proofs.registration.Registration.register.Goals as goal
 pub returns-then-not-is_acceptable : goal.returns-then-not-is_acceptable
 unfolding verdict_of registration_after
 returns-then-not-is_acceptable c =
-    rw (c.in-Unregistered.is, ← c.is_acceptable.ensures, c.if-not-is_acceptable.true)
+    c.refused-then-not-is_acceptable.ensures ∙ rw (c.in-Unregistered.is, ← c.is_acceptable.ensures, c.if-not-is_acceptable.true)
 
 pub slice_bounds-copied-end : goal.slice_bounds-copied-end
 slice_bounds-copied-end c =
@@ -28,4 +28,4 @@ unfolding verdict_of registration_after
 returns-else-not-is_acceptable c =
     let good : acceptable c.args.memory.now c.args.address c.args.len ≡ true =
     sym c.is_acceptable.ensures ∙ c.if-not-is_acceptable.false in
-    rw (registered_is _ _ _ (good) _ c.copied.ensures, c.in-Unregistered.is, good)
+    c.done.ensures ∙ rw (registered_is _ _ _ (good) _ c.copied.ensures, c.in-Unregistered.is, good)
