@@ -1,5 +1,5 @@
 -- Totals over sessions: what is claimed of totals, said of the sessions that they come from.
-use Rattle.std.specs.Prelude.{is_some, IsSome}
+use Rattle.std.specs.Prelude.{is_ok, IsOk}
 use Prim.Native.Nat.{ℕ, zero, suc, ◌+◌, ◌*◌}
 use mathlib.Core.Path.{◌≡◌, refl, sym, ap, ◌∙◌}
 use mathlib.Core.Bool.{Bool, true, false, cond, true≢false, false≢true}
@@ -56,14 +56,16 @@ by_taken true e = refl
 by_taken false e = absurd (omega (arith, e))
 
 -- what is not refused agreed, fits, and is added
-added_is : (t : Totals) (r : Report) (m : Totals) → (added_by t r m).number ≡ 0 → IsSome (added_to t m) × (((added_by t r m).totals ≡ totals_after t m) × (is_over r ≡ false))
+added_is : (t : Totals) (r : Report) (m : Totals) → (added_by t r m).number ≡ 0
+    → IsOk (added_to t m) × (((added_by t r m).totals ≡ totals_after t m) × (is_over r ≡ false))
 unfolding counts_added
-added_is t (Agreed calls) m e = (by_taken (is_some (added_to t m)) e, (refl, refl))
+added_is t (Agreed calls) m e = (by_taken (is_ok (added_to t m)) e, (refl, refl))
 added_is t (Differs call offset) m e = absurd (omega (arith, e))
 added_is t (Malformed number) m e = absurd (omega (arith, e))
 
 -- and the other way round
-added_by_lem : (t : Totals) (r : Report) (m : Totals) → is_over r ≡ false → IsSome (added_to t m) → ((added_by t r m).number ≡ 0) × ((added_by t r m).totals ≡ totals_after t m)
+added_by_lem : (t : Totals) (r : Report) (m : Totals) → is_over r ≡ false
+    → IsOk (added_to t m) → ((added_by t r m).number ≡ 0) × ((added_by t r m).totals ≡ totals_after t m)
 unfolding counts_added
 added_by_lem t (Agreed calls) m g e = (rw e, refl)
 added_by_lem t (Differs call offset) m g e = absurd (true≢false g)
@@ -83,7 +85,7 @@ added_over t (Malformed number) m o = refl
 -- a refusal keeps the totals
 kept_by : (t : Totals) (r : Report) (m : Totals) → ((added_by t r m).number ≡ 0 → ⊥) → (added_by t r m).totals ≡ t
 unfolding counts_added
-kept_by t (Agreed calls) m h = decide (is_some (added_to t m)) (λ e. absurd (h (rw e))) (λ e. totals_claims.refused_whole t m e)
+kept_by t (Agreed calls) m h = decide (is_ok (added_to t m)) (λ e. absurd (h (rw e))) (λ e. totals_claims.refused_whole t m e)
 kept_by t (Differs call offset) m h = refl
 kept_by t (Malformed number) m h = refl
 

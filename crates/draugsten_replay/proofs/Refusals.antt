@@ -1,5 +1,5 @@
 -- What adding, merging and the share come to, case by case.
-use Rattle.std.specs.Prelude.{is_some, IsNone}
+use Rattle.std.specs.Prelude.{is_ok}
 use Prim.Native.Nat.{◌*◌}
 use mathlib.Core.Path.{◌≡◌, refl, ap, ◌∙◌}
 use mathlib.Core.Bool.{true, false, cond, true≢false, false≢true}
@@ -32,8 +32,8 @@ use Rattle.draugsten_replay.specs.Claims.Month.{figure_sum, RefusalsInOrder, Add
 use Rattle.draugsten_replay.proofs.Sessions.{counts_of_lem}
 use Rattle.draugsten_replay.proofs.Months.{session_figures, figures, Going, sized, taken_all, none_refused, month_consistent, month_sums}
 
-not_taken : (t m : Totals) → length t.figures ≡ 35 → length m.figures ≡ 35 → (EachFits t m → ⊥) → IsNone (added_to t m)
-not_taken t m h k n = decide (is_some (added_to t m)) (λ e. absurd (n ((totals_claims.taken_exactly t m h k).1 e))) (λ e. e)
+not_taken : (t m : Totals) → length t.figures ≡ 35 → length m.figures ≡ 35 → (EachFits t m → ⊥) → is_ok (added_to t m) ≡ false
+not_taken t m h k n = decide (is_ok (added_to t m)) (λ e. absurd (n ((totals_claims.taken_exactly t m h k).1 e))) (λ e. e)
 
 report_told : (t : Totals) (r : Report) (m : Totals) → (added_by t r m).report ≡ flat_report_of r
 unfolding counts_added
@@ -46,7 +46,7 @@ over_16 t (Agreed calls) m o = absurd (false≢true o)
 over_16 t (Differs call offset) m o = refl
 over_16 t (Malformed number) m o = refl
 
-going_by : (t : Totals) (r : Report) (m : Totals) → is_over r ≡ false → (added_by t r m).number ≡ cond (is_some (added_to t m)) 0 17
+going_by : (t : Totals) (r : Report) (m : Totals) → is_over r ≡ false → (added_by t r m).number ≡ cond (is_ok (added_to t m)) 0 17
 unfolding counts_added
 going_by t (Agreed calls) m g = refl
 going_by t (Differs call offset) m g = absurd (true≢false g)
@@ -70,7 +70,7 @@ refusals_in_order t s h =
 -- ---- consistent
 
 added_kept : (t m : Totals) → length t.figures ≡ 35 → length m.figures ≡ 35 → consistent t ≡ true → consistent m ≡ true → consistent (totals_after t m) ≡ true
-added_kept t m h k c d = decide (is_some (added_to t m)) (λ e. consistent_claims.kept t m h k c d e) (λ e. rw (totals_claims.refused_whole t m e) c)
+added_kept t m h k c d = decide (is_ok (added_to t m)) (λ e. consistent_claims.kept t m h k c d e) (λ e. rw (totals_claims.refused_whole t m e) c)
 
 by_kept : (t : Totals) (r : Report) (m : Totals) → length t.figures ≡ 35 → length m.figures ≡ 35 → consistent t ≡ true → consistent m ≡ true → consistent (added_by t r m).totals ≡ true
 unfolding counts_added
@@ -98,7 +98,7 @@ pub merge_keeps : MergeKeeps
 unfolding merged_to
 merge_keeps t more =
     decide (consistent more)
-    (λ e. rw e (λ h. decide (is_some (added_to t more)) (λ a. absurd (h (rw a))) (λ a. totals_claims.refused_whole t more a)))
+    (λ e. rw e (λ h. decide (is_ok (added_to t more)) (λ a. absurd (h (rw a))) (λ a. totals_claims.refused_whole t more a)))
     (λ e. rw e (λ h. refl))
 
 pub merge_taken : MergeTaken

@@ -1,5 +1,5 @@
 -- A replay that counts, and totals over traces, at the C boundary (document 02, M-111).
-use Rattle.std.specs.Prelude.{ℕ, ◌≡◌, Bool, cond, ◌&&◌, List, eqb, length, get_or, is_some}
+use Rattle.std.specs.Prelude.{ℕ, ◌≡◌, Bool, cond, ◌&&◌, List, eqb, length, get_or, is_ok}
 use Rattle.records.specs.Cutting.{Standing, fed}
 use Rattle.trace.specs.declared.report.Report.{Report}
 use Rattle.trace.specs.declared.report.Report.TheVariants.{Agreed, Differs, Malformed}
@@ -61,7 +61,7 @@ pub record CountingFeeds (journal inventory held args memory : List ℕ) (f : Fl
 
 -- The counts of a trace with this report, added to totals. "a count that would pass 2^64 - 1": 17; "the counts before that trace are kept whole"
 unfoldable pub counts_added : Totals → Totals → FlatReport → FlatAdded
-counts_added t figures report = record { number = cond (is_some (added_to t figures)) 0 17; report = report; totals = totals_after t figures }
+counts_added t figures report = record { number = cond (is_ok (added_to t figures)) 0 17; report = report; totals = totals_after t figures }
 
 -- "Refusals: a malformed or differing trace, then a count that would pass 2^64 - 1": 16 with the report, before 17
 abbrev pub added_by : Totals → Report → Totals → FlatAdded
@@ -80,7 +80,7 @@ month_added t f =
 unfoldable pub merged_to : Totals → Totals → FlatMerged
 merged_to t more =
     cond (consistent more)
-    (record { number = cond (is_some (added_to t more)) 0 17; totals = totals_after t more })
+    (record { number = cond (is_ok (added_to t more)) 0 17; totals = totals_after t more })
     (record { number = 18; totals = t })
 
 -- "the share used": words used over words available, from the sums

@@ -139,12 +139,12 @@ fn add_counts(totals: Totals, counts: Counts, report: FlatReport) -> FlatAdded
     ensures { result ≡ counts_added totals (figures_of counts) report }
 {
     match totals::add(totals, figures_of(counts)) {
-        Some(sums) => FlatAdded {
+        Ok(sums) => FlatAdded {
             number: 0,
             report,
             totals: sums,
         },
-        None => FlatAdded {
+        Err(totals) => FlatAdded {
             number: 17,
             report,
             totals,
@@ -193,11 +193,11 @@ pub extern "C" fn draugsten_month_merge(totals: Totals, more: Totals) -> FlatMer
         return FlatMerged { number: 18, totals };
     }
     match totals::add(totals, more) {
-        Some(sums) => FlatMerged {
+        Ok(sums) => FlatMerged {
             number: 0,
             totals: sums,
         },
-        None => FlatMerged { number: 17, totals },
+        Err(totals) => FlatMerged { number: 17, totals },
     }
 }
 

@@ -1,5 +1,5 @@
 -- The claims about totals hold.
-use Rattle.std.specs.Prelude.{IsSome}
+use Rattle.std.specs.Prelude.{IsOk}
 use mathlib.Core.Path.{◌≡◌, refl, sym, ap, ◌∙◌}
 use mathlib.Core.Bool.{true, false≢true}
 use mathlib.Core.List.{List, [], ◌∷◌}
@@ -27,7 +27,7 @@ taken_exactly t m h s =
     (λ f. rw (added t m (fit_all (both t m) (λ i. rw (each i) (f i)))), λ e i. rw (each i) at (fit_each (both t m) i (taken t m e).0))
 
 -- totals of 35 figures keep 35
-pub sized : (t m : Totals) → length t.figures ≡ 35 → length m.figures ≡ 35 → IsSome (added_to t m) → length (totals_after t m).figures ≡ 35
+pub sized : (t m : Totals) → length t.figures ≡ 35 → length m.figures ≡ 35 → IsOk (added_to t m) → length (totals_after t m).figures ≡ 35
 sized t m h s e = rw (taken t m e).1 (length_sums t.figures m.figures (h ∙ sym s) ∙ s)
 
 sums_of_all : SumsOfAll
@@ -51,7 +51,7 @@ from_nothing ms i s f = sums_of_all no_totals ms i refl s f ∙ omega (arith, ze
 
 -- two traces, one after the other in either order
 swapped : (t a b : Totals) (ms : List Totals) → length t.figures ≡ 35 → AllSized (a ∷ b ∷ ms) → AllTaken t (a ∷ b ∷ ms) →
-    IsSome (added_to t b) × IsSome (added_to (totals_after t b) a) × (totals_after (totals_after t b) a ≡ (totals_after (totals_after t a) b))
+    IsOk (added_to t b) × IsOk (added_to (totals_after t b) a) × (totals_after (totals_after t b) a ≡ (totals_after (totals_after t a) b))
 swapped t a b ms h s f =
     let p = taken t a f.0 in
     let q = taken (totals_of (both t a)) b (rw p.1 at f.1.0) in

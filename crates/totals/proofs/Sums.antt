@@ -1,5 +1,5 @@
 -- Laws of sums: figure by figure, in either order, and one figure after the other as the code adds them.
-use Rattle.std.specs.Prelude.{Some, None}
+use Rattle.std.specs.Prelude.{Ok, Err}
 use mathlib.Core.Path.{◌≡◌, refl, sym, ap, ◌∙◌}
 use mathlib.Core.Bool.{true, false, ◌&&◌}
 use mathlib.Core.List.{List, [], ◌∷◌, ◌++◌, append-nil}
@@ -110,10 +110,10 @@ module _ (t more : Totals) where
   abbrev pub both : List ℕ
   both = sums t.figures more.figures
 
-  pub added : all_fit both ≡ true → added_to t more ≡ Some (totals_of both)
+  pub added : all_fit both ≡ true → added_to t more ≡ Ok (totals_of both)
   unfolding added_to
   added f = rw f
 
-  pub not_added : all_fit both ≡ false → added_to t more ≡ None
+  pub not_added : all_fit both ≡ false → added_to t more ≡ Err t
   unfolding added_to
   not_added f = rw f

@@ -22,14 +22,17 @@ pub fn no_totals() -> Totals
     }
 }
 
-// All figures are added, or none: None where a sum would pass 2^64 - 1. The caller's totals are then as they were.
-pub fn add(totals: Totals, more: Totals) -> Option<Totals>
+// All figures are added, or none: where a sum would pass 2^64 - 1, Err hands the totals back as they were.
+pub fn add(totals: Totals, more: Totals) -> Result<Totals, Totals>
     ensures value { result ≡ added_to totals more }
     ensures claims { TotalsClaims }
 {
     let mut sums = totals.figures;
     for i in 0..FIGURES {
-        sums[i] = sums[i].checked_add(more.figures[i])?;
+        let Some(sum) = sums[i].checked_add(more.figures[i]) else {
+            return Err(totals);
+        };
+        sums[i] = sum;
     }
-    Some(Totals { figures: sums })
+    Ok(Totals { figures: sums })
 }

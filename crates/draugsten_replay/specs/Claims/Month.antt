@@ -1,5 +1,5 @@
 -- What is claimed of the month at the C boundary, cited by the contracts of the functions of `month`.
-use Rattle.std.specs.Prelude.{ℕ, ◌+◌, ◌*◌, ◌≤◌, ◌<◌, ◌≡◌, true, false, cond, ◌&&◌, List, [], ◌∷◌, ◌++◌, eqb, length, take, drop, get_or, replicate, is_some}
+use Rattle.std.specs.Prelude.{ℕ, ◌+◌, ◌*◌, ◌≤◌, ◌<◌, ◌≡◌, true, false, cond, ◌&&◌, List, [], ◌∷◌, ◌++◌, eqb, length, take, drop, get_or, replicate, is_ok}
 use Rattle.words.specs.Numbers.{be32}
 use Rattle.calls.specs.Buffer.{input, status_at, is_nodes}
 use Rattle.counting.specs.declared.counts.Counts.{Counts}
@@ -189,7 +189,7 @@ pub record SessionsExactly : Type 0 where
       → month_added t f ≡ added_by t (end_of (report_of f.replay.report) f.replay.records (waits f.replay) f.replay.held) (figures_of f.counts)
   pub adds : (t figures : Totals) (n k : ℕ)
       → (added_by t (Agreed n) figures ≡ record {
-        number = cond (is_some (added_to t figures)) 0 17;
+        number = cond (is_ok (added_to t figures)) 0 17;
         report = record { verdict = 0; offset = 0; number = n };
         totals = totals_after t figures;
       })

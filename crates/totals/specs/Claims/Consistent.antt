@@ -1,5 +1,5 @@
 -- What is claimed of the definitions of `Consistent`.
-use Rattle.std.specs.Prelude.{ℕ, suc, ◌+◌, ◌*◌, ◌≤◌, ◌≡◌, true, List, length, get_or, IsSome}
+use Rattle.std.specs.Prelude.{ℕ, suc, ◌+◌, ◌*◌, ◌≤◌, ◌≡◌, true, List, length, get_or, IsOk}
 use Rattle.words.specs.Claims.Exactly.{Exactly}
 use Rattle.totals.specs.declared.adding.Totals.{Totals}
 use Rattle.totals.specs.Adding.{no_totals, added_to, totals_after}
@@ -12,7 +12,7 @@ ConsistentNone = consistent no_totals ≡ true
 -- Where both are so, and none is refused, their sums are so.
 abbrev pub ConsistentKept : Type 0
 ConsistentKept =
-    (t m : Totals) → length t.figures ≡ 35 → length m.figures ≡ 35 → consistent t ≡ true → consistent m ≡ true → IsSome (added_to t m)
+    (t m : Totals) → length t.figures ≡ 35 → length m.figures ≡ 35 → consistent t ≡ true → consistent m ≡ true → IsOk (added_to t m)
     → consistent (totals_after t m) ≡ true
 
 -- Each rule by itself, in the order of the figures; a sum of figures is theirs one after the other.

@@ -1,5 +1,5 @@
 -- What is claimed of totals (document 02, M-111: "Where none is refused, counts are the sums of the traces' counts in any order").
-use Rattle.std.specs.Prelude.{ℕ, zero, suc, ◌+◌, ◌≤◌, ◌≡◌, Bool, ◌&&◌, List, [], ◌∷◌, ◌++◌, T, length, get_or, set, is_some, Some, IsSome, IsNone}
+use Rattle.std.specs.Prelude.{ℕ, zero, suc, ◌+◌, ◌≤◌, ◌≡◌, Bool, false, ◌&&◌, List, [], ◌∷◌, ◌++◌, T, length, get_or, set, Ok, is_ok, IsOk}
 use Rattle.words.specs.Claims.Cases.{yes, no, agree}
 use Rattle.totals.specs.declared.adding.Totals.{Totals}
 use Rattle.totals.specs.Adding.{totals_of, no_totals, added_to, totals_after}
@@ -12,7 +12,7 @@ added_all t (m ∷ ms) = added_all (totals_after t m) ms
 -- none of them is refused
 abbrev pub AllTaken : Totals → List Totals → Type 0
 AllTaken t [] = Unit {0}
-AllTaken t (m ∷ ms) = IsSome (added_to t m) × AllTaken (totals_after t m) ms
+AllTaken t (m ∷ ms) = IsOk (added_to t m) × AllTaken (totals_after t m) ms
 
 -- each has 35 figures
 abbrev pub AllSized : List Totals → Type 0
@@ -63,7 +63,7 @@ abbrev pub TotalsJoin : Type 0
 TotalsJoin =
     (ms ns : List Totals) → AllSized ms → AllSized ns → AllTaken no_totals (ms ++ ns)
     → AllTaken no_totals ms × (AllTaken no_totals ns × (added_to (added_all no_totals ms) (added_all no_totals ns)
-    ≡ Some (added_all no_totals (ms ++ ns))))
+    ≡ Ok (added_all no_totals (ms ++ ns))))
 
 -- no sum passes 2^64 - 1
 abbrev pub EachFits : Totals → Totals → Type 0
@@ -72,11 +72,11 @@ EachFits t m = (i : ℕ) → get_or t.figures i 0 + get_or m.figures i 0 ≤ 0xf
 -- A trace is taken where no sum passes 2^64 - 1, and only there.
 abbrev pub TakenExactly : Type 0
 TakenExactly = (t m : Totals) → length t.figures ≡ 35 → length m.figures ≡ 35
-    → (EachFits t m → IsSome (added_to t m)) × (IsSome (added_to t m) → EachFits t m)
+    → (EachFits t m → IsOk (added_to t m)) × (IsOk (added_to t m) → EachFits t m)
 
 -- A refusal keeps the totals whole.
 abbrev pub RefusedWhole : Type 0
-RefusedWhole = (t m : Totals) → IsNone (added_to t m) → totals_after t m ≡ t
+RefusedWhole = (t m : Totals) → is_ok (added_to t m) ≡ false → totals_after t m ≡ t
 
 -- totals with one figure, at a place
 abbrev pub figure : ℕ → ℕ → Totals
@@ -85,7 +85,7 @@ figure i n = totals_of (set no_totals.figures i n)
 -- one figure at 2^64 - 1, and one more
 abbrev pub limit_at : ℕ → Bool
 limit_at i =
-    agree (λ (ts : Totals × Totals). is_some (added_to ts.0 ts.1))
+    agree (λ (ts : Totals × Totals). is_ok (added_to ts.0 ts.1))
     (yes (no_totals, no_totals)
     ∷ yes (figure i 18446744073709551614, figure i 1)
     ∷ no (figure i 18446744073709551615, figure i 1)

@@ -11,16 +11,16 @@ unfolding merged_to
 returns-then-not-is_consistent c =
     record { value = rw (sym c.is_consistent.ensures.value ∙ c.if-not-is_consistent.true); promise = month_promise }
 
-pub returns-in-Some : goal.returns-in-Some
+pub returns-in-Ok : goal.returns-in-Ok
 unfolding merged_to
-returns-in-Some c =
+returns-in-Ok c =
     let fine : consistent c.args.more ≡ true =
     sym c.is_consistent.ensures.value ∙ c.if-not-is_consistent.false in
-    record { value = rw (fine, sym c.add.ensures.value ∙ c.in-Some.is); promise = month_promise }
+    record { value = rw (fine, sym c.add.ensures.value ∙ c.in-Ok.is); promise = month_promise }
 
-pub returns-in-None : goal.returns-in-None
+pub returns-in-Err : goal.returns-in-Err
 unfolding merged_to
-returns-in-None c =
+returns-in-Err c =
     let fine : consistent c.args.more ≡ true =
     sym c.is_consistent.ensures.value ∙ c.if-not-is_consistent.false in
-    record { value = rw (fine, sym c.add.ensures.value ∙ c.in-None.is); promise = month_promise }
+    record { value = rw (fine, sym c.add.ensures.value ∙ c.in-Err.is); promise = month_promise }
