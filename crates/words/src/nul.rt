@@ -14,16 +14,19 @@ pub fn until_nul(bytes: &[u8]) -> usize
     ensures { result ≡ length (until_nul bytes.now) }
 {
     let mut at = 0;
-    while 6 <= bytes.len() - at {
+    let place = loop {
+        if bytes.len() - at < 6 {
+            break match first_nul(&bytes[at..]) {
+                Some(before) => at + before,
+                None => bytes.len(),
+            };
+        }
         if let Some(before) = first_nul(&bytes[at..at + 6]) {
-            return at + before;
+            break at + before;
         }
         at += 6;
-    }
-    match first_nul(&bytes[at..]) {
-        Some(before) => at + before,
-        None => bytes.len(),
-    }
+    };
+    place
 }
 
 // The length of the string of 1 to `limit` bytes that a NUL ends, if the bytes begin with one.
