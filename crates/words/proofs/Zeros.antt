@@ -1,12 +1,18 @@
 -- The test of a range for zero, one byte after the other.
-use mathlib.Core.Path.{◌≡◌, refl}
-use mathlib.Core.Bool.{true}
+use mathlib.Core.Path.{◌≡◌, refl, sym, ap, ◌∙◌}
+use mathlib.Core.Bool.{true, ◌&&◌}
 use mathlib.Core.List.{List, [], ◌∷◌}
-use Prim.Native.Nat.{ℕ, zero, suc, ◌<◌}
+use Prim.Native.Nat.{ℕ, zero, suc, ◌+◌, ◌<◌, ◌≤◌}
+use native.Mathlib.Numerals.{add-one}
 use native.Mathlib.Omega.{arith}
 use lib.Dec.{eqb}
-use lib.ListN.{length, get_or, replicate}
-use borrow.Author.Tests.{eq-eqb, eqb-true}
+use lib.ListN.{length, get_or, drop, replicate}
+use lib.Seq.{drop-cons}
+use Rattle.std.proofs.Math.ListN.{drop_of_length-le}
+use Rattle.std.proofs.Math.Bool.{and-true}
+use Rattle.std.specs.Prelude.{max}
+use Rattle.std.proofs.Math.Nat.{zero-max, le-max_left}
+use borrow.Author.Tests.{eq-eqb, ne_eqb, eqb-true}
 use Rattle.words.specs.Numbers.{zeros}
 use Rattle.std.specs.List.{list_all}
 use Rattle.std.specs.Prelude.{◌==◌}
@@ -34,3 +40,17 @@ pub zeros_listed : (l : List ℕ) → zeros l ≡ list_all (λ b. b == 0) l
 unfolding zeros
 zeros_listed [] = refl
 zeros_listed (b ∷ bs) = rw (zeros_listed bs)
+
+-- as a test of the largest byte: one that has come to a place finds there what it finds from its start
+pub zeros_largest : (largest b : ℕ) (bs : List ℕ) → (eqb (max largest b) 0 && zeros bs) ≡ (eqb largest 0 && zeros (b ∷ bs))
+unfolding zeros
+zeros_largest zero b bs = rw (zero-max b) refl
+zeros_largest (suc n) b bs = rw (ne_eqb (max (suc n) b) 0 (λ e. omega (arith, le-max_left (suc n) b)), ne_eqb (suc n) 0 (λ e. omega arith)) refl
+
+pub zeros_next : (l : List ℕ) (largest i : ℕ) → i < length l → (eqb largest 0 && zeros (drop i l)) ≡ zeros l
+    → (eqb (max largest (get_or l i 0)) 0 && zeros (drop (i + 1) l)) ≡ zeros l
+zeros_next l largest i h e = zeros_largest largest (get_or l i 0) (drop (i + 1) l) ∙ rw (add-one) (ap (λ x. eqb largest 0 && zeros x) (sym (drop-cons l i 0 h)) ∙ e)
+
+pub zeros_end : (l : List ℕ) (largest i : ℕ) → length l ≤ i → (eqb largest 0 && zeros (drop i l)) ≡ zeros l → eqb largest 0 ≡ zeros l
+unfolding zeros
+zeros_end l largest i h e = sym (and-true (eqb largest 0)) ∙ (rw (drop_of_length-le l h) at e)

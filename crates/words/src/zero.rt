@@ -2,9 +2,13 @@
 ghost use Rattle.std.specs.Prelude.{◌≡◌};
 ghost use Rattle.words.specs.Numbers.{zeros};
 
-// Whether every byte is zero.
+// Whether every byte is zero: the largest one is. No test stands in the loop, so that a step looks at sixteen bytes.
 pub fn are_zeros(bytes: &[u8]) -> bool
     ensures { result ≡ zeros bytes.now }
 {
-    bytes.iter().all(|b| *b == 0)
+    let mut largest: u8 = 0;
+    for i in 0..bytes.len() {
+        largest = largest.max(bytes[i]);
+    }
+    largest == 0
 }
