@@ -15,6 +15,8 @@ pub struct Counted {
 }
 
 // The inventory judged, and its entries of a flag and type counted; none where it is malformed. Entries are numbered from 1.
+// Out of line, so that its loop has the registers to itself: within a call it counted in memory.
+#[inline(never)]
 pub fn scan(inventory: &[u8], wanted: Wanted, number: StartingNumber) -> Option<Counted>
     ensures scan_finds { ScanFinds wanted.flag wanted.item_type number.0 inventory.now result }
     ensures rules { InventoryClaims }
