@@ -8,7 +8,7 @@ ghost use Rattle.intake.specs.Claims.Intake.{IntakeClaims};
 
 use crate::judging::JournalFront;
 use crate::sweeping::{Passed, sweep, take_stretch};
-use crate::taking::{Place, take};
+use crate::taking::{Place, is_stopped, take};
 use records::{fill, gather, ripe_at};
 use stretch::Stretch;
 use tallies::{Refusal, Tallied};
@@ -110,7 +110,7 @@ fn pass(buffer: &mut [u8], from: Passed, bytes: &[u8]) -> Passed
     let mut place = from.place;
     let mut at = from.at;
     loop {
-        if place.fault.is_some() {
+        if is_stopped(place.fault) {
             return Passed {
                 place,
                 at: bytes.len(),

@@ -5,7 +5,7 @@ ghost use Rattle.intake.specs.Bursts.{Ready};
 ghost use Rattle.intake.specs.Inner.Terms.{Holds, Begins, Takeable, TakesStretch, Sweeps};
 
 use crate::bursts::Intake;
-use crate::taking::Place;
+use crate::taking::{Place, is_stopped};
 use stretch::Stretch;
 
 // No record of a node is longer.
@@ -104,7 +104,7 @@ pub fn sweep(buffer: &mut [u8], store: &mut [u8], from: Intake, bytes: &[u8]) ->
     let place = from.place;
     let held = from.held;
     let journal = place.journal;
-    if place.fault.is_some() {
+    if is_stopped(place.fault) {
         return Swept {
             intake: from,
             at: 0,

@@ -1,5 +1,5 @@
 // One complete record of the stream: it is appended to the journal, or the intake stops at its number.
-ghost use Rattle.std.specs.Prelude.{◌≡◌};
+ghost use Rattle.std.specs.Prelude.{◌≡◌, is_some};
 ghost use Rattle.intake.specs.Taking.{taking_of, step};
 
 use tallies::{Refusal, Tallied};
@@ -13,11 +13,21 @@ pub struct Place {
     pub fault: Option<Refusal>,
 }
 
+// Whether an intake has stopped.
+pub fn is_stopped(fault: Option<Refusal>) -> bool
+    ensures { result ≡ is_some fault }
+{
+    match fault {
+        None => false,
+        Some(_) => true,
+    }
+}
+
 // A record, or the four bytes that are none. Its number goes on by one, up to 2^64 - 1, unless it is refused.
 pub fn take(buffer: &mut [u8], from: Place, bytes: &[u8]) -> Place
     ensures { taking_of buffer.new result ≡ step (taking_of buffer.old from) bytes.now }
 {
-    if from.fault.is_some() {
+    if is_stopped(from.fault) {
         return from;
     }
     match tallies::append(buffer, from.journal, bytes) {

@@ -7,9 +7,9 @@ use Rattle.intake.proofs.Completing.{completed_far}
 use Rattle.intake.proofs.Sweeps.{end_inside, sweep_none, sweep_takeable, sweep_all}
 use Rattle.intake.proofs.sweeping.sweep.Goals as goal
 
-pub returns-then-is_some : goal.returns-then-is_some
-returns-then-is_some c =
-    sweep_none c.requires _ refl refl (completed_far _ _ _ (λ some _ _. some (c.requires.quiet (sym c.is_some.ensures ∙ c.if-is_some.true))))
+pub returns-then-is_stopped : goal.returns-then-is_stopped
+returns-then-is_stopped c =
+    sweep_none c.requires _ refl refl (completed_far _ _ _ (λ some _ _. some (c.requires.quiet (sym c.is_stopped.ensures ∙ c.if-is_stopped.true))))
 
 pub can_sweep-requires : goal.can_sweep-requires
 can_sweep-requires c =
@@ -22,12 +22,12 @@ returns-then-not-can_sweep c =
 pub take_stretch-passed-requires : goal.take_stretch-passed-requires
 take_stretch-passed-requires c =
     let going : is_some c.args.from.place.fault ≡ false =
-    sym c.is_some.ensures ∙ c.if-is_some.false in
+    sym c.is_stopped.ensures ∙ c.if-is_stopped.false in
     sweep_takeable c.requires _ c.begin_stretch-first.ensures (going) (rw c.room_for.ensures at (sym c.can_sweep.ensures ∙ c.if-not-can_sweep.false))
 
 pub returns : goal.returns
 returns c =
     let going : is_some c.args.from.place.fault ≡ false =
-    sym c.is_some.ensures ∙ c.if-is_some.false in
+    sym c.is_stopped.ensures ∙ c.if-is_stopped.false in
     sweep_all c.requires _ c.begin_stretch-first.ensures (going) _ (sym c.can_sweep.ensures ∙ c.if-not-can_sweep.false)
     c.take_stretch-passed.ensures

@@ -3,14 +3,14 @@ use mathlib.Core.Path.{sym, ◌∙◌}
 use Rattle.intake.proofs.Steps.{sticky, step_done, step_refused}
 use Rattle.intake.proofs.taking.take.Goals as goal
 
-pub returns-then-is_some : goal.returns-then-is_some
-returns-then-is_some c =
-    sym (sticky _ _ (sym c.is_some.ensures ∙ c.if-is_some.true))
+pub returns-then-is_stopped : goal.returns-then-is_stopped
+returns-then-is_stopped c =
+    sym (sticky _ _ (sym c.is_stopped.ensures ∙ c.if-is_stopped.true))
 
 pub returns-in-Ok : goal.returns-in-Ok
 returns-in-Ok c =
-    step_done _ _ (sym c.is_some.ensures ∙ c.if-is_some.false) _ c.append.result c.append.ensures.result_after _ c.in-Ok.is _ c.saturating_add.ensures
+    step_done _ _ (sym c.is_stopped.ensures ∙ c.if-is_stopped.false) _ c.append.result c.append.ensures.result_after _ c.in-Ok.is _ c.saturating_add.ensures
 
 pub returns-in-Err : goal.returns-in-Err
 returns-in-Err c =
-    step_refused _ _ (sym c.is_some.ensures ∙ c.if-is_some.false) _ c.append.result c.append.ensures.result_after _ c.in-Err.is
+    step_refused _ _ (sym c.is_stopped.ensures ∙ c.if-is_stopped.false) _ c.append.result c.append.ensures.result_after _ c.in-Err.is
