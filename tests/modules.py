@@ -38,16 +38,23 @@ STAND_IN = re.compile(r'  (%r\d+) = icmp eq ptr (%a\d+), null\n'
                       r'  (%r\d+) = getelementptr i8, ptr \2, i64 \4\n'
                       r'  store ptr \5, ptr %r\d+, align 8\n')
 EXPORT = re.compile(r'define (?!internal )')
-TAKEN = re.compile(r'ptr(?: noundef)?(?: byval\(\[\d+ x i8\]\) align \d+)?$')
+TAKEN = re.compile(r'ptr noundef(?: byval\(\[\d+ x i8\]\) align \d+)?$')
+# Within a module, a reference in an Option is a tag and a pointer, which has no attribute.
+WITHIN = re.compile(rf'ptr$|{TAKEN.pattern}')
 GIVEN = re.compile(r'ptr(?: noundef)?$')
 DECLARED = re.compile(r'ptr (?:writeonly|readonly) captures\(none\)$')
-RETURNED = re.compile(r'(?:noundef )?(?:ptr|\{ i8, ptr \})$')
+RETURNED = re.compile(r'(?:noundef )?ptr$')
+RETURNED_WITHIN = re.compile(rf'\{{ i8, ptr \}}$|{RETURNED.pattern}')
+
+# What a function may take and return, by whether it is internal, and by whether it is defined here.
+FORMS = {(True, 'define'): (WITHIN, RETURNED_WITHIN), (False, 'define'): (TAKEN, RETURNED), (False, 'declare'): (DECLARED, RETURNED)}
 
 # Faults to plant: in the first line of this kind, in the place of this part, this.
 PLANTED = [
     (r'define .*@draugsten_', r'ptr noundef %', 'ptr noundef nonnull %'),
     (r'define .*@draugsten_', r'ptr noundef %', 'ptr noundef dereferenceable(1) %'),
     (r'define .*@draugsten_', r'ptr noundef %', 'ptr noundef align 8 %'),
+    (r'define .*@draugsten_', r'ptr noundef %', 'ptr %'),
     (r'define .*@draugsten_', r'noundef ptr @', 'noundef nonnull ptr @'),
     (r'define internal .*ptr', r'ptr noundef %', 'ptr noundef dereferenceable_or_null(8) %'),
     (r'define internal .*ptr', r'ptr noundef %', 'ptr nonnull %'),
@@ -76,7 +83,7 @@ def require(form, text):
 
 
 def check_call(returned, name, given):
-    require(RETURNED, returned)
+    require(RETURNED_WITHIN, returned)
     arguments = carry.parts(given)
     for argument in arguments:
         require(GIVEN, argument)
@@ -87,9 +94,10 @@ def check_call(returned, name, given):
 def check_line(line):
     function, call = FUNCTION.match(line), CALL.match(line)
     if function:
-        require(RETURNED, function[2])
-        for taken in carry.parts(function[3]):
-            require(TAKEN if function[1] == 'define' else DECLARED, taken)
+        taken, returned = FORMS[line.startswith('define internal'), function[1]]
+        require(returned, function[2])
+        for parameter in carry.parts(function[3]):
+            require(taken, parameter)
     elif call:
         check_call(*call.groups())
     elif line.startswith(('define', 'declare')) or re.match(r'(?:%\S+ = )?call\b', line):
