@@ -310,6 +310,15 @@ static void feeding(void)
                       inventory, sizeof inventory, replay, trace, trace_length);
 }
 
+/* The same byte by byte, so that each record is held before it is whole. */
+static void feeding_bytes(void)
+{
+    fed.replay = replay;
+    for (size_t i = 0; i < trace_length; i++)
+        fed = replay_feed(held, sizeof held, trace_args, sizeof trace_args, memory, sizeof memory, journal, sizeof journal,
+                          inventory, sizeof inventory, fed.replay, trace + i, 1);
+}
+
 static void ending(void)
 {
     ended = replay_end(fed.replay);
@@ -331,6 +340,14 @@ static void counting_whole(void)
 {
     counted = month_feed(held, sizeof held, trace_args, sizeof trace_args, memory, sizeof memory, journal,
                          sizeof journal, inventory, sizeof inventory, counting, trace, whole_length);
+}
+
+static void counting_bytes(void)
+{
+    counted.counting = counting;
+    for (size_t i = 0; i < whole_length; i++)
+        counted = month_feed(held, sizeof held, trace_args, sizeof trace_args, memory, sizeof memory, journal,
+                             sizeof journal, inventory, sizeof inventory, counted.counting, trace + i, 1);
 }
 
 static void adding(void)
@@ -631,10 +648,12 @@ int main(void)
     measure("draugsten_run_dump", running, DRAUGSTEN_STACK_RUN_DUMP);
     measure("draugsten_replay_start", starting_replay, DRAUGSTEN_STACK_REPLAY_START);
     measure("draugsten_replay_feed", feeding, DRAUGSTEN_STACK_REPLAY_FEED);
+    measure("draugsten_replay_feed, byte by byte", feeding_bytes, DRAUGSTEN_STACK_REPLAY_FEED);
     measure("draugsten_replay_end", ending, DRAUGSTEN_STACK_REPLAY_END);
     measure("draugsten_month_start", starting_month, DRAUGSTEN_STACK_MONTH_START);
     measure("draugsten_month_feed", counting_feed, DRAUGSTEN_STACK_MONTH_FEED);
     measure("draugsten_month_feed, to a whole record", counting_whole, DRAUGSTEN_STACK_MONTH_FEED);
+    measure("draugsten_month_feed, byte by byte", counting_bytes, DRAUGSTEN_STACK_MONTH_FEED);
     measure("draugsten_month_add", adding, DRAUGSTEN_STACK_MONTH_ADD);
     measure("draugsten_month_merge", merging, DRAUGSTEN_STACK_MONTH_MERGE);
     measure("draugsten_month_share", sharing, DRAUGSTEN_STACK_MONTH_SHARE);

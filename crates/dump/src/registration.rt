@@ -58,8 +58,7 @@ fn done(next: Registration) -> Configured
     }
 }
 
-// The bytes of a structure, and zero bytes behind them. Out of line, so that a replay's feed stays within its stack.
-#[inline(never)]
+// The bytes of a structure, and zero bytes behind them.
 fn copied(s: &[u8]) -> [u8; COPY_SIZE]
     requires { length s.now ≤ copy_size }
     ensures { result ≡ padded s.now }

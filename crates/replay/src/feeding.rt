@@ -77,9 +77,7 @@ fn count_front(counts: Counts, args: &[u8], size: usize, memory: &[u8]) -> Count
     count_call(counts, number, &args[..size], memory)
 }
 
-// The held record, if there is one: it is played once it has all that is due, else it stays held. Out of line, so that its copies take stack only
-// while it runs.
-#[inline(never)]
+// The held record, if there is one: it is played once it has all that is due, else it stays held.
 fn finish(
     held: &mut [u8],
     args: &mut [u8],
