@@ -7,7 +7,7 @@ ghost use Rattle.draugsten_tallies.specs.Flat.{flat_tallied, tallied_from, flat_
 ghost use Rattle.draugsten_tallies.specs.Promises.{TalliesPromise, JoinPromise, RecountPromise};
 
 use crate::flat::{FlatTallied, FlatTallies};
-use tallies::{Refusal, Tallied};
+use tallies::{Kept, Refusal};
 
 // What an operation answers: 0 or the number of its refusal, and the journal's use and tallies afterwards.
 #[repr(C)]
@@ -38,19 +38,13 @@ pub fn outcome_number(outcome: Option<Refusal>) -> u32
     }
 }
 
-// The answer of an operation on a journal, which a refusal hands back as it came.
-fn flat_kept(journal: FlatTallied, kept: Result<Tallied, Refusal>) -> FlatKept
-    ensures { (buffer : List ℕ) → flat_leaves result.number buffer result.journal ≡ flat_left (leaves buffer (tallied_from journal) kept) }
+// The answer of an operation on a journal.
+fn flat_kept(kept: Kept) -> FlatKept
+    ensures { (buffer : List ℕ) → flat_leaves result.number buffer result.journal ≡ flat_left (leaves buffer kept) }
 {
-    match kept {
-        Ok(next) => FlatKept {
-            number: 0,
-            journal: next.into(),
-        },
-        Err(refusal) => FlatKept {
-            number: outcome_number(Some(refusal)),
-            journal,
-        },
+    FlatKept {
+        number: outcome_number(kept.outcome),
+        journal: kept.next.into(),
     }
 }
 
@@ -64,7 +58,6 @@ pub extern "C" fn draugsten_tallies_cleared() -> FlatTallied
 }
 
 // The bytes of one record, put behind the bytes in use of the journal's buffer and counted.
-#[tactic(auto, using(crate::proofs::Promises::tallies_promise))]
 #[unsafe(no_mangle)]
 pub extern "C" fn draugsten_tallies_append(
     buffer: &mut [u8],
@@ -75,7 +68,7 @@ pub extern "C" fn draugsten_tallies_append(
         (append_of buffer.old (tallied_from journal) bytes.now) }
     ensures promise { TalliesPromise }
 {
-    flat_kept(journal, tallies::append(buffer, journal.into(), bytes))
+    flat_kept(tallies::append(buffer, journal.into(), bytes))
 }
 
 // A whole journal, put behind the bytes in use of the journal's buffer and counted.
@@ -89,7 +82,7 @@ pub extern "C" fn draugsten_tallies_join(
         (join_of buffer.old (tallied_from journal) part.now) }
     ensures promise { JoinPromise }
 {
-    flat_kept(journal, tallies::join(buffer, journal.into(), part))
+    flat_kept(tallies::join(buffer, journal.into(), part))
 }
 
 // The tallies of a journal, counted anew.

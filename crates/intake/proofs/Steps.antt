@@ -9,12 +9,13 @@ use lib.Dec.{leb}
 use lib.ListN.{length}
 use lib.Seq.{length-sets}
 use borrow.Author.Tests.{le-leb}
-use Rattle.std.specs.Prelude.{Option, Some, None, is_some, is_none, Result, Ok, Err}
+use Rattle.std.specs.Prelude.{Option, Some, None, is_some, is_none}
 use Rattle.words.proofs.Choice.{decide, and_right}
 use Rattle.records.specs.Cutting.{Sticky, run, Standing, fed, standing}
 use Rattle.journal.specs.declared.counts.Counts.{Counts}
 use Rattle.tallies.specs.declared.tallies.Tallies.{Tallies}
 use Rattle.tallies.specs.declared.keeping.Tallied.{Tallied}
+use Rattle.tallies.specs.declared.keeping.Kept.{Kept}
 use Rattle.tallies.specs.declared.keeping.Refusal.{Refusal}
 use Rattle.tallies.specs.declared.keeping.Refusal.TheVariants as refusal
 use Rattle.tallies.specs.Tallies.{recount_of, count_sum, tally_sum, counts_within, tallies_within}
@@ -42,14 +43,14 @@ module _ (s : Taking) (r : List ℕ) where
   unfolding step
   step_on e = rw e
 
-  module _ (going : is_some s.fault ≡ false) (after : List ℕ) (k : Result Tallied Refusal) (e : leaves after s.journal k ≡ append_of s.buffer s.journal r) where
-    step_left : taken_over s.number (leaves after s.journal k) ≡ step s r
+  module _ (going : is_some s.fault ≡ false) (after : List ℕ) (k : Kept) (e : leaves after k ≡ append_of s.buffer s.journal r) where
+    step_left : taken_over s.number (leaves after k) ≡ step s r
     step_left = ap (taken_over s.number) e ∙ sym (step_on going)
 
-    pub step_done : (next : Tallied) → k ≡ Ok next → (n : ℕ) → n ≡ capped (s.number + 1) → taking_of after (record { journal = next; number = n; fault = None }) ≡ step s r
-    step_done next o n m = rw m (rw o at step_left)
+    pub step_done : k.outcome ≡ None → (n : ℕ) → n ≡ capped (s.number + 1) → taking_of after (record { journal = k.next; number = n; fault = None }) ≡ step s r
+    step_done o n m = rw m (rw o at step_left)
 
-    pub step_refused : (f : Refusal) → k ≡ Err f → taking_of after (record { journal = s.journal; number = s.number; fault = Some f }) ≡ step s r
+    pub step_refused : (f : Refusal) → k.outcome ≡ Some f → taking_of after (record { journal = k.next; number = s.number; fault = Some f }) ≡ step s r
     step_refused f o = rw o at step_left
 
   -- bytes that are no record stop the intake, and where its use and tallies fit as malformed

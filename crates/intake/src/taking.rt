@@ -30,15 +30,17 @@ pub fn take(buffer: &mut [u8], from: Place, bytes: &[u8]) -> Place
     if is_stopped(from.fault) {
         return from;
     }
-    match tallies::append(buffer, from.journal, bytes) {
-        Ok(journal) => Place {
-            journal,
+    let kept = tallies::append(buffer, from.journal, bytes);
+    match kept.outcome {
+        None => Place {
+            journal: kept.next,
             number: from.number.saturating_add(1),
             fault: None,
         },
-        Err(refusal) => Place {
+        Some(refusal) => Place {
+            journal: kept.next,
+            number: from.number,
             fault: Some(refusal),
-            ..from
         },
     }
 }

@@ -1,9 +1,10 @@
 -- A journal in a lent buffer, of which a number of bytes are in use, with its tallies (document 02, M-106).
-use Rattle.std.specs.Prelude.{ℕ, ◌+◌, Bool, cond, ◌&&◌, List, leb, length, Option, Some, None, is_none, Result, Ok, Err}
+use Rattle.std.specs.Prelude.{ℕ, ◌+◌, Bool, cond, ◌&&◌, List, leb, length, Option, Some, None, is_none}
 use Rattle.std.proofs.lemmas.List.Edits.{sets}
 use Rattle.records.specs.Records.{whole, size_limit}
 use Rattle.journal.specs.Journal.{good_record, well_formed}
 use Rattle.tallies.specs.declared.keeping.Tallied.{Tallied}
+use Rattle.tallies.specs.declared.keeping.Kept.{Kept}
 use Rattle.tallies.specs.declared.keeping.Refusal.{Refusal}
 use Rattle.tallies.specs.declared.keeping.Refusal.TheVariants.{Malformed, NoRoom, Unfit}
 use Rattle.tallies.specs.Tallies.{no_tallies, recount_of, tally_sum, tallies_within}
@@ -34,10 +35,8 @@ pub record Left : Type 0 where
   pub next : Tallied
   pub outcome : Option Refusal
 
--- what the code gives, from a use with its tallies: a refusal leaves these
-abbrev pub leaves : List ℕ → Tallied → Result Tallied Refusal → Left
-leaves buffer t (Ok next) = record { buffer = buffer; next = next; outcome = None }
-leaves buffer t (Err refusal) = record { buffer = buffer; next = t; outcome = Some refusal }
+abbrev pub leaves : List ℕ → Kept → Left
+leaves buffer k = record { buffer = buffer; next = k.next; outcome = k.outcome }
 
 -- A part, good or not, behind the bytes in use; a refusal changes "neither journal nor tallies".
 unfoldable pub attached : List ℕ → Tallied → List ℕ → Bool → Left

@@ -1,5 +1,5 @@
 // A journal in a lent buffer, of which a number of bytes are in use, with its tallies beside it.
-ghost use Rattle.std.specs.Prelude.{◌≡◌, ◌+◌, ◌≤◌, IfSome, is_some};
+ghost use Rattle.std.specs.Prelude.{◌≡◌, ◌+◌, ◌≤◌, IfSome, Some, is_some};
 ghost use Rattle.tallies.specs.Keeping.{nothing, fits, has_room, leaves, attached, append_of, join_of};
 ghost use Rattle.tallies.specs.Tallies.{recount_of};
 ghost use Rattle.tallies.specs.Inner.Weighing.{Extends, extended_by};
@@ -23,6 +23,13 @@ pub enum Refusal {
     Malformed,
     NoRoom,
     Unfit,
+}
+
+// What an operation gives: the use and the tallies afterwards, and why it was refused, if it was.
+#[derive(Clone, Copy)]
+pub struct Kept {
+    pub next: Tallied,
+    pub outcome: Option<Refusal>,
 }
 
 // The use and the tallies of an empty journal: a journal starts with them, and is cleared by them. No byte of its buffer changes.
@@ -64,35 +71,45 @@ fn has_room(size: usize, used: usize, more: usize) -> bool
     more <= size - used && used + more <= records::SIZE_LIMIT
 }
 
+// A refusal hands the use and the tallies back as they came.
+fn refused(journal: Tallied, refusal: Refusal) -> Kept
+    ensures { result ≡ record { next = journal; outcome = Some refusal } }
+{
+    Kept {
+        next: journal,
+        outcome: Some(refusal),
+    }
+}
+
 // A part put behind the bytes in use, with its tallies where it was counted before and found good. A refusal changes no byte.
-fn attach(
-    buffer: &mut [u8],
-    journal: Tallied,
-    part: &[u8],
-    counted: Option<Tallies>,
-) -> Result<Tallied, Refusal>
+fn attach(buffer: &mut [u8], journal: Tallied, part: &[u8], counted: Option<Tallies>) -> Kept
     requires { IfSome counted (λ t. t ≡ recount_of part.now) }
-    ensures { leaves buffer.new journal result ≡ attached buffer.old journal part.now (is_some counted) }
+    ensures { leaves buffer.new result ≡ attached buffer.old journal part.now (is_some counted) }
 {
     if !is_fit(buffer.len(), journal) {
-        return Err(Refusal::Unfit);
+        return refused(journal, Refusal::Unfit);
     }
-    let tallies = counted.ok_or(Refusal::Malformed)?;
+    let Some(tallies) = counted else {
+        return refused(journal, Refusal::Malformed);
+    };
     let used = journal.used;
     if !has_room(buffer.len(), used, part.len()) {
-        return Err(Refusal::NoRoom);
+        return refused(journal, Refusal::NoRoom);
     }
     words::store(buffer, used, part);
-    Ok(Tallied {
-        used: used + part.len(),
-        tallies: add(journal.tallies, tallies),
-    })
+    Kept {
+        next: Tallied {
+            used: used + part.len(),
+            tallies: add(journal.tallies, tallies),
+        },
+        outcome: None,
+    }
 }
 
 // The bytes of one record, put behind the bytes in use and counted. A refusal changes no byte.
 #[tactic(auto, using(crate::proofs::Claims::tally_claims))]
-pub fn append(buffer: &mut [u8], journal: Tallied, bytes: &[u8]) -> Result<Tallied, Refusal>
-    ensures result_after { leaves buffer.new journal result ≡ append_of buffer.old journal bytes.now }
+pub fn append(buffer: &mut [u8], journal: Tallied, bytes: &[u8]) -> Kept
+    ensures result_after { leaves buffer.new result ≡ append_of buffer.old journal bytes.now }
     ensures claims { TallyClaims }
 {
     attach(buffer, journal, bytes, weigh_one(bytes))
@@ -100,8 +117,8 @@ pub fn append(buffer: &mut [u8], journal: Tallied, bytes: &[u8]) -> Result<Talli
 
 // A whole journal, put behind the bytes in use; nothing of what is in use is counted anew. A refusal changes no byte.
 #[tactic(auto, using(crate::proofs::Claims::tally_claims, crate::proofs::Joining::join_claims))]
-pub fn join(buffer: &mut [u8], journal: Tallied, part: &[u8]) -> Result<Tallied, Refusal>
-    ensures result_after { leaves buffer.new journal result ≡ join_of buffer.old journal part.now }
+pub fn join(buffer: &mut [u8], journal: Tallied, part: &[u8]) -> Kept
+    ensures result_after { leaves buffer.new result ≡ join_of buffer.old journal part.now }
     ensures claims { TallyClaims × JoinClaims }
 {
     attach(buffer, journal, part, recount(part))

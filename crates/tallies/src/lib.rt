@@ -6,5 +6,5 @@ mod keeping;
 mod tallies;
 
 pub use counting::recount;
-pub use keeping::{Refusal, Tallied, append, cleared, extended, is_fit, join};
+pub use keeping::{Kept, Refusal, Tallied, append, cleared, extended, is_fit, join};
 pub use tallies::Tallies;

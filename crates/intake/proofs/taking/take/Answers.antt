@@ -7,10 +7,10 @@ pub returns-then-is_stopped : goal.returns-then-is_stopped
 returns-then-is_stopped c =
     sym (sticky _ _ (sym c.is_stopped.ensures ∙ c.if-is_stopped.true))
 
-pub returns-in-Ok : goal.returns-in-Ok
-returns-in-Ok c =
-    step_done _ _ (sym c.is_stopped.ensures ∙ c.if-is_stopped.false) _ c.append.result c.append.ensures.result_after _ c.in-Ok.is _ c.saturating_add.ensures
+pub returns-in-None : goal.returns-in-None
+returns-in-None c =
+    step_done _ _ (sym c.is_stopped.ensures ∙ c.if-is_stopped.false) _ c.append-kept.result c.append-kept.ensures.result_after c.in-None.is _ c.saturating_add.ensures
 
-pub returns-in-Err : goal.returns-in-Err
-returns-in-Err c =
-    step_refused _ _ (sym c.is_stopped.ensures ∙ c.if-is_stopped.false) _ c.append.result c.append.ensures.result_after _ c.in-Err.is
+pub returns-in-Some : goal.returns-in-Some
+returns-in-Some c =
+    step_refused _ _ (sym c.is_stopped.ensures ∙ c.if-is_stopped.false) _ c.append-kept.result c.append-kept.ensures.result_after _ c.in-Some.is

@@ -8,11 +8,11 @@ use lib.Dec.{leb}
 use lib.ListN.{length}
 use lib.Seq.{sets}
 use borrow.Author.Tests.{leb-true}
-use Rattle.std.specs.Prelude.{Option, Some, None, is_some, Ok, Err, ok_or}
-use Rattle.std.proofs.lemmas.Result.{err_from_is_err_and}
+use Rattle.std.specs.Prelude.{Some, None, is_some}
 use Rattle.words.proofs.Choice.{and_left, and_right}
 use Rattle.tallies.specs.declared.tallies.Tallies.{Tallies}
 use Rattle.tallies.specs.declared.keeping.Tallied.{Tallied}
+use Rattle.tallies.specs.declared.keeping.Kept.{Kept}
 use Rattle.tallies.specs.declared.keeping.Refusal.{Refusal}
 use Rattle.tallies.specs.declared.keeping.Refusal.TheVariants.{Malformed, NoRoom, Unfit}
 use Rattle.tallies.specs.Tallies.{recount_of, tally_sum, tallies_within}
@@ -23,13 +23,13 @@ use Rattle.tallies.proofs.keeping.attach.Goals as goal
 
 module _ (buffer : List ℕ) (t : Tallied) (part : List ℕ) (good : Bool) where
   -- by a refusal
-  refusal : (o : Refusal) → outcome_of (length buffer) t (length part) good ≡ Some o → leaves buffer t (Err o) ≡ attached buffer t part good
+  refusal : (o : Refusal) (k : Kept) → outcome_of (length buffer) t (length part) good ≡ Some o → k ≡ record { next = t; outcome = Some o } → leaves buffer k ≡ attached buffer t part good
   unfolding attached
-  refusal o e = rw e
+  refusal o k e p = rw (e, p)
 
   -- by a part that is put
   growth : (b : List ℕ) (s : Tallies) → outcome_of (length buffer) t (length part) good ≡ None → b ≡ sets buffer t.used part → s ≡ tally_sum t.tallies (recount_of part)
-      → leaves b t (Ok (record { used = t.used + length part; tallies = s })) ≡ attached buffer t part good
+      → leaves b (record { next = record { used = t.used + length part; tallies = s }; outcome = None }) ≡ attached buffer t part good
   unfolding attached
   growth b s e p q = rw (e, p, q)
 
@@ -37,31 +37,20 @@ within : (size : ℕ) (t : Tallied) → fits size t ≡ true → (t.used ≤ siz
 unfolding fits
 within size t e = (leb-true _ _ (and_left _ _ e), and_right (leb t.used size) _ e)
 
--- a part that was not counted, and one that was
-uncounted : (counted : Option Tallies) (e : Refusal) → ok_or counted Malformed ≡ Err e → (is_some counted ≡ false) × (e ≡ Malformed)
-uncounted None e p = (refl, cc)
-uncounted (Some x) e p = cc
-
-counted_is : (counted : Option Tallies) (x : Tallies) → ok_or counted Malformed ≡ Ok x → counted ≡ Some x
-counted_is None x p = cc
-counted_is (Some y) x p = cc
-
 pub returns-then-not-is_fit : goal.returns-then-not-is_fit
 unfolding outcome_of
 returns-then-not-is_fit c =
     let a = c.args in
     let unfit = sym c.is_fit.ensures ∙ c.if-not-is_fit.true in
-    refusal a.buffer.now a.journal a.part.now (is_some a.counted) Unfit (rw unfit)
+    refusal a.buffer.now a.journal a.part.now (is_some a.counted) Unfit _ (rw unfit) c.refused.ensures
 
-pub returns-in_err-tallies : goal.returns-in_err-tallies
+pub returns-in_default : goal.returns-in_default
 unfolding outcome_of
-returns-in_err-tallies c =
+returns-in_default c =
     let a = c.args in
     let fit_here : fits (length a.buffer.now) a.journal ≡ true =
     sym c.is_fit.ensures ∙ c.if-not-is_fit.false in
-    let p = err_from_is_err_and c.from_residual.result c.from_residual.ensures.1 in
-    let bad = uncounted a.counted _ (sym c.ok_or.ensures.value ∙ c.in_err-tallies.was) in
-    rw (p.1, p.2, bad.1) (refusal a.buffer.now a.journal a.part.now (is_some a.counted) Malformed (rw (fit_here, bad.0)))
+    refusal a.buffer.now a.journal a.part.now (is_some a.counted) Malformed _ (rw (fit_here, c.in_default.is)) c.refused-in_default.ensures
 
 pub has_room-requires : goal.has_room-requires
 has_room-requires c =
@@ -75,10 +64,9 @@ returns-then-not-has_room c =
     let a = c.args in
     let fit_here : fits (length a.buffer.now) a.journal ≡ true =
     sym c.is_fit.ensures ∙ c.if-not-is_fit.false in
-    let counted_here : a.counted ≡ Some c.in_ok-tallies.tallies =
-    counted_is a.counted _ (sym c.ok_or.ensures.value ∙ c.in_ok-tallies.was) in
+    let counted_here : a.counted ≡ Some c.in-Some.tallies = c.in-Some.is in
     let full = sym c.has_room.ensures ∙ c.if-not-has_room.true in
-    refusal a.buffer.now a.journal a.part.now (is_some a.counted) NoRoom (rw (fit_here, counted_here, full))
+    refusal a.buffer.now a.journal a.part.now (is_some a.counted) NoRoom _ (rw (fit_here, counted_here, full)) c.refused-then-not-has_room.ensures
 
 pub store-requires : goal.store-requires
 store-requires c =
@@ -97,9 +85,8 @@ add-requires c =
     let a = c.args in
     let fit_here : fits (length a.buffer.now) a.journal ≡ true =
     sym c.is_fit.ensures ∙ c.if-not-is_fit.false in
-    let counted_here : a.counted ≡ Some c.in_ok-tallies.tallies =
-    counted_is a.counted _ (sym c.ok_or.ensures.value ∙ c.in_ok-tallies.was) in
-    let told : c.in_ok-tallies.tallies ≡ recount_of a.part.now = rw counted_here at c.requires in
+    let counted_here : a.counted ≡ Some c.in-Some.tallies = c.in-Some.is in
+    let told : c.in-Some.tallies ≡ recount_of a.part.now = rw counted_here at c.requires in
     let room_here : has_room (length a.buffer.now) a.journal.used (length a.part.now) ≡ true =
     sym c.has_room.ensures ∙ c.if-not-has_room.false in
     let few = tallies_few a.journal.used a.journal.tallies (within _ _ (fit_here)).1 in
@@ -111,9 +98,8 @@ returns c =
     let a = c.args in
     let fit_here : fits (length a.buffer.now) a.journal ≡ true =
     sym c.is_fit.ensures ∙ c.if-not-is_fit.false in
-    let counted_here : a.counted ≡ Some c.in_ok-tallies.tallies =
-    counted_is a.counted _ (sym c.ok_or.ensures.value ∙ c.in_ok-tallies.was) in
-    let told : c.in_ok-tallies.tallies ≡ recount_of a.part.now = rw counted_here at c.requires in
+    let counted_here : a.counted ≡ Some c.in-Some.tallies = c.in-Some.is in
+    let told : c.in-Some.tallies ≡ recount_of a.part.now = rw counted_here at c.requires in
     let room_here : has_room (length a.buffer.now) a.journal.used (length a.part.now) ≡ true =
     sym c.has_room.ensures ∙ c.if-not-has_room.false in
     growth a.buffer.now a.journal a.part.now (is_some a.counted) _ _ (rw (fit_here, counted_here, room_here))
